@@ -1,0 +1,16 @@
+pub mod Bytes
+pub mod Characters
+pub mod Document
+pub mod Grammar
+pub mod Read
+pub mod Parser
+pub mod Sound
+pub mod Facts
+pub mod Tokens
+pub mod Complete
+pub mod Theorems
+pub mod Tidy
+pub mod Words
+pub mod Unfuelled
+pub mod Look
+pub mod Examples

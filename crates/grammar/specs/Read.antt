@@ -1,0 +1,224 @@
+-- A reader of lists of bytes: it fails, or has read a value off the front and left a rest. Nothing here knows of markup.
+use mathlib.Core.Path.{_≡_, refl, ap, sym, _∙_}
+use mathlib.Core.List.{List, [], _∷_, _++_, append-assoc}
+use lib.ListN.{length, length-append, take}
+use lib.Seq.{take-append-seam}
+use native.Mathlib.Omega.{arith}
+use Rattle.grammar.specs.Bytes.{_⊹_, Each, no-byte, a-byte, Sequence, no-more, one-more}
+use Prim.Native.Nat.{ℕ, zero, suc, _+_, _-_, _≤_, _<_}
+use mathlib.Core.Bool.{Bool, true, false, _&&_, _||_, not}
+use lib.Dec.{eqb}
+use borrow.Author.Tests.{eqb-true, eq-eqb, not-true}
+
+pub data Read (A : Type 0) : Type 0 where
+  fail : Read A
+  got : A → List ℕ → Read A
+
+abbrev pub Reader : Type 0 → Type 0
+Reader A = List ℕ → Read A
+
+unfoldable pub bind : {A B : Type 0} → Read A → (A → List ℕ → Read B) → Read B
+bind fail f = fail
+bind (got a r) f = f a r
+
+infixl 20 _>>=_ _>>_
+abbrev pub _>>=_ : {A B : Type 0} → Reader A → (A → Reader B) → Reader B
+_>>=_ p f = λ s. bind (p s) f
+
+abbrev pub _>>_ : {A B : Type 0} → Reader A → Reader B → Reader B
+_>>_ p q = λ s. bind (p s) (λ _ r. q r)
+
+abbrev pub pure : {A : Type 0} → A → Reader A
+pure a = λ s. got a s
+
+-- what a result is held to: nothing where it failed
+pub data Ok {A : Type 0} (P : A → List ℕ → Type 0) : Read A → Type 0 where
+  failed : Ok P fail
+  good : {a : A} {r : List ℕ} → P a r → Ok P (got a r)
+
+pub bind-ok : {A B : Type 0} {Q : A → List ℕ → Type 0} {P : B → List ℕ → Type 0} {m : Read A} {f : A → List ℕ → Read B}
+    → Ok Q m → ((a : A) (r : List ℕ) → Q a r → Ok P (f a r)) → Ok P (bind m f)
+unfolding bind
+bind-ok failed k = failed
+bind-ok (good {a} {r} h) k = k a r h
+
+-- what holds of a result that is there
+pub ok-got : {A : Type 0} {P : A → List ℕ → Type 0} {a : A} {r : List ℕ} → Ok P (got a r) → P a r
+ok-got (good h) = h
+
+pub ok-map : {A : Type 0} {P Q : A → List ℕ → Type 0} {m : Read A} → Ok P m → ((a : A) (r : List ℕ) → P a r → Q a r) → Ok Q m
+ok-map failed k = failed
+ok-map (good {a} {r} h) k = good (k a r h)
+
+-- `a` is written by some bytes that stand in front of `r` in `s`
+abbrev pub Takes : {A : Type 0} → (A → List ℕ → Type 0) → List ℕ → A → List ℕ → Type 0
+Takes P s a r = (w : List ℕ) × (s ≡ w ++ r) × P a w
+
+-- nothing, if a test holds
+unfoldable pub test : Bool → Reader (Unit {0})
+test true s = got tt s
+test false s = fail
+
+pub test-complete : {t : Bool} → t ≡ true → (r : List ℕ) → test t r ≡ got tt r
+unfolding test
+test-complete e r = rw (e, test)
+
+pub test-sound : (t : Bool) (s : List ℕ) → Ok (λ _ r. (t ≡ true) × (s ≡ r)) (test t s)
+unfolding test
+test-sound true s = good (refl, refl)
+test-sound false s = failed
+
+-- the bytes `k`, and nothing else
+unfoldable pub mark : List ℕ → Reader (Unit {0})
+mark [] s = got tt s
+mark (a ∷ k) [] = fail
+mark (a ∷ k) (b ∷ s) = bind (test (eqb b a) s) (λ _ r. mark k r)
+
+pub mark-complete : (k r : List ℕ) → mark k (k ++ r) ≡ got tt r
+unfolding mark bind
+mark-complete [] r = refl
+mark-complete (a ∷ k) r = rw (test-complete (eq-eqb a a refl) (k ++ r), bind) (mark-complete k r)
+
+pub mark-sound : (k s : List ℕ) → Ok (λ _ r. s ≡ k ++ r) (mark k s)
+unfolding mark
+mark-sound [] s = good refl
+mark-sound (a ∷ k) [] = failed
+mark-sound (a ∷ k) (b ∷ s) =
+    bind-ok (test-sound (eqb b a) s) λ _ r h.
+    ok-map (mark-sound k r) λ _ r₁ e. let same = eqb-true b a (h .0) in let at = h .1 in cc
+
+pub mark-other : (a b : ℕ) (k s : List ℕ) → eqb b a ≡ false → mark (a ∷ k) (b ∷ s) ≡ fail
+unfolding mark bind test
+mark-other a b k s e = rw (e, test)
+
+-- a byte that passes
+unfoldable pub byte : (ℕ → Bool) → Reader ℕ
+byte p [] = fail
+byte p (a ∷ s) = bind (test (p a) s) (λ _ r. got a r)
+
+pub byte-sound : (p : ℕ → Bool) (s : List ℕ) → Ok (λ a r. (s ≡ a ∷ r) × (p a ≡ true)) (byte p s)
+unfolding byte
+byte-sound p [] = failed
+byte-sound p (a ∷ s) = bind-ok (test-sound (p a) s) λ _ r h. good (ap (λ l. a ∷ l) (h .1), h .0)
+
+pub byte-complete : (p : ℕ → Bool) (a : ℕ) → p a ≡ true → (r : List ℕ) → byte p (a ∷ r) ≡ got a r
+unfolding byte bind
+byte-complete p a e r = rw (test-complete e r)
+
+pub byte-other : (p : ℕ → Bool) (a : ℕ) → p a ≡ false → (r : List ℕ) → byte p (a ∷ r) ≡ fail
+unfolding byte bind test
+byte-other p a e r = rw (e, test)
+
+-- the longest front whose bytes all pass
+unfoldable pub span : (ℕ → Bool) → Reader (List ℕ)
+span p [] = got [] []
+span p (a ∷ s) = elim (p a) [ true ↦ bind (span p s) (λ w r. got (a ∷ w) r) | false ↦ got [] (a ∷ s) ]
+
+-- a text that no such byte begins
+unfoldable pub stops : (ℕ → Bool) → List ℕ → Bool
+stops p [] = true
+stops p (a ∷ s) = not (p a)
+
+pub span-sound : (p : ℕ → Bool) (s : List ℕ) → Ok (λ w r. (s ≡ w ++ r) × Each p w) (span p s)
+unfolding span
+span-sound p [] = good (refl, no-byte)
+span-sound p (a ∷ s) = go (p a) refl (span-sound p s)
+  where
+    go : (t : Bool) → p a ≡ t → Ok (λ w r. (s ≡ w ++ r) × Each p w) (span p s) → Ok (λ w r. (a ∷ s ≡ w ++ r) × Each p w) (elim t as (λ _. Read (List ℕ)) [ true ↦ bind (span p s) (λ w r. got (a ∷ w) r) | false ↦ got [] (a ∷ s) ])
+    go true e ih = bind-ok ih λ w r h. good (ap (λ l. a ∷ l) (h .0), a-byte e (h .1))
+    go false e ih = good (refl, no-byte)
+
+pub span-complete : (p : ℕ → Bool) {w : List ℕ} → Each p w → (r : List ℕ) → stops p r ≡ true → span p (w ++ r) ≡ got w r
+unfolding span stops bind
+span-complete p no-byte [] e = refl
+span-complete p no-byte (a ∷ r) e = rw (not-true (p a) e, span)
+span-complete p (a-byte h k) r e = rw (h, span-complete p k r e)
+
+-- the first of two that does not fail
+unfoldable pub alt : {A : Type 0} → Read A → Read A → Read A
+alt fail n = n
+alt (got a r) n = got a r
+
+pub alt-ok : {A : Type 0} {P : A → List ℕ → Type 0} {m n : Read A} → Ok P m → Ok P n → Ok P (alt m n)
+unfolding alt
+alt-ok failed k = k
+alt-ok (good h) k = good h
+
+-- things in a row, up to a text at which `stop` says so; so many at most
+unfoldable pub many-step : {A : Type 0} → Bool → Reader A → Reader (List A) → Reader (List A)
+many-step true p more s = got [] s
+many-step false p more s = bind (p s) (λ a r. bind (more r) (λ l r₁. got (a ∷ l) r₁))
+
+unfoldable pub many : {A : Type 0} → (List ℕ → Bool) → Reader A → ℕ → Reader (List A)
+many stop p zero s = fail
+many stop p (suc n) s = many-step (stop s) p (many stop p n) s
+
+pub many-suc : {A : Type 0} (stop : List ℕ → Bool) (p : Reader A) (n : ℕ) (s : List ℕ) → many stop p (suc n) s ≡ many-step (stop s) p (many stop p n) s
+unfolding many
+many-suc stop p n s = refl
+
+unfoldable pub all-of : {A : Type 0} → (List ℕ → Bool) → Reader A → Reader (List A)
+all-of stop p s = many stop p (suc (length s)) s
+
+module _ {A : Type 0} {P : A → List ℕ → Type 0} {p : Reader A} (sound : (s : List ℕ) → Ok (Takes P s) (p s)) (stop : List ℕ → Bool) where
+  step-sound : (more : Reader (List A)) → ((s : List ℕ) → Ok (Takes (Sequence P) s) (more s)) → (t : Bool) (s : List ℕ) → Ok (Takes (Sequence P) s) (many-step t p more s)
+  unfolding many-step
+  step-sound more ih true s = good ([], refl, no-more)
+  step-sound more ih false s =
+      bind-ok (sound s) λ a r₁ h₁.
+      bind-ok (ih r₁) λ l r₂ h₂. good (_, simp append-assoc (cc), one-more (h₁ .2) (h₂ .2))
+
+  many-sound : (n : ℕ) (s : List ℕ) → Ok (Takes (Sequence P) s) (many stop p n s)
+  unfolding many
+  many-sound zero s = failed
+  many-sound (suc n) s = step-sound (many stop p n) (many-sound n) (stop s) s
+
+  pub all-of-sound : (s : List ℕ) → Ok (Takes (Sequence P) s) (all-of stop p s)
+  unfolding all-of
+  all-of-sound s = many-sound (suc (length s)) s
+
+-- what a reader has to do for each thing in a row
+pub record Item {A : Type 0} (P : A → List ℕ → Type 0) (stop : List ℕ → Bool) (p : Reader A) : Type 0 where
+  pub reads : {a : A} {w : List ℕ} → P a w → (r : List ℕ) → p (w ++ r) ≡ got a r
+  pub goes : {a : A} {w : List ℕ} → P a w → (r : List ℕ) → stop (w ++ r) ≡ false
+  pub long : {a : A} {w : List ℕ} → P a w → 0 < length w
+
+pub with-fuel : (P : ℕ → Type 0) (k n : ℕ) → k < n → ((m : ℕ) → k ≤ m → P (suc m)) → P n
+with-fuel P k zero h f = absurd (omega arith)
+with-fuel P k (suc n) h f = f n (omega arith)
+
+module _ {A : Type 0} {P : A → List ℕ → Type 0} {stop : List ℕ → Bool} {p : Reader A} (item : Item P stop p) where
+  many-complete : {l : List A} {w : List ℕ} → Sequence P l w → (n : ℕ) → length w < n → (r : List ℕ) → stop r ≡ true → many stop p n (w ++ r) ≡ got l r
+  unfolding many-step bind
+  many-complete no-more n h r e = with-fuel (λ n. many stop p n r ≡ got [] r) 0 n h λ m hm. rw (many-suc, e)
+  many-complete (one-more {a} {l} {w} {s} k t) n h r e =
+      with-fuel (λ n. many stop p n ((w ++ s) ++ r) ≡ got (a ∷ l) r) (length (w ++ s)) n h λ m hm.
+      let fits : length s < m = omega (arith, item .long k, length-append w s) in
+      rw (append-assoc w s, many-suc, item .goes k (s ++ r), item .reads k (s ++ r), many-complete t m fits r e)
+
+  pub all-of-complete : {l : List A} {w : List ℕ} → Sequence P l w → (r : List ℕ) → stop r ≡ true → all-of stop p (w ++ r) ≡ got l r
+  unfolding all-of
+  all-of-complete {w = w} t r e = many-complete t (suc (length (w ++ r))) (omega (arith, length-append w r)) r e
+
+-- what is read, and the bytes that it was read from
+unfoldable pub before : List ℕ → List ℕ → List ℕ
+before s r = take (length s - length r) s
+
+before-append : (w r : List ℕ) → before (w ++ r) r ≡ w
+unfolding before
+before-append w r =
+    let n : length (w ++ r) - length r ≡ length w = omega (arith, length-append w r) in
+    rw (n, take-append-seam)
+
+unfoldable pub seen : {A : Type 0} → Reader A → Reader (A × List ℕ)
+seen p s = bind (p s) (λ a r. got (a, before s r) r)
+
+pub seen-sound : {A : Type 0} {P : A → List ℕ → Type 0} (p : Reader A) (s : List ℕ) → Ok (Takes P s) (p s) → Ok (λ x r. (s ≡ x .1 ++ r) × P (x .0) (x .1)) (seen p s)
+unfolding seen
+seen-sound p s h = bind-ok h λ a r k.
+    let here : before s r ≡ k .0 = rw (k .1) (before-append (k .0) r) in
+    good (rw here (k .1, k .2))
+
+pub seen-complete : {A : Type 0} (p : Reader A) (a : A) (w r : List ℕ) → p (w ++ r) ≡ got a r → seen p (w ++ r) ≡ got (a, w) r
+unfolding seen bind
+seen-complete p a w r e = rw (e, before-append)
