@@ -8,9 +8,16 @@ pub mod Sound
 pub mod Facts
 pub mod Tokens
 pub mod Complete
+pub mod Classes
+pub mod Erased
 pub mod Theorems
 pub mod Tidy
+pub mod TidyDocuments
 pub mod Words
 pub mod Unfuelled
 pub mod Look
 pub mod Examples
+pub mod ExamplesTags
+pub mod ExamplesText
+pub mod ExamplesUtf8
+pub mod Plain

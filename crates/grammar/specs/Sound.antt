@@ -129,7 +129,7 @@ attribute-sound s =
     bind-ok (value-sound r₃) λ v r₄ h₄.
     good (_, simp append-assoc (cc), Grammar.written (h₁ .1) (h₂ .1) (h₃ .2) (h₄ .2))
 
-same-refl : (n : List ℕ) → same n n ≡ true
+pub same-refl : (n : List ℕ) → same n n ≡ true
 unfolding same
 same-refl [] = refl
 same-refl (a ∷ n) = rw (eq-eqb a a refl) (same-refl n)

@@ -99,7 +99,7 @@ literal-other : (p : ℕ → Bool) (a : ℕ) → p a ≡ false → (s : List ℕ
 unfolding literal-at bind
 literal-other p a e s = rw (byte-other p a e s)
 
-reference-complete : {b w : List ℕ} → Reference b w → (r : List ℕ) → reference-at (w ++ r) ≡ got b r
+pub reference-complete : {b w : List ℕ} → Reference b w → (r : List ℕ) → reference-at (w ++ r) ≡ got b r
 unfolding reference-at said alt mark test bind
 reference-complete Grammar.amp r = refl
 reference-complete Grammar.lt r = refl
@@ -107,7 +107,7 @@ reference-complete Grammar.gt r = refl
 reference-complete Grammar.quot r = refl
 reference-complete Grammar.apos r = refl
 
-reference-other : (a : ℕ) → eqb a 38 ≡ false → (s : List ℕ) → reference-at (a ∷ s) ≡ fail
+pub reference-other : (a : ℕ) → eqb a 38 ≡ false → (s : List ℕ) → reference-at (a ∷ s) ≡ fail
 unfolding reference-at said alt bind
 reference-other a e s =
     rw (mark-other 38 a (ascii "amp;") s e, mark-other 38 a (ascii "lt;") s e, mark-other 38 a (ascii "gt;") s e, mark-other 38 a (ascii "quot;") s e, mark-other 38 a (ascii "apos;") s e)
@@ -119,10 +119,10 @@ text-complete (TextCharacter.literal {a} {w} h e) r =
 text-complete (TextCharacter.reference k) r = rw (reference-complete k r)
 
 -- a reference begins with `&`
-data Ampersand : List ℕ → Type 0 where
+pub data Ampersand : List ℕ → Type 0 where
   ampersand : (w : List ℕ) → Ampersand (38 ∷ w)
 
-reference-ampersand : {b w : List ℕ} → Reference b w → Ampersand w
+pub reference-ampersand : {b w : List ℕ} → Reference b w → Ampersand w
 reference-ampersand Grammar.amp = ampersand _
 reference-ampersand Grammar.lt = ampersand _
 reference-ampersand Grammar.gt = ampersand _
@@ -216,7 +216,7 @@ attribute-long (Grammar.written {u} {n} {e} {v} {w} h₁ h₂ h₃ h₄) = simp 
 attribute-item : Item WritesAttribute (ends closing) attribute-at
 attribute-item = record { reads = λ k r. attribute-reads k r; goes = λ k r. attribute-goes k r; long = λ k. attribute-long k }
 
-same-equal : (n m : List ℕ) → same n m ≡ true → n ≡ m
+pub same-equal : (n m : List ℕ) → same n m ≡ true → n ≡ m
 unfolding same
 same-equal [] [] e = refl
 same-equal [] (b ∷ m) e = cc

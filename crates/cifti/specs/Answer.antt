@@ -1,0 +1,102 @@
+-- THE ANSWER, THE TABLE OF RECORDS, AND THE PROMISE OF THE READER.
+use mathlib.Core.Path.{_≡_}
+use mathlib.Core.List.{List, [], _∷_, _++_}
+use mathlib.Core.Option.{Option, some}
+use mathlib.Core.Option
+use mathlib.Core.Bool.{cond}
+use Prim.Native.Nat.{ℕ, zero, suc, _+_, _-_}
+use lib.Dec.{eqb}
+use lib.IntN.{pos}
+use lib.ListN.{length, getD, drop, replicate}
+use Rattle.lists.specs.Lists.{any, each, eachIn, table}
+use Rattle.grammar.specs.Document.{Element}
+use Rattle.numbers.specs.Numbers as Numbers
+use Rattle.records.specs.Record.{recordOf}
+use Rattle.cifti.specs.Maps.{Model, Content, Map, mapsOf, models, brainMaps, lengthOf, lengthBy, covers, locations}
+use Rattle.cifti.specs.Conditions.{refusal}
+use Rattle.cifti.specs.Text.{DocumentOf}
+use Rattle.cifti.specs.declared.answer.Kind.the-variants.{None, Brain, Series, Scalars}
+use Rattle.cifti.specs.declared.answer.Decimal.{Decimal}
+use Rattle.cifti.specs.declared.answer.Series as S
+use Rattle.cifti.specs.declared.answer.Dimension.{Dimension}
+use Rattle.cifti.specs.declared.answer.Answer.{Answer}
+
+-- ---- The records: each brain map fills one stretch, stretches in text order of maps, index n of the map at its n-th place.
+
+-- the record of index n: in the list of the model whose range the index is in, at the index less the model's offset
+unfoldable pub recordAt : List Model → ℕ → ℕ
+recordAt [] n = 0
+recordAt (m ∷ l) n = cond (covers n m) (getD (each recordOf (locations m)) (n - m .offset) 0) (recordAt l n)
+
+unfoldable pub stretch : Map → List ℕ
+stretch m = table (lengthOf m) (recordAt (models m))
+
+unfoldable pub stretches : List Map → List ℕ
+stretches l = eachIn stretch (brainMaps l)
+
+-- places past the last stretch stay unchanged
+unfoldable pub filledWith : (new old : List ℕ) → List ℕ
+filledWith new old = new ++ drop (length new) old
+
+-- ---- The answer: number 0, and per dimension kind, length, stretch start, and for series start, step, exponent and unit. What does not apply is 0.
+
+unfoldable pub asDecimal : Numbers.Decimal → Decimal
+asDecimal d = record { amount = d .amount; places = d .places }
+
+abbrev pub noSeries : S.Series
+noSeries = record { start = record { amount = pos 0; places = 0 }; step = record { amount = pos 0; places = 0 }; exponent = pos 0; unit = 0 }
+
+abbrev pub unused : Dimension
+unused = record { kind = None; length = 0; start = record { 0 = 0 }; series = noSeries }
+
+-- what the answer says of a map whose stretch begins at `at`, if it has one
+unfoldable pub described : (at : ℕ) → Content → Dimension
+described at (Content.brain v l) = record { kind = Brain; length = lengthBy (Content.brain v l); start = record { 0 = at }; series = noSeries }
+described at (Content.series n a b x u) = record { kind = Series; length = n; start = record { 0 = 0 }; series = record { start = asDecimal a; step = asDecimal b; exponent = x; unit = u } }
+described at (Content.scalars n) = record { kind = Scalars; length = n; start = record { 0 = 0 }; series = noSeries }
+
+-- how many places a map's stretch takes
+unfoldable pub reach : Content → ℕ
+reach (Content.brain v l) = lengthBy (Content.brain v l)
+reach (Content.series n a b x u) = 0
+reach (Content.scalars n) = 0
+
+-- dimension d: the map that lists it
+unfoldable pub dimensionAt : (at : ℕ) → List Map → (d : ℕ) → Dimension
+dimensionAt at [] d = unused
+dimensionAt at (m ∷ l) d = cond (any (eqb d) (m .dimensions)) (described at (m .content)) (dimensionAt (at + reach (m .content)) l d)
+
+unfoldable pub acceptedWith : List Map → Answer
+acceptedWith l = record { number = 0; dimensions = dimensionAt 0 l 0 ∷ dimensionAt 0 l 1 ∷ dimensionAt 0 l 2 ∷ [] }
+
+-- A refused answer is zero but for its number.
+abbrev pub refusedWith : (number : ℕ) → Answer
+refusedWith n = record { number = n; dimensions = unused ∷ unused ∷ unused ∷ [] }
+
+-- ---- What comes of a number of refusal (0: none) and the document: the answer, and the records after. Refused, they keep their contents.
+
+-- (without a document there is a refusal)
+unfoldable pub mapsIn : Option Element → List Map
+mapsIn Option.none = []
+mapsIn (some e) = mapsOf e
+
+unfoldable pub answerBy : (number : ℕ) → Option Element → Answer
+answerBy zero d = acceptedWith (mapsIn d)
+answerBy (suc n) d = refusedWith (suc n)
+
+unfoldable pub recordsBy : (number : ℕ) → Option Element → (records : List ℕ) → List ℕ
+recordsBy zero d records = filledWith (stretches (mapsIn d)) records
+recordsBy (suc n) d records = records
+
+-- ---- THE PROMISE: text, lengths, records and work space lent; the answer; records and work space after.
+
+pub record Reads (text lengths records work : List ℕ) (answer : Answer) (recordsAfter workAfter : List ℕ) : Type 0 where
+  pub document : Option Element
+  pub of : DocumentOf text document
+  pub answered : answer ≡ answerBy (refusal lengths (length text) (length records) (length work) document) document
+  pub filled : recordsAfter ≡ recordsBy (refusal lengths (length text) (length records) (length work) document) document records
+  pub cleared : workAfter ≡ replicate (length work) 0
+
+unfoldable pub answerWords : Unit {0}
+unfolding recordAt stretch stretches filledWith asDecimal described reach dimensionAt acceptedWith mapsIn answerBy recordsBy
+answerWords = tt

@@ -1,0 +1,155 @@
+-- DEMAND 2 in one statement: of an accepted text, the answer tells of each dimension what its map says, and the records hold, from the start that it tells, the
+-- location of every index: that of the one model whose range the index is in.
+use mathlib.Core.Path.{_≡_, refl, sym, ap, _∙_}
+use mathlib.Core.List.{List, [], _∷_, _++_}
+use mathlib.Core.Option.{Option, some}
+use mathlib.Core.Bool.{Bool, true, false, _||_, cond, true≢false}
+use Prim.Native.Nat.{ℕ, zero, suc, _+_, _-_, _<_, _≤_}
+use native.Mathlib.Omega.{arith}
+use lib.Dec.{eqb}
+use lib.ListN.{length, getD, length-append, List·getD-append}
+use Rattle.lists.specs.Lists.{any, total, those, eachIn, there}
+use Rattle.lists.specs.Quantifiers.{OnePlace}
+use Rattle.grammar.specs.Document.{Element}
+use Rattle.grammar.specs.Grammar.{Writes}
+use Rattle.records.specs.Record.{onSurface, recordOf}
+use Rattle.cifti.specs.Maps.{Content, Model, Map, mapsOf, models, brainMaps, lengthOf, lengthBy, isBrainBy, covers, locations}
+use Rattle.cifti.specs.Conditions.{Refusal, _when_, ofMaps, rangesWrong, uneven, conditions, conditionsTo9, conditionsFrom10, refusal}
+use Rattle.cifti.specs.Text.{written}
+use Rattle.cifti.specs.Answer.{stretch, stretches, filledWith, reach, described, dimensionAt, mapsIn, acceptedWith, answerBy, recordsBy, unused, recordAt, Reads}
+use Rattle.cifti.specs.Smallest.{Applies, here, later, Given, accepted, smallest, rising, above, refusal-smallest}
+use Rattle.cifti.specs.Theorems.{document-unique, answer-number}
+use Rattle.cifti.specs.Meaning.{Even, even-iff, record-at}
+use Rattle.cifti.specs.Said.{stretch-length, placed, dimension-of}
+use Rattle.cifti.specs.declared.answer.Answer.{Answer}
+
+-- ---- Number 0: no condition applies.
+
+none-applies : (lengths : List ℕ) (size room work : ℕ) (d : Option Element) → refusal lengths size room work d ≡ 0 → (m : ℕ) → ¬ Applies (conditions lengths size room work d) m
+unfolding conditions conditionsTo9 conditionsFrom10 rising
+none-applies lengths size room work d h = go (rw h at (refusal-smallest lengths size room work d))
+  where
+    go : Given (conditions lengths size room work d) 0 → (m : ℕ) → ¬ Applies (conditions lengths size room work d) m
+    go (accepted f) = f
+    go (smallest a f) = absurd (let k = above 1 (conditions lengths size room work d) refl 0 a in omega arith)
+
+row : {n : ℕ} {b : Bool} {l : List Refusal} → b ≡ true → Applies (n when b ∷ l) n
+row h = rw h here
+
+ranges-right : (lengths : List ℕ) (size room work : ℕ) (e : Element) → refusal lengths size room work (some e) ≡ 0 → rangesWrong (mapsOf e) ≡ false
+unfolding conditions conditionsTo9 conditionsFrom10 ofMaps there
+ranges-right lengths size room work e h = go (rangesWrong (mapsOf e)) refl
+  where
+    go : (t : Bool) → rangesWrong (mapsOf e) ≡ t → t ≡ false
+    go false k = refl
+    go true k = absurd (none-applies lengths size room work (some e) h 11 (later (later (later (later (later (later (later (later (later (later (row k))))))))))))
+
+even-in : (k : List Map) (m : Map) (l : List Map) → isBrainBy (m .content) ≡ true → any uneven (brainMaps (k ++ (m ∷ l))) ≡ false → uneven m ≡ false
+unfolding brainMaps those any
+even-in [] m l h f = let g : any uneven (m ∷ brainMaps l) ≡ false = rw h at f in left (uneven m) (any uneven (brainMaps l)) g
+  where
+    left : (a b : Bool) → (a || b) ≡ false → a ≡ false
+    left false b q = refl
+    left true b q = absurd (true≢false q)
+even-in (x ∷ k) m l h f = even-in k m l h (go (isBrainBy (x .content)) f)
+  where
+    go : (b : Bool) → any uneven (cond b (x ∷ brainMaps (k ++ (m ∷ l))) (brainMaps (k ++ (m ∷ l)))) ≡ false → any uneven (brainMaps (k ++ (m ∷ l))) ≡ false
+    go false q = q
+    go true q = right (uneven x) (any uneven (brainMaps (k ++ (m ∷ l)))) q
+      where
+        right : (a b : Bool) → (a || b) ≡ false → b ≡ false
+        right false b q = q
+        right true b q = absurd (true≢false q)
+
+-- ---- How far the stretches reach.
+
+stretches-reach : (l : List Map) → length (stretches l) ≡ total (λ x. reach (x .content)) l
+unfolding stretches brainMaps those eachIn total lengthOf reach isBrainBy
+stretches-reach [] = refl
+stretches-reach (m ∷ l) = go (m .content) refl (stretches-reach l)
+  where
+    go : (c : Content) → m .content ≡ c → length (stretches l) ≡ total (λ x. reach (x .content)) l
+        → length (eachIn stretch (cond (isBrainBy c) (m ∷ brainMaps l) (brainMaps l))) ≡ reach c + total (λ x. reach (x .content)) l
+    go (Content.brain v b) e h =
+        let s : length (stretch m) ≡ lengthBy (Content.brain v b) = stretch-length m ∙ ap lengthBy e in
+        length-append (stretch m) (stretches l) ∙ rw (s, h) refl
+    go (Content.series n a b x u) e h = let t : 0 + total (λ x. reach (x .content)) l ≡ total (λ x. reach (x .content)) l = omega arith in h ∙ sym t
+    go (Content.scalars n) e h = let t : 0 + total (λ x. reach (x .content)) l ≡ total (λ x. reach (x .content)) l = omega arith in h ∙ sym t
+
+total-past : (k : List Map) (m : Map) (l : List Map) → total (λ x. reach (x .content)) k + reach (m .content) ≤ total (λ x. reach (x .content)) (k ++ (m ∷ l))
+unfolding total
+total-past [] m l = omega arith
+total-past (x ∷ k) m l = let h = total-past k m l in omega arith
+
+brain-reach : (m : Map) → isBrainBy (m .content) ≡ true → reach (m .content) ≡ lengthOf m
+unfolding lengthOf lengthBy reach isBrainBy
+brain-reach m h = go (m .content) h
+  where
+    go : (c : Content) → isBrainBy c ≡ true → reach c ≡ lengthBy c
+    go (Content.brain v l) q = refl
+    go (Content.series n a b x u) q = absurd (true≢false (sym q))
+    go (Content.scalars n) q = absurd (true≢false (sym q))
+
+-- ---- THE STATEMENT: an accepted text, its document, and a map of it, those before it and those behind it.
+
+module _ {text lengths records work : List ℕ} {a : Answer} {s v : List ℕ} (r : Reads text lengths records work a s v) (yes : a .number ≡ 0)
+    (e : Element) (w : Writes e text) (k : List Map) (m : Map) (l : List Map) (all-maps : mapsOf e ≡ k ++ (m ∷ l)) where
+  -- where the map's stretch begins, if it has one
+  abbrev pub start : ℕ
+  start = total (λ x. reach (x .content)) k
+
+  the-document : r .document ≡ some e
+  the-document = document-unique (r .of) (written w)
+
+  number-of : ℕ
+  number-of = refusal lengths (length text) (length records) (length work) (some e)
+
+  answer-is : a ≡ answerBy number-of (some e)
+  unfolding number-of
+  answer-is = r .answered ∙ ap (λ d. answerBy (refusal lengths (length text) (length records) (length work) d) d) the-document
+
+  number-is : number-of ≡ 0
+  number-is = sym (answer-number number-of (some e)) ∙ sym (ap (λ (x : Answer). x .number) answer-is) ∙ yes
+
+  accepted-is : a ≡ acceptedWith (k ++ (m ∷ l))
+  unfolding answerBy mapsIn
+  accepted-is = answer-is ∙ rw (number-is, all-maps) refl
+
+  records-are : s ≡ filledWith (stretches (k ++ (m ∷ l))) records
+  unfolding recordsBy mapsIn number-of
+  records-are = r .filled ∙ ap (λ d. recordsBy (refusal lengths (length text) (length records) (length work) d) d records) the-document ∙ rw (number-is, all-maps) refl
+
+  -- a dimension that it lists and none before it does: the answer tells what the map says
+  pub tells : (d : ℕ) → d < 3 → any (λ x. any (eqb d) (x .dimensions)) k ≡ false → any (eqb d) (m .dimensions) ≡ true → getD (a .dimensions) d unused ≡ described start (m .content)
+  unfolding acceptedWith
+  tells d u h t = rw accepted-is (go d u h t)
+    where
+      told : (c : ℕ) → any (λ x. any (eqb c) (x .dimensions)) k ≡ false → any (eqb c) (m .dimensions) ≡ true → dimensionAt 0 (k ++ (m ∷ l)) c ≡ described start (m .content)
+      told c h t = let z : 0 + start ≡ start = omega arith in dimension-of k m l 0 c h t ∙ ap (λ p. described p (m .content)) z
+
+      go : (c : ℕ) → c < 3 → any (λ x. any (eqb c) (x .dimensions)) k ≡ false → any (eqb c) (m .dimensions) ≡ true → getD ((acceptedWith (k ++ (m ∷ l))) .dimensions) c unused ≡ described start (m .content)
+      go zero u h t = told 0 h t
+      go (suc zero) u h t = told 1 h t
+      go (suc (suc zero)) u h t = told 2 h t
+      go (suc (suc (suc c))) u h t = absurd (omega arith)
+
+  module _ (brain : isBrainBy (m .content) ≡ true) (n : ℕ) (u : n < lengthOf m) where
+    -- the record of index n stands n places behind the start
+    pub holds : getD s (start + n) 0 ≡ recordAt (models m) n
+    unfolding filledWith
+    holds =
+        let h = total-past k m l in
+        let b = brain-reach m brain in
+        let q : start + n < length (stretches (k ++ (m ∷ l))) = rw (stretches-reach (k ++ (m ∷ l))) (omega arith) in
+        rw records-are (List·getD-append (stretches (k ++ (m ∷ l))) _ 0 (start + n) q ∙ placed k m l n brain u)
+
+    -- the index is in exactly one model's range, and the record is of the location at the index less that model's offset in its list
+    pub in-one : (b₀ : Model) → OnePlace b₀ (covers n) (models m)
+    unfolding rangesWrong number-of
+    in-one b₀ =
+        let f : any uneven (brainMaps (k ++ (m ∷ l))) ≡ false = rw all-maps at (ranges-right lengths (length text) (length records) (length work) e number-is) in
+        (even-iff b₀ m .0 (even-in k m l brain f)) .one n u
+
+    pub located : (b₀ : Model) → let o = in-one b₀ in
+        getD s (start + n) 0 ≡ recordOf (getD (locations (getD (models m) (o .0) b₀)) (n - (getD (models m) (o .0) b₀) .offset) (onSurface 0 0))
+    located b₀ = holds ∙ record-at b₀ (models m) n (in-one b₀)

@@ -1,0 +1,53 @@
+-- THE MAP NAME (index n: n-th NamedMap, from 0): it checks 1 to 9, then 18, and answers with the part of the text between the MapName tags, undecoded.
+use mathlib.Core.Path.{_≡_}
+use mathlib.Core.List.{List, [], _∷_, _++_}
+use mathlib.Core.Option.{Option, some}
+use mathlib.Core.Option
+use mathlib.Core.Bool.{Bool, false, _&&_, not}
+use Prim.Native.Nat.{ℕ, zero, suc}
+use lib.Dec.{eqb, ltb}
+use lib.ListN.{length, getD}
+use Rattle.lists.specs.Lists.{any, those, each, eachIn}
+use Rattle.grammar.specs.Document.{Element}
+use Rattle.grammar.specs.Look.{Word, children}
+use Rattle.grammar.specs.Plain.{withinOf}
+use Rattle.cifti.specs.Maps.{Content, brain, series, scalars, Map, dimensionsOf, mapElements}
+use Rattle.cifti.specs.Conditions.{_when_, conditionsTo9, ofMaps, first}
+use Rattle.cifti.specs.Text.{DocumentOf}
+
+-- 18: no such dimension, it is not scalars, or the index is not below its length
+unfoldable pub holdsName : (index : ℕ) → Content → Bool
+holdsName i (brain v l) = false
+holdsName i (series n a b x u) = false
+holdsName i (scalars n) = ltb i n
+
+unfoldable pub noName : (dimension index : ℕ) → List Map → Bool
+noName d i l = not (any (λ m. any (eqb d) (m .dimensions) && holdsName i (m .content)) l)
+
+unfoldable pub nameRefusal : (lengths : List ℕ) (size dimension index : ℕ) → Option Element → ℕ
+nameRefusal lengths size d i e = first (conditionsTo9 lengths size e ++ (18 when ofMaps (noName d i) e ∷ []))
+
+-- the names of the map that the dimension has, in order, each as it is written (`<MapName/>`: empty)
+unfoldable pub namesOn : (dimension : ℕ) → Element → List Word
+namesOn d e = eachIn (λ m. each withinOf (eachIn (children "MapName") (children "NamedMap" m))) (those (λ m. any (eqb d) (dimensionsOf m)) (mapElements e))
+
+-- a refused answer's part is empty
+unfoldable pub partBy : (number dimension index : ℕ) → Option Element → Word
+partBy (suc n) d i e = []
+partBy zero d i Option.none = []
+partBy zero d i (some e) = getD (namesOn d e) i []
+
+-- THE TWO PROMISES: the number, and the part.
+pub record NameNumber (text lengths : List ℕ) (dimension index number : ℕ) : Type 0 where
+  pub document : Option Element
+  pub of : DocumentOf text document
+  pub answered : number ≡ nameRefusal lengths (length text) dimension index document
+
+pub record NamePart (text lengths : List ℕ) (dimension index : ℕ) (part : List ℕ) : Type 0 where
+  pub document : Option Element
+  pub of : DocumentOf text document
+  pub answered : part ≡ partBy (nameRefusal lengths (length text) dimension index document) dimension index document
+
+unfoldable pub nameWords : Unit {0}
+unfolding holdsName noName nameRefusal namesOn partBy
+nameWords = tt

@@ -1,0 +1,86 @@
+-- THE ELEMENTS (000, 002): the table of document 01, a row for each kind of element.
+use mathlib.Core.List.{List, [], _∷_, _++_}
+use Rattle.numbers.specs.Numbers.{whole, volumeDimensions, dimensionList, exponent, decimal, wholes, sixteen}
+use Rattle.schema.specs.Schema.{anyValue, word, number, AttributeRow, required, anyText, numbers, once, atMostOnce, anyTimes, atLeastOnce, neededWith, Case, _⇒_, always, chosen, child, anyOrder, Row, branch, leaf}
+use Rattle.cifti.specs.Words.{structures, units}
+
+-- the kinds of elements; `words` are those with any text, and nothing else: Name, Value, MapName
+pub data ElementKind : Type 0 where
+  cifti matrix metaData md words : ElementKind
+  brainModels series scalars namedMap : ElementKind
+  volume transform surface voxels vertexIndices voxelIndices : ElementKind
+
+unfoldable pub mapKinds : List (Case ElementKind)
+mapKinds =
+    "CIFTI_INDEX_TYPE_BRAIN_MODELS" ⇒ brainModels
+    ∷ "CIFTI_INDEX_TYPE_SERIES" ⇒ series
+    ∷ "CIFTI_INDEX_TYPE_SCALARS" ⇒ scalars
+    ∷ []
+
+unfoldable pub modelTypes : List (Case ElementKind)
+modelTypes =
+    "CIFTI_MODEL_TYPE_SURFACE" ⇒ surface
+    ∷ "CIFTI_MODEL_TYPE_VOXELS" ⇒ voxels
+    ∷ []
+
+-- IndicesMapToDataType and ModelType may be any value here: they choose the row, and an element whose word chooses none has no kind, so that 6 applies.
+unfoldable pub mapAttributes : List AttributeRow
+mapAttributes =
+    required "AppliesToMatrixDimension" (number dimensionList)
+    ∷ required "IndicesMapToDataType" anyValue
+    ∷ []
+
+unfoldable pub seriesAttributes : List AttributeRow
+seriesAttributes =
+    required "NumberOfSeriesPoints" (number (whole 1 1048576))
+    ∷ required "SeriesStart" (number decimal)
+    ∷ required "SeriesStep" (number decimal)
+    ∷ required "SeriesExponent" (number (exponent 30))
+    ∷ required "SeriesUnit" (word units)
+    ∷ []
+
+unfoldable pub modelAttributes : List AttributeRow
+modelAttributes =
+    required "IndexOffset" (number (whole 0 1048576))
+    ∷ required "IndexCount" (number (whole 1 1048576))
+    ∷ required "ModelType" anyValue
+    ∷ required "BrainStructure" (word structures)
+    ∷ []
+
+unfoldable pub rows : ElementKind → Row ElementKind
+rows cifti = branch
+    (required "Version" anyValue ∷ []) anyOrder
+    (child "Matrix" once (always matrix) ∷ [])
+rows matrix = branch [] anyOrder
+    (child "MetaData" atMostOnce (always metaData)
+    ∷ child "MatrixIndicesMap" atLeastOnce (chosen "IndicesMapToDataType" mapKinds)
+    ∷ [])
+rows metaData = branch [] anyOrder
+    (child "MD" anyTimes (always md) ∷ [])
+rows md = branch [] anyOrder
+    (child "Name" once (always words) ∷ child "Value" once (always words) ∷ [])
+rows words = leaf [] anyText
+rows brainModels = branch mapAttributes anyOrder
+    (child "BrainModel" atLeastOnce (chosen "ModelType" modelTypes)
+    ∷ child "Volume" (neededWith "BrainModel" "ModelType" "CIFTI_MODEL_TYPE_VOXELS") (always volume)
+    ∷ [])
+rows series = branch (mapAttributes ++ seriesAttributes) anyOrder []
+rows scalars = branch mapAttributes anyOrder
+    (child "NamedMap" anyTimes (always namedMap) ∷ [])
+rows namedMap = branch [] anyOrder
+    (child "MapName" once (always words) ∷ child "MetaData" atMostOnce (always metaData) ∷ [])
+rows volume = branch
+    (required "VolumeDimensions" (number (volumeDimensions 2048 2048 4096)) ∷ []) anyOrder
+    (child "TransformationMatrixVoxelIndicesIJKtoXYZ" once (always transform) ∷ [])
+rows transform = leaf (required "MeterExponent" (number (exponent 30)) ∷ []) (numbers sixteen)
+rows surface = branch
+    (modelAttributes ++ (required "SurfaceNumberOfVertices" (number (whole 1 1048576)) ∷ [])) anyOrder
+    (child "VertexIndices" once (always vertexIndices) ∷ [])
+rows voxels = branch modelAttributes anyOrder
+    (child "VoxelIndicesIJK" once (always voxelIndices) ∷ [])
+rows vertexIndices = leaf [] (numbers (wholes 1048575))
+rows voxelIndices = leaf [] (numbers (wholes 4095))
+
+unfoldable pub rowTable : Unit {0}
+unfolding structures units mapKinds modelTypes mapAttributes seriesAttributes modelAttributes rows
+rowTable = tt

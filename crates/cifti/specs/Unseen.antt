@@ -1,0 +1,150 @@
+-- What the rules do not see: the bytes between the tags as written, and the size of a text that is not too long.
+use mathlib.Core.Path.{_≡_, refl, sym, ap, ap₂, _∙_}
+use mathlib.Core.List.{List, [], _∷_, _++_}
+use mathlib.Core.Option.{Option, some}
+use mathlib.Core.Option
+use mathlib.Core.Bool.{Bool, false, _||_, not}
+use Prim.Native.Nat.{ℕ, zero, suc, _≤_}
+use Prim.Native.String.{String}
+use lib.ListN.{length}
+use borrow.Author.Tests.{le-ltb}
+use Rattle.lists.specs.Lists.{any, each, eachIn, isSome, there}
+use Rattle.lists.specs.Laws.{any-same, any-each, each-same, eachIn-same, each-each, eachIn-each, length-each}
+use Rattle.grammar.specs.Document.{Element}
+use Rattle.grammar.specs.Look.{attr, has, children, textOf}
+use Rattle.grammar.specs.Plain.{plain, name-erased, attr-erased, has-erased, text-erased, children-erased}
+use Rattle.numbers.specs.Numbers.{values, commaValues}
+use Rattle.schema.specs.Schema.{shaped, numbered}
+use Rattle.schema.specs.Erased.{walk-erased, shaped-erased, numbered-erased}
+use Rattle.cifti.specs.Rows.{cifti, rows}
+use Rattle.cifti.specs.Maps.{Map, listedBy, modelOf, sizesBy, sizesOf, seriesOf, contentOf, dimensionsOf, mapOf, mapElements, mapsOf}
+use Rattle.cifti.specs.Conditions.{_when_, textTooLong, noDocument, rootWrong, kindNotRead, shapeWrong, numberWrong, ofMaps, conditionsTo9, conditionsFrom10, conditions, first, refusal}
+use Rattle.cifti.specs.Names.{noName, nameRefusal}
+use Rattle.cifti.specs.Answer.{answerBy, recordsBy, mapsIn}
+
+-- ---- The maps.
+
+lists-erased : (s : String) (e : Element) → eachIn (λ d. values (textOf d)) (children s (plain e)) ≡ eachIn (λ d. values (textOf d)) (children s e)
+lists-erased s e = ap (eachIn (λ d. values (textOf d))) (children-erased s e) ∙ eachIn-each plain (λ d. values (textOf d)) (children s e) ∙ eachIn-same (λ d. ap values (text-erased d)) (children s e)
+
+listed-erased : (e : Element) → listedBy (plain e) ≡ listedBy e
+unfolding listedBy
+listed-erased e = rw (has-erased "ModelType" "CIFTI_MODEL_TYPE_VOXELS" e, lists-erased "VoxelIndicesIJK" e, attr-erased "SurfaceNumberOfVertices" e, lists-erased "VertexIndices" e) refl
+
+model-erased : (e : Element) → modelOf (plain e) ≡ modelOf e
+unfolding modelOf
+model-erased e = rw (attr-erased "BrainStructure" e, attr-erased "IndexOffset" e, attr-erased "IndexCount" e, listed-erased e) refl
+
+models-erased : (e : Element) → each modelOf (children "BrainModel" (plain e)) ≡ each modelOf (children "BrainModel" e)
+models-erased e = ap (each modelOf) (children-erased "BrainModel" e) ∙ each-each plain modelOf (children "BrainModel" e) ∙ each-same model-erased (children "BrainModel" e)
+
+sizes-erased : (e : Element) → sizesOf (plain e) ≡ sizesOf e
+unfolding sizesOf
+sizes-erased e =
+    ap (λ l. sizesBy (eachIn (λ v. commaValues (attr "VolumeDimensions" v)) l)) (children-erased "Volume" e)
+    ∙ ap sizesBy (eachIn-each plain (λ v. commaValues (attr "VolumeDimensions" v)) (children "Volume" e) ∙ eachIn-same (λ v. ap commaValues (attr-erased "VolumeDimensions" v)) (children "Volume" e))
+
+series-erased : (e : Element) → seriesOf (plain e) ≡ seriesOf e
+unfolding seriesOf
+series-erased e = rw (attr-erased "NumberOfSeriesPoints" e, attr-erased "SeriesStart" e, attr-erased "SeriesStep" e, attr-erased "SeriesExponent" e, attr-erased "SeriesUnit" e) refl
+
+names-erased : (e : Element) → length (children "NamedMap" (plain e)) ≡ length (children "NamedMap" e)
+names-erased e = ap length (children-erased "NamedMap" e) ∙ length-each plain (children "NamedMap" e)
+
+content-erased : (e : Element) → contentOf (plain e) ≡ contentOf e
+unfolding contentOf
+content-erased e =
+    rw (has-erased "IndicesMapToDataType" "CIFTI_INDEX_TYPE_BRAIN_MODELS" e, sizes-erased e, models-erased e, has-erased "IndicesMapToDataType" "CIFTI_INDEX_TYPE_SERIES" e, series-erased e, names-erased e) refl
+
+map-erased : (e : Element) → mapOf (plain e) ≡ mapOf e
+unfolding mapOf dimensionsOf
+map-erased e = rw (attr-erased "AppliesToMatrixDimension" e, content-erased e) refl
+
+elements-erased : (e : Element) → mapElements (plain e) ≡ each plain (mapElements e)
+unfolding mapElements each eachIn
+elements-erased e = ap (eachIn (children "MatrixIndicesMap")) (children-erased "Matrix" e) ∙ go (children "Matrix" e)
+  where
+    append : (k l : List Element) → each plain (k ++ l) ≡ each plain k ++ each plain l
+    append [] l = refl
+    append (a ∷ k) l = ap (λ m. plain a ∷ m) (append k l)
+
+    go : (l : List Element) → eachIn (children "MatrixIndicesMap") (each plain l) ≡ each plain (eachIn (children "MatrixIndicesMap") l)
+    go [] = refl
+    go (a ∷ l) = ap₂ (λ k m. k ++ m) (children-erased "MatrixIndicesMap" a) (go l) ∙ sym (append (children "MatrixIndicesMap" a) (eachIn (children "MatrixIndicesMap") l))
+
+pub maps-erased : (e : Element) → mapsOf (plain e) ≡ mapsOf e
+unfolding mapsOf
+maps-erased e = ap (each mapOf) (elements-erased e) ∙ each-each plain mapOf (mapElements e) ∙ each-same map-erased (mapElements e)
+
+-- ---- The conditions.
+
+root-erased : (e : Element) → rootWrong (plain e) ≡ rootWrong e
+unfolding rootWrong
+root-erased e = rw (name-erased e, has-erased "Version" "2" e) refl
+
+kinds-erased : (e : Element) → kindNotRead (plain e) ≡ kindNotRead e
+unfolding kindNotRead
+kinds-erased e = ap (any old) (elements-erased e) ∙ any-each plain old (mapElements e) ∙ any-same (λ m. ap₂ (λ a b. a || b) (has-erased "IndicesMapToDataType" "CIFTI_INDEX_TYPE_PARCELS" m) (has-erased "IndicesMapToDataType" "CIFTI_INDEX_TYPE_LABELS" m)) (mapElements e)
+  where
+    old : Element → Bool
+    old m = has "IndicesMapToDataType" "CIFTI_INDEX_TYPE_PARCELS" m || has "IndicesMapToDataType" "CIFTI_INDEX_TYPE_LABELS" m
+
+shape-erased : (e : Element) → shapeWrong (plain e) ≡ shapeWrong e
+unfolding shapeWrong
+shape-erased e = ap not (walk-erased rows shaped shaped-erased e cifti)
+
+number-erased : (e : Element) → numberWrong (plain e) ≡ numberWrong e
+unfolding numberWrong
+number-erased e = ap not (walk-erased rows numbered numbered-erased e cifti)
+
+of-maps : (p : List Map → Bool) (e : Element) → ofMaps p (some (plain e)) ≡ ofMaps p (some e)
+unfolding ofMaps there
+of-maps p e = ap p (maps-erased e)
+
+small : (n : ℕ) → n ≤ 16777216 → textTooLong n ≡ false
+unfolding textTooLong
+small n h = le-ltb 16777216 n h
+
+to9-erased : (lengths : List ℕ) (size : ℕ) (e : Element) → conditionsTo9 lengths size (some (plain e)) ≡ conditionsTo9 lengths size (some e)
+unfolding conditionsTo9 noDocument ofMaps there isSome
+to9-erased lengths size e = rw (root-erased e, kinds-erased e, shape-erased e, number-erased e, maps-erased e) refl
+
+to9-size : (lengths : List ℕ) (m n : ℕ) (d : Option Element) → m ≤ 16777216 → n ≤ 16777216 → conditionsTo9 lengths m d ≡ conditionsTo9 lengths n d
+unfolding conditionsTo9
+to9-size lengths m n d h k = rw (small m h, small n k) refl
+
+from10-erased : (room work : ℕ) (e : Element) → conditionsFrom10 room work (some (plain e)) ≡ conditionsFrom10 room work (some e)
+unfolding conditionsFrom10 ofMaps there
+from10-erased room work e = rw (maps-erased e) refl
+
+-- ---- Two documents that are one but for the bytes as written.
+
+module _ (e f : Element) (o : plain e ≡ plain f) where
+  same-maps : mapsOf e ≡ mapsOf f
+  same-maps = sym (maps-erased e) ∙ ap mapsOf o ∙ maps-erased f
+
+  same-to9 : (lengths : List ℕ) (m n : ℕ) → m ≤ 16777216 → n ≤ 16777216 → conditionsTo9 lengths m (some e) ≡ conditionsTo9 lengths n (some f)
+  same-to9 lengths m n h k = to9-size lengths m n (some e) h k ∙ sym (to9-erased lengths n e) ∙ ap (λ x. conditionsTo9 lengths n (some x)) o ∙ to9-erased lengths n f
+
+  same-from10 : (room work : ℕ) → conditionsFrom10 room work (some e) ≡ conditionsFrom10 room work (some f)
+  same-from10 room work = sym (from10-erased room work e) ∙ ap (λ x. conditionsFrom10 room work (some x)) o ∙ from10-erased room work f
+
+pub refusal-same : (lengths : List ℕ) (m n room work : ℕ) (e f : Element) → plain e ≡ plain f → m ≤ 16777216 → n ≤ 16777216
+    → refusal lengths m room work (some e) ≡ refusal lengths n room work (some f)
+unfolding refusal conditions
+refusal-same lengths m n room work e f o h k = ap₂ (λ a b. first (a ++ b)) (same-to9 e f o lengths m n h k) (same-from10 e f o room work)
+
+pub name-refusal-same : (lengths : List ℕ) (m n d i : ℕ) (e f : Element) → plain e ≡ plain f → m ≤ 16777216 → n ≤ 16777216
+    → nameRefusal lengths m d i (some e) ≡ nameRefusal lengths n d i (some f)
+unfolding nameRefusal ofMaps there
+name-refusal-same lengths m n d i e f o h k = ap₂ (λ a l. first (a ++ (18 when noName d i l ∷ []))) (same-to9 e f o lengths m n h k) (same-maps e f o)
+
+pub answer-same : (number : ℕ) (e f : Element) → plain e ≡ plain f → answerBy number (some e) ≡ answerBy number (some f)
+unfolding answerBy mapsIn
+answer-same zero e f o = rw (same-maps e f o) refl
+answer-same (suc n) e f o = refl
+
+pub records-same : (number : ℕ) (e f : Element) (records : List ℕ) → plain e ≡ plain f → recordsBy number (some e) records ≡ recordsBy number (some f) records
+unfolding recordsBy mapsIn
+records-same zero e f records o = rw (same-maps e f o) refl
+records-same (suc n) e f records o = refl

@@ -1,0 +1,149 @@
+-- NUMBERS, by form and by value. A form is a test; a value is read off whatever stands there, and means something where the form is right.
+use mathlib.Core.List.{List, [], _∷_, _++_}
+use mathlib.Core.Bool.{Bool, true, false, _&&_, _||_, not, cond}
+use Prim.Native.Nat.{ℕ, zero, suc, _+_, _*_, _-_, _^_}
+use lib.Dec.{eqb, leb}
+use lib.IntN.{ℤ, pos, negsuc, negℤ}
+use lib.ListN.{length, drop}
+use Rattle.grammar.specs.Bytes.{between, blank}
+use Rattle.grammar.specs.Document.{together}
+use Rattle.lists.specs.Lists.{all, those, each}
+use Rattle.grammar.specs.Look.{Word}
+
+-- a digit
+unfoldable pub digit : ℕ → Bool
+digit a = between 48 57 a
+
+-- so many digits, from `lo` to `hi` of them
+unfoldable pub digits : ℕ → ℕ → Word → Bool
+digits lo hi w = all digit w && between lo hi (length w)
+
+-- the number that digits write, behind those that write `n`
+unfoldable pub number : ℕ → Word → ℕ
+number n [] = n
+number n (a ∷ w) = number (n * 10 + (a - 48)) w
+
+unfoldable pub value : Word → ℕ
+value w = number 0 w
+
+-- a word cut at every byte that passes: one part more than there are cuts
+unfoldable pub onFirst : ℕ → List Word → List Word
+onFirst a [] = (a ∷ []) ∷ []
+onFirst a (w ∷ l) = (a ∷ w) ∷ l
+
+unfoldable pub parts : (ℕ → Bool) → Word → List Word
+parts p [] = [] ∷ []
+parts p (a ∷ w) = cond (p a) ([] ∷ parts p w) (onFirst a (parts p w))
+
+unfoldable pub comma : ℕ → Bool
+comma a = eqb a 44
+
+unfoldable pub point : ℕ → Bool
+point a = eqb a 46
+
+-- Lists in text are parted by blanks, which may also lead and trail.
+unfoldable pub filled : Word → Bool
+filled [] = false
+filled (a ∷ w) = true
+
+unfoldable pub words : Word → List Word
+words w = those filled (parts blank w)
+
+-- Whole numbers are 1 to 7 digits, no sign; here with limits.
+unfoldable pub whole : ℕ → ℕ → Word → Bool
+whole lo hi w = digits 1 7 w && between lo hi (value w)
+
+-- Three whole numbers with commas, no blanks, each from 1 to a limit of its own.
+unfoldable pub three : (Word → Bool) → (Word → Bool) → (Word → Bool) → List Word → Bool
+three p q r [] = false
+three p q r (a ∷ []) = false
+three p q r (a ∷ b ∷ []) = false
+three p q r (a ∷ b ∷ c ∷ []) = p a && (q b && r c)
+three p q r (a ∷ b ∷ c ∷ d ∷ l) = false
+
+unfoldable pub volumeDimensions : (most₁ most₂ most₃ : ℕ) → Word → Bool
+volumeDimensions m n k w = three (whole 1 m) (whole 1 n) (whole 1 k) (parts comma w)
+
+-- Dimension lists: one or more single digits with commas, no blanks.
+unfoldable pub dimensionList : Word → Bool
+dimensionList w = all (digits 1 1) (parts comma w)
+
+-- numbers with commas between them
+unfoldable pub commaValues : Word → List ℕ
+commaValues w = each value (parts comma w)
+
+-- A sign in front, if there is one of those that may be.
+pub data Sign : Type 0 where
+  plus minus : Sign
+
+pub record Signed : Type 0 where
+  pub sign : Sign
+  pub rest : Word
+
+unfoldable pub unsigned : (mayPlus : Bool) → Word → Signed
+unsigned m [] = record { sign = plus; rest = [] }
+unsigned m (a ∷ w) = cond (eqb a 45) (record { sign = minus; rest = w })
+    (cond (m && eqb a 43) (record { sign = plus; rest = w }) (record { sign = plus; rest = a ∷ w }))
+
+unfoldable pub withSign : Sign → ℕ → ℤ
+withSign plus n = pos n
+withSign minus n = negℤ (pos n)
+
+-- Exponents: optional `-`, 1 or 2 digits, from -most to most.
+unfoldable pub exponent : (most : ℕ) → Word → Bool
+exponent most w = let u = (unsigned false w) .rest in digits 1 2 u && leb (value u) most
+
+unfoldable pub exponentValue : Word → ℤ
+exponentValue w = let u = unsigned false w in withSign (u .sign) (value (u .rest))
+
+-- Decimals: optional `+` or `-`, 1 to 15 digits, at most one point with a digit on each side;
+-- read as written, `2.0` is 20 with one place.
+pub record Decimal : Type 0 where
+  pub amount : ℤ
+  pub places : ℕ
+
+unfoldable pub decimalParts : List Word → Bool
+decimalParts [] = false
+decimalParts (a ∷ []) = digits 1 15 a
+decimalParts (a ∷ b ∷ []) = digits 1 15 a && (digits 1 15 b && leb (length a + length b) 15)
+decimalParts (a ∷ b ∷ c ∷ l) = false
+
+unfoldable pub decimal : Word → Bool
+decimal w = decimalParts (parts point ((unsigned true w) .rest))
+
+unfoldable pub decimalValue : Word → Decimal
+decimalValue w =
+    let u = unsigned true w in
+    let l = parts point (u .rest) in
+    record { amount = withSign (u .sign) (value (together l)); places = length (together (drop 1 l)) }
+
+-- the decimal is equal in value to the whole number n
+unfoldable pub isWhole : ℕ → ℤ → Bool
+isWhole n (pos m) = eqb m n
+isWhole n (negsuc m) = false
+
+unfoldable pub equalTo : ℕ → Word → Bool
+equalTo n w = let d = decimalValue w in isWhole (n * 10 ^ d .places) (d .amount)
+
+-- Whole numbers up to n, parted by blanks.
+unfoldable pub wholes : ℕ → Word → Bool
+wholes n w = all (whole 0 n) (words w)
+
+unfoldable pub values : Word → List ℕ
+values w = each value (words w)
+
+-- The transformation has sixteen decimals, the last row equal in value to 0 0 0 1.
+unfoldable pub lastRow : List Word → Bool
+lastRow [] = false
+lastRow (a ∷ []) = false
+lastRow (a ∷ b ∷ []) = false
+lastRow (a ∷ b ∷ c ∷ []) = false
+lastRow (a ∷ b ∷ c ∷ d ∷ []) = equalTo 0 a && (equalTo 0 b && (equalTo 0 c && equalTo 1 d))
+lastRow (a ∷ b ∷ c ∷ d ∷ e ∷ l) = false
+
+unfoldable pub sixteen : Word → Bool
+sixteen w = let l = words w in all decimal l && lastRow (drop 12 l)
+
+unfoldable pub numbers : Unit {0}
+unfolding blank digit digits number value onFirst parts comma point filled words whole three volumeDimensions dimensionList commaValues unsigned withSign exponent exponentValue decimalParts decimal decimalValue isWhole equalTo wholes values lastRow sixteen
+numbers = tt

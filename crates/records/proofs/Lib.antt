@@ -1,0 +1,2 @@
+pub mod LawsSheet
+pub mod LawsRepeat

@@ -1,0 +1,15 @@
+pub mod Numbers
+pub mod Fields
+pub mod FieldLaws
+pub mod Record
+pub mod RecordLaws
+pub mod Fill
+pub mod Bytes
+pub mod ByteLaws
+pub mod Sheet
+pub mod SheetLaws
+pub mod Find
+pub mod Repeat
+pub mod RepeatLaws
+pub mod Unique
+pub mod CaseA
