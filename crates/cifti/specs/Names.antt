@@ -9,8 +9,7 @@ use lib.Dec.{eqb, ltb}
 use lib.ListN.{length, getD}
 use Rattle.lists.specs.Lists.{any, those, each, eachIn}
 use Rattle.grammar.specs.Document.{Element}
-use Rattle.grammar.specs.Look.{Word, children}
-use Rattle.grammar.specs.Plain.{withinOf}
+use Rattle.grammar.specs.Look.{Word, withinOf, children}
 use Rattle.cifti.specs.Maps.{Content, brain, series, scalars, Map, dimensionsOf, mapElements}
 use Rattle.cifti.specs.Conditions.{_when_, conditionsTo9, ofMaps, first}
 use Rattle.cifti.specs.Text.{DocumentOf}

@@ -27,6 +27,10 @@ attributesOf (element n l c k) = l
 unfoldable pub contentsOf : Element → Contents
 contentsOf (element n l c k) = c
 
+-- the bytes between its tags, as they are written
+unfoldable pub withinOf : Element → Word
+withinOf (element n l c k) = k
+
 -- the value of the attribute of this name, if there is one
 unfoldable pub valueIn : String → List Attribute → Option Word
 valueIn s [] = Option.none
@@ -64,5 +68,5 @@ unfoldable pub textOf : Element → Word
 textOf e = characters (contentsOf e)
 
 unfoldable pub looks : Unit {0}
-unfolding same is nameOf attributesOf contentsOf valueIn orEmpty attr has elements characters children textOf
+unfolding same is nameOf attributesOf contentsOf withinOf valueIn orEmpty attr has elements characters children textOf
 looks = tt

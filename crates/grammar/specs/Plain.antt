@@ -8,7 +8,7 @@ use Rattle.lists.specs.Lists.{those, each}
 use Rattle.grammar.specs.Document.{Element, element, Contents, nothing, child, run}
 use Rattle.grammar.specs.Erased
 use Rattle.grammar.specs.Erased.{Node, node, Nodes, erased, erasedAll}
-use Rattle.grammar.specs.Look.{Word, is, nameOf, attributesOf, contentsOf, attr, has, elements, characters, children, textOf}
+use Rattle.grammar.specs.Look.{Word, is, nameOf, attributesOf, contentsOf, withinOf, attr, has, elements, characters, children, textOf}
 
 unfoldable mutual
   pub plain : Element → Element
@@ -42,10 +42,6 @@ mutual
 
 pub plain-same : (e f : Element) → erased e ≡ erased f → plain e ≡ plain f
 plain-same e f h = plain-grown e ∙ ap grown h ∙ sym (plain-grown f)
-
--- the bytes between an element's tags, as they are written
-unfoldable pub withinOf : Element → Word
-withinOf (element n l c k) = k
 
 pub name-erased : (e : Element) → nameOf (plain e) ≡ nameOf e
 unfolding nameOf plain

@@ -1,3 +1,14 @@
 pub mod Numbers
-pub mod Steps
-pub mod Scan
+pub mod Cuts
+pub mod Stream
+pub mod StreamLaws
+pub mod Parted
+pub mod Forms
+pub mod Answers
+pub mod Listed
+pub mod Walk
+pub mod Nth
+pub mod Spelled
+pub mod Sixteen
+pub mod Theorems
+pub mod Examples

@@ -1,1 +1,375 @@
-// Definitions in specs/ alone.
+// Numbers, read from decoded characters: the value of an attribute, or the text of an element.
+mod chars;
+mod written;
+
+use chars::blanks;
+use chars::char_at;
+use chars::digits;
+use chars::letter;
+use chars::signed;
+use chars::wide;
+use chars::word_ends;
+use nodes::Char;
+use written::decimal_at;
+use written::right_at;
+ghost use mathlib.Core.Path.{_≡_};
+ghost use Prim.Native.Nat.{ℕ, _+_, _*_, _-_, _^_, _<_, _≤_};
+ghost use mathlib.Core.Bool.{Bool, cond};
+ghost use lib.ListN.{length, drop};
+ghost use Rattle.nodes.specs.Values.{value-there};
+ghost use Rattle.nodes.specs.Says.{says};
+ghost use Rattle.nodes.specs.Texts.{text-step};
+ghost use Rattle.numbers.specs.Numbers.{sixteen, withSign, isWhole};
+ghost use Rattle.numbers.specs.Sixteen.{rightAt};
+ghost use Rattle.numbers.specs.Stream.{letterAt, charAt, stream, wordEnds, digitsAt, Plain, behind, leading};
+ghost use Rattle.numbers.specs.declared.Source.the-variants.{Contents};
+ghost use Rattle.grammar.specs.Bytes.{blank, between};
+ghost use Rattle.numbers.specs.Answers.{wholeIn, listedIn, betweenIn, entryIn, threeIn, exponentIn, exponentFrom, decimalIn, nextNumber, signIf};
+ghost use Rattle.numbers.specs.Parted.{Parted};
+ghost use Rattle.numbers.specs.Spelled.{Pointed, Pure, Spelled};
+
+// A whole number, or that there is none.
+pub enum Whole {
+    Is(u64),
+    No,
+}
+
+// Three lengths, or that there are none.
+pub struct Lengths {
+    pub i: u64,
+    pub j: u64,
+    pub k: u64,
+}
+
+pub enum Three {
+    Are(Lengths),
+    No,
+}
+
+// A small number with a sign.
+pub enum Exponent {
+    Is(i64),
+    No,
+}
+
+// A decimal as it is written: its digits with the sign, and how many of them stand behind the point.
+pub struct Scaled {
+    pub amount: i64,
+    pub places: u64,
+}
+
+pub enum Decimals {
+    Is(Scaled),
+    No,
+}
+
+// The number that stands next in a list, and the place behind it.
+pub enum Next {
+    Number(u64, usize),
+    End,
+    Bad,
+}
+
+// Where characters come from: a value in a quote, or the text of an element.
+enum Source {
+    Value(u8),
+    Contents,
+}
+
+// Digits in a row: what they write, how many they are, the place behind them.
+struct Run {
+    value: u64,
+    count: u64,
+    next: usize,
+}
+
+// A number among commas: with the place behind its comma, or the last.
+enum Part {
+    Comma(u64, usize),
+    Last(u64),
+    No,
+}
+
+// A decimal and the place behind it, or that a word is none.
+enum Spelling {
+    Reads(Scaled, usize),
+    Fails,
+}
+
+// The number at `at` up to a comma or the end.
+fn part_at(text: &[u8], at: usize, source: Source, most: u64, lo: u64, hi: u64) -> Part
+    requires { ⌜ most ≤ 15 ⌝ }
+    ensures { λ r. ⌜ Parted source (now (text .entry)) most lo hi at r ⌝ }
+{
+    let run = digits(text, at, source, most, 0);
+    if run.count == 0 {
+        return Part::No;
+    }
+    if run.value < lo {
+        return Part::No;
+    }
+    if hi < run.value {
+        return Part::No;
+    }
+    match char_at(text, run.next, source) {
+        Char::Byte(b, j) => {
+            if b == 44 {
+                return Part::Comma(run.value, j);
+            }
+            Part::No
+        }
+        Char::End => Part::Last(run.value),
+    }
+}
+
+// The whole number that the value at `at` writes.
+pub fn whole_value(text: &[u8], at: usize, lo: u64, hi: u64) -> Whole
+    ensures { λ r. ⌜ r ≡ wholeIn lo hi (value-there (now (text .entry)) at) ⌝ }
+{
+    if text.len() <= at {
+        return Whole::No;
+    }
+    match part_at(text, at + 1, Source::Value(text[at]), 7, lo, hi) {
+        Part::Last(n) => Whole::Is(n),
+        Part::Comma(_, _) => Whole::No,
+        Part::No => Whole::No,
+    }
+}
+
+// The three lengths that the value at `at` writes.
+pub fn three_lengths(text: &[u8], at: usize, width: u64, depth: u64, height: u64) -> Three
+    ensures { λ r. ⌜ r ≡ threeIn width depth height (value-there (now (text .entry)) at) ⌝ }
+{
+    if text.len() <= at {
+        return Three::No;
+    }
+    let source = Source::Value(text[at]);
+    match part_at(text, at + 1, source, 7, 1, width) {
+        Part::Comma(i, second) => match part_at(text, second, source, 7, 1, depth) {
+            Part::Comma(j, third) => match part_at(text, third, source, 7, 1, height) {
+                Part::Last(k) => Three::Are(Lengths { i: i, j: j, k: k }),
+                Part::Comma(_, _) => Three::No,
+                Part::No => Three::No,
+            },
+            Part::Last(_) => Three::No,
+            Part::No => Three::No,
+        },
+        Part::Last(_) => Three::No,
+        Part::No => Three::No,
+    }
+}
+
+fn is_within(d: u64, lo: u64, hi: u64) -> u64
+    ensures { λ r. ⌜ r ≡ cond (between lo hi d) 1 0 ⌝ }
+{
+    if d < lo {
+        return 0;
+    }
+    if hi < d {
+        return 0;
+    }
+    1
+}
+
+// How many of the dimensions that the value at `at` lists are from `lo` to `hi`.
+pub fn dimensions_between(text: &[u8], at: usize, lo: u64, hi: u64) -> Whole
+    ensures { λ r. ⌜ r ≡ betweenIn lo hi (value-there (now (text .entry)) at) ⌝ }
+{
+    if text.len() <= at {
+        return Whole::No;
+    }
+    let source = Source::Value(text[at]);
+    let mut n: u64 = 0;
+    let mut i = at + 1;
+    loop {
+        match part_at(text, i, source, 1, 0, 9) {
+            Part::Comma(d, j) => {
+                n += is_within(d, lo, hi);
+                i = j;
+            }
+            Part::Last(d) => {
+                return Whole::Is(n + is_within(d, lo, hi));
+            }
+            Part::No => {
+                return Whole::No;
+            }
+        }
+    }
+}
+
+// How many dimensions the value at `at` lists.
+pub fn dimension_list(text: &[u8], at: usize) -> Whole
+    ensures { λ r. ⌜ r ≡ listedIn (value-there (now (text .entry)) at) ⌝ }
+{
+    dimensions_between(text, at, 0, 9)
+}
+
+fn exponent_from(text: &[u8], at: usize, source: Source, most: u64, negative: bool) -> Exponent
+    ensures { λ r. ⌜ r ≡ exponentFrom most (signIf negative) (stream source (now (text .entry)) at) ⌝ }
+{
+    match part_at(text, at, source, 2, 0, most) {
+        Part::Last(n) => Exponent::Is(signed(negative, n)),
+        Part::Comma(_, _) => Exponent::No,
+        Part::No => Exponent::No,
+    }
+}
+
+// The exponent that the value at `at` writes.
+pub fn exponent_value(text: &[u8], at: usize, most: u64) -> Exponent
+    ensures { λ r. ⌜ r ≡ exponentIn most (value-there (now (text .entry)) at) ⌝ }
+{
+    if text.len() <= at {
+        return Exponent::No;
+    }
+    let source = Source::Value(text[at]);
+    match char_at(text, at + 1, source) {
+        Char::Byte(b, j) => {
+            if b == 45 {
+                return exponent_from(text, j, source, most, true);
+            }
+            exponent_from(text, at + 1, source, most, false)
+        }
+        Char::End => Exponent::No,
+    }
+}
+
+// The decimal that the value at `at` writes.
+pub fn decimal_value(text: &[u8], at: usize) -> Decimals
+    ensures { λ r. ⌜ r ≡ decimalIn (value-there (now (text .entry)) at) ⌝ }
+{
+    if text.len() <= at {
+        return Decimals::No;
+    }
+    let source = Source::Value(text[at]);
+    match decimal_at(text, at + 1, source) {
+        Spelling::Reads(d, j) => match char_at(text, j, source) {
+            Char::Byte(_, _) => Decimals::No,
+            Char::End => Decimals::Is(d),
+        },
+        Spelling::Fails => Decimals::No,
+    }
+}
+
+// The text from `at` on is sixteen decimals, the last four equal to 0 0 0 1.
+pub fn sixteen_ok(text: &[u8], at: usize) -> bool
+    ensures { λ r. ⌜ r ≡ sixteen (says (drop at (now (text .entry)))) ⌝ }
+{
+    let mut left: u64 = 16;
+    let mut i = at;
+    while 0 < left {
+        let from = blanks(text, i);
+        match decimal_at(text, from, Source::Contents) {
+            Spelling::Reads(d, j) => {
+                left -= 1;
+                i = j;
+                if !right_at(left, d) {
+                    return false;
+                }
+            }
+            Spelling::Fails => {
+                return false;
+            }
+        }
+    }
+    let from = blanks(text, i);
+    match letter(text, from) {
+        Char::Byte(_, _) => false,
+        Char::End => true,
+    }
+}
+
+// The place behind the plain blanks at `at`: those that stand in the text as they are.
+fn plain_blanks(text: &[u8], at: usize) -> usize
+    ensures { λ r. ⌜ nextNumber (now (text .entry)) at ≡ nextNumber (now (text .entry)) r ⌝ }
+{
+    let mut i = at;
+    while i < text.len() {
+        if !tokens::classes::is_blank(text[i]) {
+            return i;
+        }
+        i += 1;
+    }
+    i
+}
+
+// The plain digits at `at`, at most 7.
+fn plain_digits(text: &[u8], at: usize) -> Run
+    ensures { λ r. ⌜ Plain (now (text .entry)) at r ⌝ }
+{
+    let mut n: u64 = 0;
+    let mut k: u64 = 0;
+    let mut i = at;
+    while k < 7 {
+        if text.len() <= i {
+            return Run {
+                value: n,
+                count: k,
+                next: i,
+            };
+        }
+        let b = text[i];
+        if b < 48 {
+            return Run {
+                value: n,
+                count: k,
+                next: i,
+            };
+        }
+        if 57 < b {
+            return Run {
+                value: n,
+                count: k,
+                next: i,
+            };
+        }
+        n = n * 10 + wide(b - 48);
+        k += 1;
+        i += 1;
+    }
+    Run {
+        value: n,
+        count: k,
+        next: i,
+    }
+}
+
+// The next number, whatever stands between the digits.
+fn number_at(text: &[u8], at: usize) -> Next
+    ensures { λ r. ⌜ r ≡ nextNumber (now (text .entry)) at ⌝ }
+{
+    let i = blanks(text, at);
+    let run = digits(text, i, Source::Contents, 7, 0);
+    if run.count == 0 {
+        match letter(text, run.next) {
+            Char::Byte(_, _) => {
+                return Next::Bad;
+            }
+            Char::End => {
+                return Next::End;
+            }
+        }
+    }
+    if word_ends(text, run.next, Source::Contents) {
+        return Next::Number(run.value, run.next);
+    }
+    Next::Bad
+}
+
+// The next number of the list in a text, from `at` on.
+pub fn next_number(text: &[u8], at: usize) -> Next
+    ensures { λ r. ⌜ r ≡ nextNumber (now (text .entry)) at ⌝ }
+{
+    let i = plain_blanks(text, at);
+    let run = plain_digits(text, i);
+    let j = run.next;
+    if run.count == 0 {
+        return number_at(text, i);
+    }
+    if text.len() <= j {
+        return number_at(text, i);
+    }
+    if tokens::classes::is_blank(text[j]) {
+        return Next::Number(run.value, j);
+    }
+    number_at(text, i)
+}

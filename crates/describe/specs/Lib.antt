@@ -1,0 +1,9 @@
+pub mod Kind
+pub mod Reach
+pub mod Room
+pub mod Series
+pub mod Listing
+pub mod Said
+pub mod Names
+pub mod NamesOn
+pub mod OfDocument

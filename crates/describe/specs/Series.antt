@@ -1,0 +1,163 @@
+-- WHAT A SERIES MAP SAYS, attribute by attribute.
+use mathlib.Core.Path.{_≡_, refl, sym, ap, _∙_}
+use mathlib.Core.List.{List}
+use mathlib.Core.Bool.{Bool, true, false}
+use Prim.Native.Nat.{ℕ}
+use Prim.Native.String.{String}
+use lib.IntN.{ℤ, pos}
+use borrow.Author.Needs.{needs}
+use Rattle.lists.specs.Lists.{all}
+use Rattle.grammar.specs.Bytes.{ascii}
+use Rattle.grammar.specs.Document.{Element}
+use Rattle.grammar.specs.Look.{Word, attr, is}
+use Rattle.grammar.specs.Parser.{same}
+use Rattle.nodes.specs.Places.{Stands, the}
+use Rattle.nodes.specs.Attributes.{place}
+use Rattle.nodes.specs.Values.{value-there}
+use Rattle.nodes.specs.declared.Found.{Found}
+use Rattle.nodes.specs.declared.Found.the-variants.{At, Nothing}
+use Rattle.numbers.specs.Numbers.{numbers, decimal, decimalValue, exponent, exponentValue}
+use Rattle.numbers.specs.Answers.{scaled, decimalIn, exponentIn}
+use Rattle.numbers.specs.declared.Scaled.{Scaled}
+use Rattle.numbers.specs.declared.Decimals.{Decimals}
+use Rattle.numbers.specs.declared.Decimals.the-variants as decimals
+use Rattle.numbers.specs.declared.Exponent.{Exponent}
+use Rattle.numbers.specs.declared.Exponent.the-variants as exponents
+use Rattle.cifti.specs.Words.{units, numberIn}
+use Rattle.cifti.specs.Rows as kinds
+use Rattle.cifti.specs.Answer.{asDecimal}
+use Rattle.cifti.specs.declared.answer.Decimal.{Decimal}
+use Rattle.cifti.specs.declared.answer.Series as S
+use Rattle.maps.specs.Good.{Good}
+use Rattle.maps.specs.Kinds.{SeriesFacts, series-facts}
+use Rattle.maps.specs.Fields.{wordAt, word-at, found-value, found-none}
+
+abbrev pub asWritten : Scaled → Decimal
+asWritten s = record { amount = s .amount; places = s .places }
+
+abbrev pub noDecimal : Decimal
+noDecimal = record { amount = pos 0; places = 0 }
+
+unfoldable pub orNoDecimal : Decimals → Decimal
+orNoDecimal (decimals.Is s) = asWritten s
+orNoDecimal decimals.No = noDecimal
+
+-- the decimal, zero where there is none
+unfoldable pub decimalSeen : Word → Decimal
+decimalSeen w = orNoDecimal (decimalIn w)
+
+unfoldable pub orNoExponent : Exponent → ℤ
+orNoExponent (exponents.Is n) = n
+orNoExponent exponents.No = pos 0
+
+unfoldable pub exponentSeen : Word → ℤ
+exponentSeen w = orNoExponent (exponentIn 30 w)
+
+decimal-seen : (w : Word) → decimal w ≡ true → decimalSeen w ≡ asDecimal (decimalValue w)
+unfolding decimalSeen orNoDecimal decimalIn scaled asDecimal
+decimal-seen w h = rw h refl
+
+exponent-seen : (w : Word) → exponent 30 w ≡ true → exponentSeen w ≡ exponentValue w
+unfolding exponentSeen orNoExponent exponentIn
+exponent-seen w h = rw h refl
+
+-- ---- The attributes.
+
+module _ {text : List ℕ} {at : ℕ} (w : List ℕ) (st : Stands text at) {f : Found} (e : f ≡ place text at w) where
+  pub decimal-is : {v : ℕ} {a : Decimals} {d : Scaled} {r : Decimal} → f ≡ At v → a ≡ decimalIn (value-there text v) → a ≡ decimals.Is d → r ≡ asWritten d → r ≡ decimalSeen (wordAt w (the text at))
+  unfolding decimalSeen orNoDecimal
+  decimal-is h p q k = k ∙ sym (ap (λ x. orNoDecimal (decimalIn x)) (sym (found-value w st e h)) ∙ ap orNoDecimal (sym p ∙ q))
+
+  pub decimal-no : {v : ℕ} {a : Decimals} {r : Decimal} → f ≡ At v → a ≡ decimalIn (value-there text v) → a ≡ decimals.No → r ≡ noDecimal → r ≡ decimalSeen (wordAt w (the text at))
+  unfolding decimalSeen orNoDecimal
+  decimal-no h p q k = k ∙ sym (ap (λ x. orNoDecimal (decimalIn x)) (sym (found-value w st e h)) ∙ ap orNoDecimal (sym p ∙ q))
+
+  pub decimal-none : {r : Decimal} → f ≡ Nothing → r ≡ noDecimal → r ≡ decimalSeen (wordAt w (the text at))
+  unfolding decimalSeen orNoDecimal decimalIn numbers all
+  decimal-none h k = k ∙ rw (found-none w st e h) refl
+
+  pub exponent-is : {v : ℕ} {a : Exponent} {n : ℤ} → f ≡ At v → a ≡ exponentIn 30 (value-there text v) → a ≡ exponents.Is n → n ≡ exponentSeen (wordAt w (the text at))
+  unfolding exponentSeen orNoExponent
+  exponent-is h p q = sym (ap (λ x. orNoExponent (exponentIn 30 x)) (sym (found-value w st e h)) ∙ ap orNoExponent (sym p ∙ q))
+
+  pub exponent-no : {v : ℕ} {a : Exponent} → f ≡ At v → a ≡ exponentIn 30 (value-there text v) → a ≡ exponents.No → pos 0 ≡ exponentSeen (wordAt w (the text at))
+  unfolding exponentSeen orNoExponent
+  exponent-no h p q = sym (ap (λ x. orNoExponent (exponentIn 30 x)) (sym (found-value w st e h)) ∙ ap orNoExponent (sym p ∙ q))
+
+  pub exponent-none : f ≡ Nothing → pos 0 ≡ exponentSeen (wordAt w (the text at))
+  unfolding exponentSeen orNoExponent exponentIn numbers all
+  exponent-none h = rw (found-none w st e h) refl
+
+pub ruleset decimalSteps = (decimal-is, decimal-no, decimal-none, needs)
+
+pub ruleset exponentSteps = (exponent-is, exponent-no, exponent-none, needs)
+
+-- ---- The unit.
+
+module _ (e : Element) where
+  unit-told : (s : String) {b : Bool} → b ≡ same (wordAt (ascii "SeriesUnit") e) (ascii s) → b ≡ is s (attr "SeriesUnit" e)
+  unfolding is
+  unit-told s p = p ∙ ap (λ x. same x (ascii s)) (word-at "SeriesUnit" e)
+
+  module _ {a : Bool} (p : a ≡ same (wordAt (ascii "SeriesUnit") e) (ascii "SECOND")) where
+    pub unit-second : a ≡ true → 0 ≡ numberIn units (attr "SeriesUnit" e)
+    unfolding numberIn units
+    unit-second t = rw (sym (unit-told "SECOND" p) ∙ t)
+
+    module _ (f : a ≡ false) {b : Bool} (q : b ≡ same (wordAt (ascii "SeriesUnit") e) (ascii "HERTZ")) where
+      pub unit-hertz : b ≡ true → 1 ≡ numberIn units (attr "SeriesUnit" e)
+      unfolding numberIn units
+      unit-hertz t = rw (sym (unit-told "SECOND" p) ∙ f, sym (unit-told "HERTZ" q) ∙ t)
+
+      module _ (g : b ≡ false) {c : Bool} (r : c ≡ same (wordAt (ascii "SeriesUnit") e) (ascii "METER")) where
+        pub unit-meter : c ≡ true → 2 ≡ numberIn units (attr "SeriesUnit" e)
+        unfolding numberIn units
+        unit-meter t = rw (sym (unit-told "SECOND" p) ∙ f, sym (unit-told "HERTZ" q) ∙ g, sym (unit-told "METER" r) ∙ t)
+
+        module _ (h : c ≡ false) {d : Bool} (s : d ≡ same (wordAt (ascii "SeriesUnit") e) (ascii "RADIAN")) where
+          pub unit-radian : d ≡ true → 3 ≡ numberIn units (attr "SeriesUnit" e)
+          unfolding numberIn units
+          unit-radian t = rw (sym (unit-told "SECOND" p) ∙ f, sym (unit-told "HERTZ" q) ∙ g, sym (unit-told "METER" r) ∙ h, sym (unit-told "RADIAN" s) ∙ t)
+
+          pub unit-none : d ≡ false → 4 ≡ numberIn units (attr "SeriesUnit" e)
+          unfolding numberIn units
+          unit-none t = rw (sym (unit-told "SECOND" p) ∙ f, sym (unit-told "HERTZ" q) ∙ g, sym (unit-told "METER" r) ∙ h, sym (unit-told "RADIAN" s) ∙ t)
+
+pub ruleset unitSteps = (unit-second, unit-hertz, unit-meter, unit-radian, unit-none, needs)
+
+-- ---- All of it.
+
+pub record SeriesAt (text : List ℕ) (at : ℕ) : Type 0 where
+  pub stands : Stands text at
+  pub good : Good kinds.series (the text at)
+
+pub series-stands : {text : List ℕ} {at : ℕ} → SeriesAt text at → Stands text at
+series-stands s = s .stands
+
+unfoldable pub seriesSaid : Element → S.Series
+seriesSaid e = record {
+  start = asDecimal (decimalValue (attr "SeriesStart" e));
+  step = asDecimal (decimalValue (attr "SeriesStep" e));
+  exponent = exponentValue (attr "SeriesExponent" e);
+  unit = numberIn units (attr "SeriesUnit" e);
+}
+
+pub series-read : {text : List ℕ} {at : ℕ} → SeriesAt text at → {a b : Decimal} {x : ℤ} {u : ℕ}
+    → a ≡ decimalSeen (wordAt (ascii "SeriesStart") (the text at)) → b ≡ decimalSeen (wordAt (ascii "SeriesStep") (the text at))
+    → x ≡ exponentSeen (wordAt (ascii "SeriesExponent") (the text at)) → u ≡ numberIn units (attr "SeriesUnit" (the text at))
+    → _≡_ {A = S.Series} (record { start = a; step = b; exponent = x; unit = u }) (seriesSaid (the text at))
+unfolding seriesSaid
+series-read {text} {at} s p q r t = build
+    (p ∙ ap decimalSeen (word-at "SeriesStart" (the text at)) ∙ decimal-seen _ (f .start))
+    (q ∙ ap decimalSeen (word-at "SeriesStep" (the text at)) ∙ decimal-seen _ (f .step))
+    (r ∙ ap exponentSeen (word-at "SeriesExponent" (the text at)) ∙ exponent-seen _ (f .exponent-in))
+    t
+  where
+    f : SeriesFacts (the text at)
+    f = series-facts (s .good)
+
+    build : {a b c d : Decimal} {x y : ℤ} {u v : ℕ} → a ≡ c → b ≡ d → x ≡ y → u ≡ v
+        → _≡_ {A = S.Series} (record { start = a; step = b; exponent = x; unit = u }) (record { start = c; step = d; exponent = y; unit = v })
+    build p q r t = rw (p, q, r, t) refl
+
+pub ruleset seriesSteps = (series-stands, series-read, needs)

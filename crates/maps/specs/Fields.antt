@@ -1,0 +1,89 @@
+-- The attributes of an element, as words and numbers.
+use mathlib.Core.Path.{_≡_, refl, sym, ap, _∙_}
+use mathlib.Core.List.{List, [], _∷_}
+use mathlib.Core.Option.{Option, some}
+use mathlib.Core.Option
+use mathlib.Core.Bool.{Bool, true, false, cond, _&&_}
+use Prim.Native.Nat.{ℕ, _≤_}
+use Prim.Native.String.{String}
+use lib.ListN.{length}
+use lib.Dec.{eqb}
+use Rattle.grammar.specs.Bytes.{ascii}
+use Rattle.grammar.specs.Document.{Element}
+use Rattle.grammar.specs.Look.{Word, attributesOf, orEmpty, attr, valueIn, has, is}
+use Rattle.grammar.specs.Parser.{same}
+use Rattle.numbers.specs.Numbers.{whole, value, digits}
+use Rattle.lists.specs.Lists.{all}
+use borrow.Author.Needs.{needs}
+use borrow.Author.Tests.{ne-eqb}
+use native.Mathlib.Omega.{arith}
+use Rattle.nodes.specs.Places.{Stands, the}
+use Rattle.nodes.specs.Attributes.{place, lookup, lookup-is, Held, missing, held, attribute-law}
+use Rattle.nodes.specs.Values.{value-there, value-law}
+use Rattle.nodes.specs.declared.Found.{Found}
+use Rattle.nodes.specs.declared.Found.the-variants.{At, Nothing}
+use Rattle.numbers.specs.Answers.{wholeIn}
+use Rattle.numbers.specs.declared.Whole.{Whole}
+use Rattle.numbers.specs.declared.Whole.the-variants.{Is, No}
+
+-- the value of the attribute that is so named, empty where there is none
+unfoldable pub wordAt : List ℕ → Element → Word
+wordAt w e = orEmpty (lookup w (attributesOf e))
+
+unfoldable pub orZero : Whole → ℕ
+orZero (Is n) = n
+orZero No = 0
+
+unfoldable pub numberSeen : (lo hi : ℕ) → Word → ℕ
+numberSeen lo hi w = orZero (wholeIn lo hi w)
+
+pub word-at : (s : String) (e : Element) → wordAt (ascii s) e ≡ attr s e
+unfolding wordAt attr
+word-at s e = ap orEmpty (lookup-is s (attributesOf e))
+
+-- a number that is in form
+pub number-seen : (lo hi : ℕ) (w : Word) → whole lo hi w ≡ true → numberSeen lo hi w ≡ value w
+unfolding numberSeen wholeIn orZero
+number-seen lo hi w h = rw h
+
+-- what stands where the attribute was found
+module _ {text : List ℕ} {at : ℕ} (w : List ℕ) (st : Stands text at) {f : Found} (e : f ≡ place text at w) where
+  pub found-value : {v : ℕ} → f ≡ At v → value-there text v ≡ wordAt w (the text at)
+  unfolding wordAt orEmpty
+  found-value {v} h = go (lookup w (attributesOf (the text at))) (rw (sym e ∙ h) at (attribute-law w st))
+    where
+      go : (o : Option Word) → Held text (At v) o → value-there text v ≡ orEmpty o
+      go (some x) (held k) = value-law k
+
+  pub found-none : f ≡ Nothing → wordAt w (the text at) ≡ []
+  unfolding wordAt orEmpty
+  found-none h = go (lookup w (attributesOf (the text at))) (rw (sym e ∙ h) at (attribute-law w st))
+    where
+      go : (o : Option Word) → Held text Nothing o → orEmpty o ≡ []
+      go Option.none missing = refl
+
+  -- the paths of `attribute_number` and `attribute_is`
+  pub seen-is : (lo hi : ℕ) {v n : ℕ} {a : Whole} → f ≡ At v → a ≡ wholeIn lo hi (value-there text v) → a ≡ Is n → n ≡ numberSeen lo hi (wordAt w (the text at))
+  unfolding numberSeen orZero
+  seen-is lo hi h p q = sym (ap (λ x. orZero (wholeIn lo hi x)) (sym (found-value h)) ∙ ap orZero (sym p ∙ q))
+
+  pub seen-no : (lo hi : ℕ) {v : ℕ} {a : Whole} → f ≡ At v → a ≡ wholeIn lo hi (value-there text v) → a ≡ No → 0 ≡ numberSeen lo hi (wordAt w (the text at))
+  unfolding numberSeen orZero
+  seen-no lo hi h p q = sym (ap (λ x. orZero (wholeIn lo hi x)) (sym (found-value h)) ∙ ap orZero (sym p ∙ q))
+
+  pub seen-none : (lo hi : ℕ) → f ≡ Nothing → 0 ≡ numberSeen lo hi (wordAt w (the text at))
+  unfolding numberSeen orZero wholeIn whole digits all
+  seen-none lo hi h = rw (found-none h)
+
+  pub is-there : (word : List ℕ) {v : ℕ} {b : Bool} → f ≡ At v → b ≡ same (value-there text v) word → b ≡ same (wordAt w (the text at)) word
+  is-there word h p = p ∙ ap (λ x. same x word) (found-value h)
+
+  pub is-missing : (word : List ℕ) → f ≡ Nothing → eqb (length word) 0 ≡ same (wordAt w (the text at)) word
+  unfolding same
+  is-missing word h = rw (found-none h) (go word)
+    where
+      go : (word : List ℕ) → eqb (length word) 0 ≡ same [] word
+      go [] = refl
+      go (a ∷ word) = ne-eqb (length (a ∷ word)) 0 (λ z. omega arith)
+
+pub ruleset fieldSteps = (seen-is, seen-no, seen-none, is-there, is-missing, needs)

@@ -1,0 +1,16 @@
+pub mod Good
+pub mod Kinds
+pub mod Chain
+pub mod Fill
+pub mod Table
+pub mod Fields
+pub mod Dimensions
+pub mod Seen
+pub mod Listed
+pub mod Survey
+pub mod Ready
+pub mod Digits
+pub mod Eight
+pub mod Sums
+pub mod Nine
+pub mod Unread

@@ -1,0 +1,62 @@
+-- THE TABLE OF A MAP: all its models' records, each written at its offset, one model after the other, are its stretch.
+use mathlib.Core.Path.{_≡_, refl, sym, ap, _∙_}
+use mathlib.Core.List.{List, [], _∷_, _++_}
+use mathlib.Core.Bool.{Bool, true, false, cond}
+use Prim.Native.Nat.{ℕ, zero, suc, _+_, _-_, _<_, _≤_}
+use native.Mathlib.Nat.{le-of-suc-le-suc}
+use native.Mathlib.Omega.{arith}
+use lib.ListN.{length, getD}
+use Rattle.lists.specs.Lists.{each, total, count, table}
+use Rattle.lists.specs.Quantifiers.{EveryPlace, OnePlace, count-one-iff}
+use Rattle.lists.specs.Laws.{length-each}
+use Rattle.records.specs.Record.{recordOf}
+use Rattle.records.specs.Fill.{wrote}
+use Rattle.cifti.specs.Maps.{Model, Map, models, locations, locationsBy, covers, lengthOf}
+use Rattle.cifti.specs.Conditions.{uneven, listsCount}
+use Rattle.cifti.specs.Answer.{recordAt, stretch}
+use Rattle.cifti.specs.Cover.{ranges-within}
+use Rattle.cifti.specs.Meaning.{Even, even-iff}
+use Rattle.cifti.specs.Repeats.{lists-count}
+use Rattle.maps.specs.Chain.{Counting, none-counts, one-counts, OnceBelow}
+use Rattle.maps.specs.Fill.{filled, entryAt, Fitting, none-fits, one-fits, filled-law, table-same}
+
+-- the records of a model, in the order of its list
+unfoldable pub recordsOf : Model → List ℕ
+recordsOf m = each recordOf (locations m)
+
+record-entry : (l : List Model) (n : ℕ) → entryAt recordsOf l n ≡ recordAt l n
+unfolding entryAt recordAt recordsOf
+record-entry [] n = refl
+record-entry (m ∷ l) n = ap (cond (covers n m) (getD (each recordOf (locations m)) (n - m .offset) 0)) (record-entry l n)
+
+records-length : (m : Model) → listsCount (m .count) (m .listed) ≡ true → length (recordsOf m) ≡ m .count
+unfolding recordsOf locations
+records-length m h = length-each recordOf (locationsBy (m .structure) (m .listed)) ∙ lists-count (m .structure) (m .count) (m .listed) h
+
+count-each-one : (b : Model) (l : List Model) → Counting l → (i : ℕ) → i < length l → 1 ≤ (getD l i b) .count
+count-each-one b [] none-counts i u = absurd (omega arith)
+count-each-one b (m ∷ l) (one-counts h k) zero u = h
+count-each-one b (m ∷ l) (one-counts h k) (suc i) u = count-each-one b l k i (le-of-suc-le-suc u)
+
+-- models that fit, by places
+all-fit : (f : Model → List ℕ) (b : Model) (size : ℕ) (l : List Model) → ((i : ℕ) → i < length l → length (f (getD l i b)) ≡ (getD l i b) .count)
+    → ((i : ℕ) → i < length l → (getD l i b) .offset + (getD l i b) .count ≤ size) → Fitting f size l
+all-fit f b size [] h k = none-fits
+all-fit f b size (m ∷ l) h k = one-fits (h 0 (omega arith)) (k 0 (omega arith)) (all-fit f b size l (λ i u. h (suc i) (omega arith)) (λ i u. k (suc i) (omega arith)))
+
+module _ (b : Model) (m : Map) (even : uneven m ≡ false) (counting : Counting (models m)) (size : lengthOf m ≡ total (λ x. x .count) (models m)) where
+  once : OnceBelow (models m) (total (λ x. x .count) (models m))
+  once i u = count-one-iff b (covers i) (models m) .1 (even-iff b m .0 even .one i (omega (arith, size)))
+
+  pub fitting : Fitting recordsOf (lengthOf m) (models m)
+  fitting =
+      let e = even-iff b m .0 even in
+      all-fit recordsOf b (lengthOf m) (models m) (λ i u. records-length (getD (models m) i b) (e .lists i u))
+      (λ i u. (let w = ranges-within b (models m) once i u (count-each-one b (models m) counting i u) in omega (arith, size)))
+
+  -- THE LAW: the models' records, one model after the other, are the stretch
+  pub table-law : (start : ℕ) (s : List ℕ) → start + lengthOf m ≤ length s → filled recordsOf start (models m) s ≡ wrote start (stretch m) s
+  unfolding stretch
+  table-law start s fits =
+      filled-law recordsOf start (lengthOf m) (models m) s fitting fits (λ n u. once n (omega (arith, size)))
+      ∙ ap (λ t. wrote start t s) (table-same (record-entry (models m)) (lengthOf m))

@@ -1,0 +1,18 @@
+use Rattle.markup.proofs.LawsPieces.{fronts}
+use Rattle.markup.proofs.pieces.front_at.Statement.{statement}
+use Rattle.markup.proofs.pieces.front_at.Tie as tie
+
+pub front-at-spec : {M : Type 1} → statement M
+front-at-spec =
+    tie.close
+    (tie.spec
+    (λ c. search fronts)
+    (λ c. search fronts)
+    (λ c. search fronts)
+    (λ c. search fronts)
+    (λ c. search fronts)
+    (λ c. search fronts)
+    (λ c. search fronts)
+    (λ c. search fronts)
+    (λ c. search fronts)
+    (λ c. search fronts))

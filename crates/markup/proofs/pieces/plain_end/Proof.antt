@@ -1,0 +1,27 @@
+use Rattle.markup.proofs.LawsPieces.{scanning, Scanning}
+use Prim.Native.Nat.{_-_}
+use lib.ListN.{length}
+use Rattle.markup.specs.Pieces.{plain}
+use Rattle.markup.proofs.pieces.plain_end.Statement.{statement}
+use Rattle.markup.proofs.pieces.plain_end.Tie as tie
+
+abbrev Inv-loop : tie.InvT-loop
+Inv-loop text at i₀ i = Scanning plain text at i
+
+abbrev μ-loop : tie.MeasureT-loop
+μ-loop text at i₀ i = length text - i
+
+pub plain-end-spec : {M : Type 1} → statement M
+plain-end-spec =
+    tie.close
+    (tie.spec
+    Inv-loop
+    μ-loop
+    (λ c. search scanning)
+    (λ c. search scanning)
+    (λ c κs. search scanning)
+    (λ c. search scanning)
+    (λ c. search scanning)
+    (λ c. search scanning)
+    (λ c. search scanning)
+    (λ c. search scanning))

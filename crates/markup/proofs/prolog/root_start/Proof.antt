@@ -1,0 +1,14 @@
+use Rattle.markup.proofs.LawsPrologue.{prologues}
+use Rattle.markup.proofs.prolog.root_start.Statement.{statement}
+use Rattle.markup.proofs.prolog.root_start.Tie as tie
+
+pub root-start-spec : {M : Type 1} → statement M
+root-start-spec =
+    tie.close
+    (tie.spec
+    (λ c κs. search prologues)
+    (λ c. search prologues)
+    (λ c κs. search prologues)
+    (λ c. search prologues)
+    (λ c. search prologues)
+    (λ c. search prologues))

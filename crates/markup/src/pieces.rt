@@ -1,0 +1,161 @@
+// What stands between the tags in contents: characters and comments.
+use tokens::Step;
+use tokens::blanks::starts;
+use tokens::characters::character_end;
+use tokens::characters::reference_end;
+use tokens::comments::comment_end;
+ghost use mathlib.Core.Path.{_≡_};
+ghost use Prim.Native.Nat.{_<_};
+ghost use lib.ListN.{length, drop, getD};
+ghost use Rattle.grammar.specs.Read.{span};
+ghost use Rattle.grammar.specs.Parser.{look, text-at};
+ghost use Rattle.tokens.specs.Step.{stepped};
+ghost use Rattle.markup.specs.Row.{piece-at, pieces-at};
+ghost use Rattle.markup.specs.Pieces.{plain, front, halted, between};
+
+// What stands at the front of contents.
+pub enum Front {
+    Close,
+    Comment,
+    Start,
+    Text,
+}
+
+// Where characters and comments end: before an end tag or the end of the text, before a start tag, or nowhere.
+pub enum Between {
+    Close(usize),
+    Start(usize),
+    Bad,
+}
+
+pub fn front_at(text: &[u8], at: usize) -> Front
+    ensures { λ r. ⌜ r ≡ front (look (drop at (now (text .entry)))) ⌝ }
+{
+    if text.len() <= at {
+        return Front::Close;
+    }
+    if text[at] != 60 {
+        return Front::Text;
+    }
+    if text.len() <= at + 1 {
+        return Front::Start;
+    }
+    let b = text[at + 1];
+    if b == 47 {
+        return Front::Close;
+    }
+    if b == 33 {
+        return Front::Comment;
+    }
+    Front::Start
+}
+
+// One character of text, or one reference.
+pub fn text_end(text: &[u8], at: usize) -> Step
+    ensures { λ r. ⌜ r ≡ stepped (length (now (text .entry))) (text-at (drop at (now (text .entry)))) ⌝ }
+{
+    if text.len() <= at {
+        return Step::No;
+    }
+    let b = text[at];
+    if b == 38 {
+        return reference_end(text, at);
+    }
+    if b == 60 {
+        return Step::No;
+    }
+    character_end(text, at)
+}
+
+// A `]`, which begins no `]]>`.
+fn bracket_end(text: &[u8], at: usize) -> Step
+    requires { ⌜ (at < length (now text)) × (getD (now text) at 0 ≡ 93) ⌝ }
+    ensures { λ r. ⌜ r ≡ stepped (length (now (text .entry))) (piece-at (drop at (now (text .entry)))) ⌝ }
+{
+    if starts(text, at, b"]]>") {
+        return Step::No;
+    }
+    Step::To(at + 1)
+}
+
+// A comment behind `<`, where no tag stands.
+fn remark_end(text: &[u8], at: usize) -> Step
+    requires { ⌜ (at < length (now text)) × (getD (now text) at 0 ≡ 60) ⌝ }
+    ensures { λ r. ⌜ r ≡ stepped (length (now (text .entry))) (piece-at (drop at (now (text .entry)))) ⌝ }
+{
+    match front_at(text, at) {
+        Front::Close => Step::No,
+        Front::Comment => comment_end(text, at),
+        Front::Start => Step::No,
+        Front::Text => Step::No,
+    }
+}
+
+// One comment, or one character of text.
+pub fn piece_end(text: &[u8], at: usize) -> Step
+    ensures { λ r. ⌜ r ≡ stepped (length (now (text .entry))) (piece-at (drop at (now (text .entry)))) ⌝ }
+{
+    if text.len() <= at {
+        return Step::No;
+    }
+    let b = text[at];
+    if b == 60 {
+        return remark_end(text, at);
+    }
+    if b == 93 {
+        return bracket_end(text, at);
+    }
+    text_end(text, at)
+}
+
+// A byte that is a character of text by itself, and begins no `]]>`.
+pub fn is_plain(b: u8) -> bool
+    ensures { λ r. ⌜ r ≡ plain b ⌝ }
+{
+    (((b == 32) | ((b == 9) | ((b == 10) | (b == 13)))) | ((32 <= b) & (b <= 127)))
+        & (!((b == 60) | (b == 38)) & !(b == 93))
+}
+
+// Where plain bytes end.
+pub fn plain_end(text: &[u8], at: usize) -> usize
+    ensures { λ r. ⌜ Step.To r ≡ stepped (length (now (text .entry))) (span plain (drop at (now (text .entry)))) ⌝ }
+{
+    let mut i = at;
+    while i < text.len() {
+        if !is_plain(text[i]) {
+            return i;
+        }
+        i += 1;
+    }
+    text.len()
+}
+
+// What stands at `at`, where no piece does.
+fn halt_at(text: &[u8], at: usize) -> Between
+    ensures { λ r. ⌜ r ≡ halted (look (drop at (now (text .entry)))) at ⌝ }
+{
+    match front_at(text, at) {
+        Front::Close => Between::Close(at),
+        Front::Comment => Between::Bad,
+        Front::Start => Between::Start(at),
+        Front::Text => Between::Bad,
+    }
+}
+
+// Characters and comments, as far as they go.
+pub fn between_end(text: &[u8], at: usize) -> Between
+    ensures { λ r. ⌜ r ≡ between (length (now (text .entry))) (pieces-at (drop at (now (text .entry)))) ⌝ }
+{
+    let mut i = at;
+    loop {
+        let j = plain_end(text, i);
+        match piece_end(text, j) {
+            Step::To(k) => {
+                i = k;
+            }
+            Step::No => {
+                return halt_at(text, j);
+            }
+        }
+    }
+}

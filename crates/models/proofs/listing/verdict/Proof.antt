@@ -1,0 +1,7 @@
+use Rattle.models.specs.Verdicts.{byTests}
+use native.Mathlib.Omega.{arith}
+use Rattle.models.proofs.listing.verdict.Statement.{statement}
+use Rattle.models.proofs.listing.verdict.Tie as tie
+
+pub verdict-spec : {M : Type 1} → statement M
+verdict-spec = tie.close (tie.spec (λ c. search byTests) (λ c. search byTests) (λ c. search byTests))

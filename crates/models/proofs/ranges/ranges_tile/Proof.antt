@@ -1,0 +1,28 @@
+use Prim.Native.Nat.{_-_}
+use Rattle.models.specs.Chaining.{Chaining, chaining}
+use native.Mathlib.Omega.{arith}
+use Rattle.models.proofs.ranges.ranges_tile.Statement.{statement}
+use Rattle.models.proofs.ranges.ranges_tile.Tie as tie
+
+abbrev Inv-loop : tie.InvT-loop
+Inv-loop models end index₀ index = Chaining models end index
+
+abbrev μ-loop : tie.MeasureT-loop
+μ-loop models end index₀ index = end - index
+
+pub ranges-tile-spec : {M : Type 1} → statement M
+ranges-tile-spec =
+    tie.close
+    (tie.spec
+    Inv-loop
+    μ-loop
+    (λ c κs. search chaining)
+    (λ c. search chaining)
+    (λ c κs. search chaining)
+    (λ c. search chaining)
+    (λ c. search chaining)
+    (λ c. search chaining)
+    (λ c. search chaining)
+    (λ c. search chaining)
+    (λ c. search chaining)
+    (λ c. search chaining))

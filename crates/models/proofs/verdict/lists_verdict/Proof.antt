@@ -1,0 +1,10 @@
+use Rattle.models.specs.Judging.{ruling}
+use native.Mathlib.Omega.{arith}
+use borrow.Author.Needs.{needs}
+use Rattle.models.proofs.verdict.lists_verdict.Statement.{statement}
+use Rattle.models.proofs.verdict.lists_verdict.Tie as tie
+
+pub lists-verdict-spec : {M : Type 1} → statement M
+lists-verdict-spec =
+    tie.close
+    (tie.spec (λ c κs. search ruling) (λ c. search ruling) (λ c κs. search needs) (λ c κs. search needs) (λ c. search ruling))

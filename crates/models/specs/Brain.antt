@@ -1,0 +1,123 @@
+-- A BRAIN MAP AT A PLACE OF A TEXT, good as conditions 6 and 7 ask: what its content is, and what its children are.
+use mathlib.Core.Path.{_≡_, refl, sym, ap, _∙_}
+use mathlib.Core.List.{List, [], _∷_, _++_}
+use mathlib.Core.Bool.{Bool, true, false, cond, _&&_}
+use Prim.Native.Nat.{ℕ, _+_, _*_, _<_, _≤_}
+use Prim.Native.String.{String}
+use native.Mathlib.Omega.{arith}
+use lib.ListN.{length}
+use Rattle.lists.specs.Lists.{those, each, total}
+use Rattle.grammar.specs.Bytes.{ascii}
+use Rattle.grammar.specs.Document.{Element}
+use Rattle.grammar.specs.Facts.{and-left, and-right, within}
+use Rattle.grammar.specs.Look.{Word, is, nameOf, contentsOf, attr, has, elements, children}
+use Rattle.numbers.specs.Numbers.{whole, digits, value}
+use Rattle.nodes.specs.Places.{Stands, the}
+use Rattle.nodes.specs.Children.{first, next, left}
+use Rattle.nodes.specs.Names.{named, name-is-law}
+use Rattle.nodes.specs.Walk.{kids, Walk, Turn, walk-children, kids-children, walk-none, turn-at, turn-splits, turn-falls}
+use Rattle.nodes.specs.declared.Kid.{Kid}
+use Rattle.nodes.specs.declared.Kid.the-variants.{Child, Done}
+use Rattle.cifti.specs.Rows.{ElementKind, brainModels}
+use Rattle.cifti.specs.Maps.{Model, Map, Content, brain, Voxel, modelOf, sizesOf, contentOf, mapOf, models, modelsBy, volumeOf, volumeBy, lengthOf, lengthBy}
+use Rattle.maps.specs.Good.{Good, GoodAs, AllGood, none-left, one-good}
+use Rattle.maps.specs.Kinds.{brainRows, GoodModel, good-model, brain-children}
+
+pub record BrainAt (text : List ℕ) (map : ℕ) : Type 0 where
+  pub stands : Stands text map
+  pub good : Good brainModels (the text map)
+  pub is-brain : has "IndicesMapToDataType" "CIFTI_INDEX_TYPE_BRAIN_MODELS" (the text map) ≡ true
+
+-- in a text that condition 2 lets pass
+pub record BrainIn (text : List ℕ) (map : ℕ) : Type 0 where
+  pub brain : BrainAt text map
+  pub short : length text ≤ 16777216
+
+-- ---- The content of a brain map.
+
+module _ (e : Element) (h : has "IndicesMapToDataType" "CIFTI_INDEX_TYPE_BRAIN_MODELS" e ≡ true) where
+  pub brain-content : contentOf e ≡ brain (sizesOf e) (each modelOf (children "BrainModel" e))
+  unfolding contentOf
+  brain-content = rw h
+
+  pub brain-models : models (mapOf e) ≡ each modelOf (children "BrainModel" e)
+  unfolding models modelsBy mapOf
+  brain-models = ap modelsBy brain-content
+
+  pub brain-volume : volumeOf (mapOf e) ≡ sizesOf e
+  unfolding volumeOf volumeBy mapOf
+  brain-volume = ap volumeBy brain-content
+
+  pub brain-sum : lengthBy (contentOf e) ≡ total (λ m. m .count) (each modelOf (children "BrainModel" e))
+  unfolding lengthBy
+  brain-sum = ap lengthBy brain-content
+
+-- ---- Its children, one after the other.
+
+-- those that are models
+unfoldable pub isModel : Element → Bool
+isModel e = is "BrainModel" (nameOf e)
+
+pub models-are : (e : Element) → children "BrainModel" e ≡ those isModel (elements (contentsOf e))
+unfolding children isModel
+models-are e = refl
+
+-- a cursor among the children: each that is ahead is good
+pub record Among (text : List ℕ) (kid : Kid) : Type 0 where
+  pub walk : Walk text kid
+  pub good : AllGood brainRows (kids text kid)
+
+pub among-start : {text : List ℕ} {map : ℕ} → BrainAt text map → Among text (first text map)
+among-start b = record { walk = walk-children (b .stands); good = rw (kids-children (b .stands)) (brain-children (b .good)) }
+
+good-head : {e : Element} {l : List Element} → AllGood brainRows (e ∷ l) → GoodAs brainRows e
+good-head (one-good g h) = g
+
+good-tail : {e : Element} {l : List Element} → AllGood brainRows (e ∷ l) → AllGood brainRows l
+good-tail (one-good g h) = h
+
+module _ {text : List ℕ} {kid : Kid} (a : Among text kid) {k : ℕ} (is-child : kid ≡ Child k) where
+  pub among-stands : Stands text k
+  among-stands = turn-at (a .walk) is-child .stands
+
+  split : AllGood brainRows (the text k ∷ kids text (next text k))
+  split = rw (turn-splits (a .walk) is-child) at (a .good)
+
+  pub among-good : GoodAs brainRows (the text k)
+  among-good = good-head split
+
+  pub among-next : Among text (next text k)
+  among-next = record { walk = turn-at (a .walk) is-child .then; good = good-tail split }
+
+  pub among-falls : left text (next text k) < left text kid
+  among-falls = turn-falls (a .walk) is-child
+
+  module _ {b : Bool} (nm : b ≡ named text k (ascii "BrainModel")) where
+    pub among-named : b ≡ isModel (the text k)
+    unfolding isModel
+    among-named = nm ∙ name-is-law "BrainModel" among-stands
+
+    pub among-model : b ≡ true → GoodModel (the text k)
+    unfolding isModel
+    among-model t = good-model (the text k) among-good (sym among-named ∙ t)
+
+    -- the models that are ahead
+    pub among-yes : b ≡ true → those isModel (kids text kid) ≡ the text k ∷ those isModel (kids text (next text k))
+    unfolding those
+    among-yes t = rw (turn-splits (a .walk) is-child, sym among-named ∙ t)
+
+    pub among-no : b ≡ false → those isModel (kids text kid) ≡ those isModel (kids text (next text k))
+    unfolding those
+    among-no t = rw (turn-splits (a .walk) is-child, sym among-named ∙ t)
+
+pub among-none : {text : List ℕ} {kid : Kid} → Among text kid → kid ≡ Done → those isModel (kids text kid) ≡ []
+unfolding those
+among-none a e = rw (walk-none (a .walk) e)
+
+pub among-all : {text : List ℕ} {map : ℕ} → BrainAt text map → those isModel (kids text (first text map)) ≡ children "BrainModel" (the text map)
+among-all {text} {map} b = ap (those isModel) (kids-children (b .stands)) ∙ sym (models-are (the text map))
+
+-- a number in form is within its limits
+pub whole-within : (lo hi : ℕ) (w : Word) → whole lo hi w ≡ true → (lo ≤ value w) × (value w ≤ hi)
+unfolding whole
+whole-within lo hi w h = within lo hi (value w) (and-right (digits 1 7 w) _ h)

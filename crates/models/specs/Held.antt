@@ -1,0 +1,113 @@
+-- THE GATHERED MODELS, as lists: what the arrays hold is what the map's models are.
+use mathlib.Core.Path.{_≡_, refl, sym, ap, ap₂, _∙_}
+use mathlib.Core.List.{List, [], _∷_}
+use mathlib.Core.Bool.{Bool, true, false, cond, not, _||_, _&&_}
+use Prim.Native.Nat.{ℕ, zero, suc, _+_, _*_, _-_, _<_, _≤_}
+use native.Mathlib.Omega.{arith}
+use lib.Dec.{eqb}
+use lib.ListN.{length, getD, take}
+use borrow.Author.Needs.{needs}
+use Rattle.lists.specs.Lists.{table, countUp, each, all, any, count, total, allBelow}
+use Rattle.lists.specs.Laws.{count-each, count-same}
+use Rattle.grammar.specs.Look.{attr}
+use Rattle.nodes.specs.Places.{Stands, the}
+use Rattle.numbers.specs.Numbers.{value}
+use Rattle.cifti.specs.Maps.{Model, Map, modelOf, mapOf, models, lengthOf, lengthBy, contentOf, covers, volumeOf}
+use Rattle.cifti.specs.Conditions.{listsCount, uneven, beyond}
+use Rattle.maps.specs.Kinds.{GoodModel, model-facts}
+use Rattle.models.specs.Brain.{BrainAt, brain-models, brain-sum, whole-within}
+use Rattle.models.specs.Kind.{ModelAt, kindNumber}
+use Rattle.models.specs.Gathered.{Holds, HoldsAt, gathered, Sized, Gathered}
+use Rattle.models.specs.Tables.{up-one, up-done, up-all, each-take, each-table, table-below, size-of-table, entry-of-table}
+use Rattle.models.specs.Ranges.{ranging, rangeOf, rangesOf, sumOf, tiling, Ranged}
+use Rattle.models.specs.declared.gather.Models.{Models}
+
+-- what each entry holds
+pub record Holding (text : List ℕ) (m : Models) : Type 0 where
+  pub sized : Sized m
+  pub holds : (i : ℕ) → i < m .count → HoldsAt text m i
+
+pub record BrainHeld (text : List ℕ) (map : ℕ) (m : Models) : Type 0 where
+  pub brain : BrainAt text map
+  pub held : Gathered text map m
+
+pub holding : {text : List ℕ} {map : ℕ} {m : Models} → Gathered text map m → Holding text m
+holding g = record { sized = g .sized; holds = g .holds }
+
+-- the i-th model, and all of them
+unfoldable pub modelAt : List ℕ → Models → ℕ → Model
+modelAt text m i = modelOf (the text (getD (m .at) i 0))
+
+unfoldable pub modelsAt : List ℕ → Models → List Model
+modelsAt text m = table (m .count) (modelAt text m)
+
+-- THE LAWS of the gathered models
+module _ {text : List ℕ} {map : ℕ} {m : Models} (h : BrainHeld text map m) where
+  pub held-models : models (mapOf (the text map)) ≡ modelsAt text m
+  unfolding gathered modelsAt modelAt
+  held-models =
+      brain-models (the text map) (h .brain .is-brain)
+      ∙ ap (each modelOf) (sym (h .held .all-of-them) ∙ each-take (the text) (m .at) (m .count) (omega (arith, h .held .sized .few, h .held .sized .at-64)))
+      ∙ each-table modelOf (λ k. the text (getD (m .at) k 0)) (m .count)
+
+  pub held-count : length (models (mapOf (the text map))) ≡ m .count
+  unfolding modelsAt
+  held-count = ap length held-models ∙ size-of-table (modelAt text m) (m .count)
+
+  pub held-at : (b : Model) (i : ℕ) → i < m .count → getD (models (mapOf (the text map))) i b ≡ modelOf (the text (getD (m .at) i 0))
+  unfolding modelsAt modelAt
+  held-at b i u = ap (λ l. getD l i b) held-models ∙ entry-of-table (modelAt text m) b (m .count) i u
+
+-- ---- The ranges.
+
+pub held-ranged : {text : List ℕ} {m : Models} → Holding text m → Ranged m
+unfolding modelOf
+held-ranged {text} {m} h = record {
+  sized = h .sized;
+  least = λ i u. (let x = h .holds i u in let w = limits i u .0 in omega (arith, x .length-is));
+  most = λ i u. (let x = h .holds i u in let w = limits i u .1 in omega (arith, x .length-is));
+}
+  where
+    limits : (i : ℕ) → i < m .count → (1 ≤ value (attr "IndexCount" (the text (getD (m .at) i 0)))) × (value (attr "IndexCount" (the text (getD (m .at) i 0))) ≤ 1048576)
+    limits i u = whole-within 1 1048576 (attr "IndexCount" (the text (getD (m .at) i 0))) (model-facts (h .holds i u .model .good) .count)
+
+-- a model of which only the range is kept
+plain : Model → Model
+plain x = ranging (x .offset) (x .count)
+
+plain-covers : (n : ℕ) (x : Model) → covers n (plain x) ≡ covers n x
+unfolding covers plain ranging
+plain-covers n x = refl
+
+plain-sum : (l : List Model) → sumOf (each plain l) ≡ total (λ x. x .count) l
+unfolding sumOf total each plain ranging
+plain-sum [] = refl
+plain-sum (x ∷ l) = ap (λ n. x .count + n) (plain-sum l)
+
+below-same : (n : ℕ) {p q : ℕ → Bool} → ((i : ℕ) → p i ≡ q i) → allBelow n p ≡ allBelow n q
+unfolding allBelow
+below-same zero h = refl
+below-same (suc n) h = rw (h n, below-same n h)
+
+plain-tiling : (l : List Model) → tiling (each plain l) ≡ allBelow (total (λ x. x .count) l) (λ n. eqb (count (covers n) l) 1)
+unfolding tiling
+plain-tiling l =
+    ap (λ k. allBelow k (λ n. eqb (count (covers n) (each plain l)) 1)) (plain-sum l)
+    ∙ below-same (total (λ x. x .count) l) (λ n. ap (λ c. eqb c 1) (count-each plain (covers n) l ∙ count-same (plain-covers n) l))
+
+held-plain : {text : List ℕ} {m : Models} → Holding text m → rangesOf m ≡ each plain (modelsAt text m)
+unfolding rangesOf modelsAt rangeOf plain modelAt
+held-plain {text} {m} h =
+    table-below (m .count) (λ k u. (let x = h .holds k u in ap₂ ranging (x .offset-is) (x .length-is)))
+    ∙ sym (each-table plain (λ i. modelOf (the text (getD (m .at) i 0))) (m .count))
+
+pub held-tiling : {text : List ℕ} {map : ℕ} {m : Models} → BrainHeld text map m
+    → tiling (rangesOf m) ≡ allBelow (lengthOf (mapOf (the text map))) (λ n. eqb (count (covers n) (models (mapOf (the text map)))) 1)
+unfolding lengthOf mapOf
+held-tiling {text} {map} {m} h =
+    ap tiling (held-plain (holding (h .held)) ∙ ap (each plain) (sym (held-models h)))
+    ∙ plain-tiling (models (mapOf (the text map)))
+    ∙ ap (λ k. allBelow k (λ n. eqb (count (covers n) (models (mapOf (the text map)))) 1)) (sum-is ∙ refl)
+  where
+    sum-is : total (λ x. x .count) (models (mapOf (the text map))) ≡ lengthBy (contentOf (the text map))
+    sum-is = ap (total (λ x. x .count)) (brain-models (the text map) (h .brain .is-brain)) ∙ sym (brain-sum (the text map) (h .brain .is-brain))

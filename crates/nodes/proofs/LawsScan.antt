@@ -1,0 +1,190 @@
+-- The scan for tags, at a position of the text: one law for each way through the code.
+use mathlib.Core.Path.{_≡_, refl, sym, _∙_}
+use mathlib.Core.List.{List}
+use Prim.Native.Nat.{ℕ, _+_, _-_, _≤_, _<_}
+use native.Mathlib.Omega.{arith}
+use mathlib.Core.Bool.{Bool, true, false, _&&_, _||_}
+use lib.Dec.{eqb}
+use borrow.Author.Needs.{needs}
+use borrow.Author.Tests.{eq-eqb, ne-eqb}
+use lib.ListN.{length, drop, getD, length-drop}
+use Rattle.grammar.specs.Bytes.{quote}
+use Rattle.grammar.specs.Read.{got, bind, mark, test}
+use Rattle.grammar.specs.Parser.{closing, Look, at-close, at-comment, at-element, at-text, look}
+use Rattle.tokens.specs.Step.{stepped, at-byte, at-end, arrives, refuses}
+use Rattle.tokens.specs.declared.Step.the-variants.{To, No}
+use Rattle.nodes.specs.Scan.{to-tag, past-tag, quoting, finishes, finish, tag-from, tag-at}
+use Rattle.nodes.specs.Signs.{tagged}
+use Rattle.markup.specs.Pieces.{front}
+use Rattle.markup.specs.declared.pieces.Front.{Front}
+use Rattle.markup.specs.declared.pieces.Front.the-variants as front-is
+use Rattle.nodes.specs.declared.scan.Tag.{Tag}
+use Rattle.nodes.specs.declared.scan.Tag.the-variants as tag-is
+use Rattle.nodes.specs.declared.scan.Sign.the-variants as sign-is
+
+-- what a front says of a look
+pub front-look : (l : Look) (f : Front) → f ≡ front l → {k : Look} → f ≡ front k → l ≡ k
+unfolding front
+front-look l f e {k} q = same l k (sym e ∙ q)
+  where
+    clash : {A : Type 0} → _≡_ {A = ℕ} 0 1 → A
+    clash z = absurd (omega arith)
+
+    same : (l k : Look) → front l ≡ front k → l ≡ k
+    same at-close at-close q = refl
+    same at-close at-comment q = clash (cc)
+    same at-close at-element q = clash (cc)
+    same at-close at-text q = clash (cc)
+    same at-comment at-close q = clash (cc)
+    same at-comment at-comment q = refl
+    same at-comment at-element q = clash (cc)
+    same at-comment at-text q = clash (cc)
+    same at-element at-close q = clash (cc)
+    same at-element at-comment q = clash (cc)
+    same at-element at-element q = refl
+    same at-element at-text q = clash (cc)
+    same at-text at-close q = clash (cc)
+    same at-text at-comment q = clash (cc)
+    same at-text at-element q = clash (cc)
+    same at-text at-text q = refl
+
+module _ (s : List ℕ) {f : Front} (e : f ≡ front (look s)) where
+  pub looks-close : f ≡ front-is.Close → look s ≡ at-close
+  unfolding front
+  looks-close q = front-look (look s) f e q
+
+  pub looks-comment : f ≡ front-is.Comment → look s ≡ at-comment
+  unfolding front
+  looks-comment q = front-look (look s) f e q
+
+  pub looks-start : f ≡ front-is.Start → look s ≡ at-element
+  unfolding front
+  looks-start q = front-look (look s) f e q
+
+  pub looks-text : f ≡ front-is.Text → look s ≡ at-text
+  unfolding front
+  looks-text q = front-look (look s) f e q
+
+-- TO THE NEXT TAG
+pub record Seeking (text : List ℕ) (at i : ℕ) : Type 0 where
+  same-tag : to-tag (drop at text) ≡ to-tag (drop i text)
+
+pub seek-start : (text : List ℕ) (at : ℕ) → Seeking text at at
+seek-start text at = record { same-tag = refl }
+
+module _ (text : List ℕ) (at i : ℕ) (go : Seeking text at i) where
+  pub seek-end : length text ≤ i → length text ≡ length text - length (to-tag (drop at text))
+  unfolding to-tag
+  seek-end h = rw (go .same-tag, at-end text i h) (omega arith)
+
+  pub seek-here : i < length text → getD text i 0 ≡ 60 → i ≡ length text - length (to-tag (drop at text))
+  unfolding to-tag
+  seek-here h e =
+      let q : to-tag (drop i text) ≡ drop i text = rw (at-byte text i h, eq-eqb _ _ e) in
+      rw (go .same-tag, q, length-drop i text) (omega arith)
+
+  pub seek-on : i < length text → (getD text i 0 ≡ 60 → ⊥) → Seeking text at (i + 1)
+  unfolding to-tag
+  seek-on h f = record { same-tag = go .same-tag ∙ rw (at-byte text i h, ne-eqb _ _ f) }
+
+pub ruleset seeking = (seek-start, seek-end, seek-here, seek-on, needs)
+
+-- PAST THE NEXT `>`
+pub record Passing (text : List ℕ) (at i : ℕ) : Type 0 where
+  same-end : past-tag (drop at text) ≡ past-tag (drop i text)
+
+pub pass-start : (text : List ℕ) (at : ℕ) → Passing text at at
+pass-start text at = record { same-end = refl }
+
+module _ (text : List ℕ) (at i : ℕ) (go : Passing text at i) where
+  pub pass-end : length text ≤ i → No ≡ stepped (length text) (past-tag (drop at text))
+  unfolding past-tag
+  pass-end h = refuses (length text) (past-tag (drop at text)) (rw (go .same-end, at-end text i h))
+
+  pub pass-here : i < length text → getD text i 0 ≡ 62 → To (i + 1) ≡ stepped (length text) (past-tag (drop at text))
+  unfolding past-tag
+  pass-here h e =
+      let q : past-tag (drop at text) ≡ got tt (drop (i + 1) text) = rw (go .same-end, at-byte text i h, eq-eqb _ _ e) in
+      arrives text (past-tag (drop at text)) (i + 1) (omega arith) q
+
+  pub pass-on : i < length text → (getD text i 0 ≡ 62 → ⊥) → Passing text at (i + 1)
+  unfolding past-tag
+  pass-on h f = record { same-end = go .same-end ∙ rw (at-byte text i h, ne-eqb _ _ f) }
+
+pub ruleset passing = (pass-start, pass-end, pass-here, pass-on, needs)
+
+-- QUOTES
+module _ (q b : ℕ) where
+  pub quote-begins : q ≡ 0 → {t : Bool} → t ≡ quote b → t ≡ true → b ≡ quoting q b
+  unfolding quoting
+  quote-begins e k h = rw (eq-eqb _ _ e, sym k ∙ h)
+
+  pub quote-none : q ≡ 0 → {t : Bool} → t ≡ quote b → t ≡ false → 0 ≡ quoting q b
+  unfolding quoting
+  quote-none e k h = rw (eq-eqb _ _ e, sym k ∙ h)
+
+  pub quote-ends : (q ≡ 0 → ⊥) → b ≡ q → 0 ≡ quoting q b
+  unfolding quoting
+  quote-ends f e = rw (ne-eqb _ _ f, eq-eqb _ _ e)
+
+  pub quote-goes : (q ≡ 0 → ⊥) → (b ≡ q → ⊥) → q ≡ quoting q b
+  unfolding quoting
+  quote-goes f e = rw (ne-eqb _ _ f, ne-eqb _ _ e)
+
+  pub ends-so : (eqb q 0 && (eqb b 62 || eqb b 47)) ≡ finishes q b
+  unfolding finishes closing
+  ends-so = refl
+
+pub ruleset quotings = (quote-begins, quote-none, quote-ends, quote-goes, ends-so, needs)
+
+-- THE END OF A START TAG
+module _ (text : List ℕ) (at : ℕ) (here : at < length text) where
+  place : (k : ℕ) → k ≤ length text → length text - length (drop k text) ≡ k
+  place k h = simp length-drop (omega arith)
+
+  pub finish-open : getD text at 0 ≡ 62 → tag-is.Open (at + 1) ≡ tagged (length text) (finish (getD text at 0) (drop (at + 1) text))
+  unfolding finish tagged
+  finish-open e = rw (eq-eqb _ _ e, place (at + 1) (omega arith))
+
+  pub finish-short : (getD text at 0 ≡ 62 → ⊥) → length text ≤ at + 1 → tag-is.No ≡ tagged (length text) (finish (getD text at 0) (drop (at + 1) text))
+  unfolding finish tagged bind mark
+  finish-short f h = rw (ne-eqb _ _ f, at-end text (at + 1) h)
+
+  pub finish-bare : (getD text at 0 ≡ 62 → ⊥) → at + 1 < length text → getD text (at + 1) 0 ≡ 62 → tag-is.Bare (at + 2) ≡ tagged (length text) (finish (getD text at 0) (drop (at + 1) text))
+  unfolding finish tagged bind mark test
+  finish-bare f h e =
+      let z : at + 1 + 1 ≡ at + 2 = omega arith in
+      rw (ne-eqb _ _ f, at-byte text (at + 1) h, eq-eqb _ _ e, z, place (at + 2) (omega arith))
+
+  pub finish-bad : (getD text at 0 ≡ 62 → ⊥) → at + 1 < length text → (getD text (at + 1) 0 ≡ 62 → ⊥) → tag-is.No ≡ tagged (length text) (finish (getD text at 0) (drop (at + 1) text))
+  unfolding finish tagged bind mark test
+  finish-bad f h e = rw (ne-eqb _ _ f, at-byte text (at + 1) h, ne-eqb _ _ e)
+
+pub ruleset finishing = (finish-open, finish-short, finish-bare, finish-bad, needs)
+
+pub record Tagging (text : List ℕ) (at q i : ℕ) : Type 0 where
+  same-tag : tag-at (drop at text) ≡ tag-from q (drop i text)
+
+pub tag-past : (text : List ℕ) (at : ℕ) → length text ≤ at → tag-is.No ≡ tagged (length text) (tag-at (drop at text))
+unfolding tag-at tagged
+tag-past text at h = rw (at-end text at h)
+
+pub tag-start : (text : List ℕ) (at : ℕ) → at < length text → Tagging text at 0 (at + 1)
+unfolding tag-at
+tag-start text at h = record { same-tag = rw (at-byte text at h) }
+
+module _ (text : List ℕ) (at q i : ℕ) (go : Tagging text at q i) where
+  pub tag-none : length text ≤ i → tag-is.No ≡ tagged (length text) (tag-at (drop at text))
+  unfolding tag-from tagged
+  tag-none h = rw (go .same-tag, at-end text i h)
+
+  module _ (h : i < length text) {t : Bool} (e : t ≡ finishes q (getD text i 0)) where
+    pub tag-stops : t ≡ true → {r : Tag} → r ≡ tagged (length text) (finish (getD text i 0) (drop (i + 1) text)) → r ≡ tagged (length text) (tag-at (drop at text))
+    unfolding tag-from
+    tag-stops y z = z ∙ sym (rw (go .same-tag, at-byte text i h, sym e ∙ y))
+
+    pub tag-goes : t ≡ false → {p : ℕ} → p ≡ quoting q (getD text i 0) → Tagging text at p (i + 1)
+    unfolding tag-from
+    tag-goes n z = record { same-tag = go .same-tag ∙ rw (at-byte text i h, sym e ∙ n, z) }
+
+pub ruleset tagging = (tag-past, tag-start, tag-none, tag-stops, tag-goes, needs)

@@ -1,0 +1,7 @@
+pub mod LawsScan
+pub mod LawsSkip
+pub mod LawsChildren
+pub mod LawsNames
+pub mod LawsAttributes
+pub mod LawsValues
+pub mod LawsTexts

@@ -1,0 +1,126 @@
+// The text of the element at a position, and what is written between its tags.
+use super::Found;
+use super::Text;
+use super::scan::Tag;
+use super::scan::contents_end;
+use super::scan::skip;
+use super::scan::tag_end;
+use markup::pieces::Front;
+use markup::pieces::front_at;
+use tokens::Step;
+use tokens::characters::Reference;
+use tokens::characters::reference_at;
+use tokens::classes::is_blank;
+use tokens::comments::comment_end;
+ghost use mathlib.Core.Path.{_≡_};
+ghost use lib.ListN.{length, drop};
+ghost use Rattle.grammar.specs.Parser.{at-text};
+ghost use Rattle.grammar.specs.Bytes.{blank};
+ghost use Rattle.lists.specs.Lists.{all};
+ghost use Rattle.nodes.specs.Says.{says, step-by};
+ghost use Rattle.nodes.specs.Texts.{inside, as-text, text-step, text-of};
+ghost use Rattle.nodes.specs.Inside.{within};
+
+// Where the contents of the element at `at` begin; an empty tag has none.
+pub fn text_start(text: &[u8], at: usize) -> Found
+    ensures { λ r. ⌜ r ≡ inside (now (text .entry)) at ⌝ }
+{
+    match tag_end(text, at) {
+        Tag::Open(i) => Found::At(i),
+        Tag::Bare(_) => Found::Nothing,
+        Tag::No => Found::Nothing,
+    }
+}
+
+// A character, or the reference, that stands at `at`: its decoded byte.
+fn letter_at(text: &[u8], at: usize) -> Text
+    ensures { λ r. ⌜ r ≡ as-text (length (now (text .entry))) (step-by at-text (drop at (now (text .entry)))) ⌝ }
+{
+    if text.len() <= at {
+        return Text::Stop;
+    }
+    let b = text[at];
+    if b == 38 {
+        match reference_at(text, at) {
+            Reference::Is(c, j) => {
+                return Text::Letter(c, j);
+            }
+            Reference::No => {
+                return Text::Letter(38, at + 1);
+            }
+        }
+    }
+    Text::Letter(b, at + 1)
+}
+
+// What stands at `at` in the text of an element: comments and children are passed over.
+pub fn text_at(text: &[u8], at: usize) -> Text
+    ensures { λ r. ⌜ r ≡ text-step (now (text .entry)) at ⌝ }
+{
+    match front_at(text, at) {
+        Front::Text => letter_at(text, at),
+        Front::Close => Text::Stop,
+        Front::Start => match skip(text, at) {
+            Step::To(j) => Text::Skip(j),
+            Step::No => Text::Stop,
+        },
+        Front::Comment => match comment_end(text, at) {
+            Step::To(j) => Text::Skip(j),
+            Step::No => Text::Stop,
+        },
+    }
+}
+
+// The text from `at` on has no byte but blanks.
+fn blank_from(text: &[u8], at: usize) -> bool
+    ensures { λ r. ⌜ r ≡ all blank (says (drop at (now (text .entry)))) ⌝ }
+{
+    let mut i = at;
+    loop {
+        match text_at(text, i) {
+            Text::Letter(b, j) => {
+                i = j;
+                if !is_blank(b) {
+                    return false;
+                }
+            }
+            Text::Skip(j) => {
+                i = j;
+            }
+            Text::Stop => {
+                return true;
+            }
+        }
+    }
+}
+
+// The element at `at` has no characters but blanks; those of its children do not count.
+pub fn text_is_blank(text: &[u8], at: usize) -> bool
+    ensures { λ r. ⌜ r ≡ all blank (text-of (now (text .entry)) at) ⌝ }
+{
+    match text_start(text, at) {
+        Found::At(i) => blank_from(text, i),
+        Found::Nothing => true,
+    }
+}
+
+// The part of the text between the tags of the element at `at`, as it is written.
+pub fn written<'t>(text: &'t [u8], at: usize) -> &'t [u8]
+    ensures { λ r. ⌜ now r ≡ within (now (text .entry)) at ⌝ }
+{
+    match text_start(text, at) {
+        Found::At(i) => {
+            match contents_end(text, i) {
+                Step::To(j) => {
+                    return &text[i..j];
+                }
+                Step::No => {
+                    return &text[0..0];
+                }
+            }
+        }
+        Found::Nothing => {
+            return &text[0..0];
+        }
+    }
+}

@@ -1,0 +1,12 @@
+pub mod LawsRead
+pub mod LawsSigned
+pub mod LawsParts
+pub mod LawsValues
+pub mod LawsThree
+pub mod LawsLists
+pub mod LawsExponent
+pub mod LawsNext
+pub mod LawsDecimal
+pub mod LawsSpelled
+pub mod LawsSigns
+pub mod LawsSixteen

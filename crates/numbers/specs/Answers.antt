@@ -1,0 +1,73 @@
+-- What the readers answer: the number where the form is right, and that there is none where it is not.
+use mathlib.Core.List.{List, [], _∷_}
+use mathlib.Core.Bool.{Bool, true, false, _&&_, cond}
+use Prim.Native.Nat.{ℕ, _+_}
+use lib.Dec.{ltb, leb}
+use lib.ListN.{length, drop, getD}
+use Rattle.grammar.specs.Bytes.{blank, between}
+use Rattle.grammar.specs.Look.{Word}
+use Rattle.lists.specs.Lists.{count}
+use Rattle.nodes.specs.Says.{says}
+use Rattle.numbers.specs.Numbers.{digits, value, whole, words, Sign, plus, minus, withSign, dimensionList, commaValues, volumeDimensions, exponent, exponentValue, Decimal, decimal, decimalValue}
+use Rattle.numbers.specs.Stream.{behind, leading}
+use Rattle.numbers.specs.declared.Source.the-variants.{Contents}
+use Rattle.numbers.specs.declared.Whole.{Whole}
+use Rattle.numbers.specs.declared.Whole.the-variants.{Is, No}
+use Rattle.numbers.specs.declared.Lengths.{Lengths}
+use Rattle.numbers.specs.declared.Three.{Three}
+use Rattle.numbers.specs.declared.Three.the-variants as three
+use Rattle.numbers.specs.declared.Exponent.{Exponent}
+use Rattle.numbers.specs.declared.Exponent.the-variants as exponents
+use Rattle.numbers.specs.declared.Scaled.{Scaled}
+use Rattle.numbers.specs.declared.Decimals.{Decimals}
+use Rattle.numbers.specs.declared.Decimals.the-variants as decimals
+use Rattle.numbers.specs.declared.Next.{Next}
+use Rattle.numbers.specs.declared.Next.the-variants.{Number, End, Bad}
+
+-- a whole number from lo to hi
+unfoldable pub wholeIn : (lo hi : ℕ) → Word → Whole
+wholeIn lo hi w = cond (whole lo hi w) (Is (value w)) No
+
+-- a dimension list: how many it lists; how many of them from lo to hi; the n-th of them, from 0
+unfoldable pub listedIn : Word → Whole
+listedIn w = cond (dimensionList w) (Is (length (commaValues w))) No
+
+unfoldable pub betweenIn : (lo hi : ℕ) → Word → Whole
+betweenIn lo hi w = cond (dimensionList w) (Is (count (between lo hi) (commaValues w))) No
+
+unfoldable pub entryIn : ℕ → Word → Whole
+entryIn n w = cond (dimensionList w && ltb n (length (commaValues w))) (Is (getD (commaValues w) n 0)) No
+
+-- three lengths
+unfoldable pub lengthsOf : List ℕ → Lengths
+lengthsOf l = record { i = getD l 0 0; j = getD l 1 0; k = getD l 2 0 }
+
+unfoldable pub threeIn : (most₁ most₂ most₃ : ℕ) → Word → Three
+threeIn m n k w = cond (volumeDimensions m n k w) (three.Are (lengthsOf (commaValues w))) three.No
+
+-- an exponent
+unfoldable pub exponentIn : (most : ℕ) → Word → Exponent
+exponentIn most w = cond (exponent most w) (exponents.Is (exponentValue w)) exponents.No
+
+unfoldable pub exponentFrom : (most : ℕ) → Sign → Word → Exponent
+exponentFrom most s w = cond (digits 1 2 w && leb (value w) most) (exponents.Is (withSign s (value w))) exponents.No
+
+-- a decimal
+unfoldable pub scaled : Decimal → Scaled
+scaled d = record { amount = d .amount; places = d .places }
+
+unfoldable pub decimalIn : Word → Decimals
+decimalIn w = cond (decimal w) (decimals.Is (scaled (decimalValue w))) decimals.No
+
+-- The next of a list of whole numbers, from a place in the text on: the first word that is ahead, and the place behind it.
+unfoldable pub nextOf : (ℕ → ℕ) → List Word → Next
+nextOf place [] = End
+nextOf place (w ∷ l) = cond (digits 1 7 w) (Number (value w) (place (length w))) Bad
+
+unfoldable pub nextNumber : List ℕ → ℕ → Next
+nextNumber text i = let w = says (drop i text) in nextOf (λ n. behind Contents text (leading blank w + n) i) (words w)
+
+-- the sign that a program keeps as a test
+unfoldable pub signIf : Bool → Sign
+signIf true = minus
+signIf false = plus

@@ -1,0 +1,6 @@
+pub mod Opening
+pub mod Surveying
+pub mod Naming
+pub mod Judging
+pub mod Later
+pub mod Reading

@@ -1,0 +1,120 @@
+-- THE WHOLE: conditions 1 to 9, then 10 to 14, then the table and the answer.
+use mathlib.Core.Path.{_≡_, refl, sym, ap, _∙_}
+use mathlib.Core.List.{List, [], _∷_, _++_}
+use mathlib.Core.Option.{Option, some}
+use mathlib.Core.Bool.{Bool, true, false, cond, _||_, true≢false}
+use Prim.Native.Nat.{ℕ, zero, suc, _+_, _≤_, _<_}
+use native.Mathlib.Omega.{arith}
+use lib.Dec.{eqb, ltb}
+use lib.ListN.{length, replicate}
+use borrow.Author.Needs.{needs}
+use borrow.Author.Tests.{ne-eqb, ltb-false}
+use Rattle.lists.specs.Lists.{there, total, greatest}
+use Rattle.grammar.specs.Document.{Element}
+use Rattle.grammar.specs.Parser.{parse}
+use Rattle.cifti.specs.Maps.{Map, mapsOf, lengthOf, brainMaps}
+use Rattle.cifti.specs.Conditions as C
+use Rattle.cifti.specs.Conditions.{Refusal, _when_, conditionsTo9, conditionsFrom10, refusal, ofMaps, modelsShare, rangesWrong, numbersOutside, roomShort, locationTwice}
+use Rattle.cifti.specs.Answer.{acceptedWith, refusedWith, answerBy, recordsBy, stretches, filledWith, Reads}
+use Rattle.cifti.specs.Answer as A
+use Rattle.cifti.specs.Theorems.{reads-by, answerOf, recordsOf, numberOf}
+use Rattle.cifti.specs.declared.answer.Answer.{Answer}
+use Rattle.maps.specs.Nine.{InRoom}
+use Rattle.maps.specs.Ready.{mapsAt}
+use Rattle.stretches.specs.All.{Fillable}
+use Rattle.reader.specs.Opening.{number9}
+use Rattle.reader.specs.Surveying.{Surveys, Readied}
+use Rattle.reader.specs.Later.{Later, rule14}
+use Rattle.reader.specs.declared.survey.Survey.{Survey}
+
+-- the first of two tables in a row
+nine-then : (a b c d e f g h i : Bool) (k : List Refusal)
+    → C.first ((1 when a ∷ 2 when b ∷ 3 when c ∷ 4 when d ∷ 5 when e ∷ 6 when f ∷ 7 when g ∷ 8 when h ∷ 9 when i ∷ []) ++ k)
+    ≡ cond (eqb (C.first (1 when a ∷ 2 when b ∷ 3 when c ∷ 4 when d ∷ 5 when e ∷ 6 when f ∷ 7 when g ∷ 8 when h ∷ 9 when i ∷ [])) 0) (C.first k) (C.first (1 when a ∷ 2 when b ∷ 3 when c ∷ 4 when d ∷ 5 when e ∷ 6 when f ∷ 7 when g ∷ 8 when h ∷ 9 when i ∷ []))
+unfolding C.first
+nine-then true b c d e f g h i k = refl
+nine-then false true c d e f g h i k = refl
+nine-then false false true d e f g h i k = refl
+nine-then false false false true e f g h i k = refl
+nine-then false false false false true f g h i k = refl
+nine-then false false false false false true g h i k = refl
+nine-then false false false false false false true h i k = refl
+nine-then false false false false false false false true i k = refl
+nine-then false false false false false false false false true k = refl
+nine-then false false false false false false false false false k = refl
+
+number-by : (text lengths records work : List ℕ)
+    → numberOf text lengths records work ≡ cond (eqb (number9 text lengths) 0) (C.first (conditionsFrom10 (length records) (length work) (parse text))) (number9 text lengths)
+unfolding numberOf refusal C.conditions conditionsTo9
+number-by text lengths records work = nine-then _ _ _ _ _ _ _ _ _ (conditionsFrom10 (length records) (length work) (parse text))
+
+later-by : (room work : ℕ) (e : Element) → C.first (conditionsFrom10 room work (some e)) ≡ rule14 room work (mapsOf e)
+unfolding conditionsFrom10 ofMaps there rule14
+later-by room work e = refl
+
+-- a number of refusal, given
+refused-by : (text lengths records work : List ℕ) (n : ℕ) → (n ≡ 0 → ⊥) → numberOf text lengths records work ≡ n → (a : Answer) → a ≡ refusedWith n → (w : List ℕ) → w ≡ replicate (length work) 0 → Reads text lengths records work a records w
+unfolding answerOf recordsOf answerBy recordsBy
+refused-by text lengths records work zero k p a q w c = absurd (k refl)
+refused-by text lengths records work (suc n) k p a q w c = reads-by text lengths records work a records w (q ∙ rw p) (rw p) c
+
+five-none : (s u o x y : Bool) → C.first (10 when s ∷ 11 when u ∷ 12 when o ∷ 13 when x ∷ 14 when y ∷ []) ≡ 0 → (s ≡ false) × (u ≡ false) × (o ≡ false) × (x ≡ false)
+unfolding C.first
+five-none true u o x y h = absurd (omega arith)
+five-none false true o x y h = absurd (omega arith)
+five-none false false true x y h = absurd (omega arith)
+five-none false false false true y h = absurd (omega arith)
+five-none false false false false y h = (refl, refl, refl, refl)
+
+or-first : (a b : Bool) → (a || b) ≡ false → a ≡ false
+or-first true b h = absurd (true≢false h)
+or-first false b h = refl
+
+module _ {text lengths : List ℕ} {s : Survey} (sv : Surveys text lengths s) (records work : List ℕ) where
+  pub read-refused : (s .number ≡ 0 → ⊥) → {a : Answer} → a ≡ refusedWith (s .number) → {w : List ℕ} → w ≡ replicate (length work) 0 → Reads text lengths records work a records w
+  read-refused k {a} q {w} c =
+      refused-by text lengths records work (s .number) k (number-by text lengths records work ∙ rw (← sv .number-is, ne-eqb (s .number) 0 k)) a q w c
+
+  module _ (z : s .number ≡ 0) where
+    got : Readied text lengths (s .maps)
+    got = sv .readied z
+
+    pub read-room : InRoom text (s .maps)
+    read-room = got .room
+
+    module _ {v : ℕ} {after : List ℕ} (lt : Later text (s .maps) (length records) work v after) where
+      number-is : numberOf text lengths records work ≡ v
+      number-is =
+          number-by text lengths records work
+          ∙ rw (← sv .number-is, z, got .parsed)
+          (later-by (length records) (length work) (got .document) ∙ ap (rule14 (length records) (length work)) (sym (got .all)) ∙ sym (lt .told))
+
+      clear-is : {w : List ℕ} → w ≡ replicate (length after) 0 → w ≡ replicate (length work) 0
+      clear-is c = c ∙ ap (λ n. replicate n 0) (lt .long)
+
+      pub read-later : (v ≡ 0 → ⊥) → {a : Answer} → a ≡ refusedWith v → {w : List ℕ} → w ≡ replicate (length after) 0 → Reads text lengths records work a records w
+      read-later k {a} q {w} c = refused-by text lengths records work v k number-is a q w (clear-is c)
+
+      module _ (y : v ≡ 0) where
+        pub read-fillable : Fillable text (s .maps) (length records)
+        unfolding rule14 roomShort
+        read-fillable =
+            let l = mapsAt text (s .maps) in
+            let (a, b, c, d) = five-none (modelsShare l) (rangesWrong l) (numbersOutside l) (roomShort (length records) (length work) l) (locationTwice l) (sym (lt .told) ∙ y) in
+            record {
+              room-in = got .room;
+              share = a;
+              ranges = b;
+              inside = c;
+              enough = ltb-false (length records) (total lengthOf (brainMaps l)) (or-first _ (ltb (length work) (greatest lengthOf (brainMaps l))) d);
+            }
+
+        pub read-accepts : {a : Answer} → a ≡ acceptedWith (mapsAt text (s .maps)) → {r : List ℕ} → r ≡ filledWith (stretches (mapsAt text (s .maps))) records → {w : List ℕ} → w ≡ replicate (length after) 0 → Reads text lengths records work a r w
+        unfolding answerOf recordsOf answerBy recordsBy A.mapsIn
+        read-accepts {a} p {r} q {w} c =
+            reads-by text lengths records work a r w
+            (p ∙ rw (number-is, y, got .parsed, got .all))
+            (q ∙ rw (number-is, y, got .parsed, got .all))
+            (clear-is c)
+
+pub ruleset reading = (read-refused, read-room, read-later, read-fillable, read-accepts, needs)

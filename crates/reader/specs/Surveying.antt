@@ -1,0 +1,107 @@
+-- CONDITIONS 1 TO 9: the number of the first that applies, or the maps of the document, by their places.
+use mathlib.Core.Path.{_≡_, refl, sym, ap, _∙_}
+use mathlib.Core.List.{List, [], _∷_}
+use mathlib.Core.Option.{Option, some}
+use mathlib.Core.Bool.{Bool, true, false, cond, true≢false}
+use Prim.Native.Nat.{ℕ, _≤_, _<_}
+use native.Mathlib.Omega.{arith}
+use native.Mathlib.Decide.{decLt}
+use lib.ListN.{length}
+use borrow.Author.Needs.{needs}
+use borrow.Author.Tests.{le-ltb}
+use Rattle.lists.specs.Lists.{there}
+use Rattle.grammar.specs.Document.{Element}
+use Rattle.grammar.specs.Parser.{parse}
+use Rattle.nodes.specs.Places.{Stands, the}
+use Rattle.cifti.specs.Maps.{mapsOf}
+use Rattle.cifti.specs.Names.{namesOn}
+use Rattle.cifti.specs.Conditions as C
+use Rattle.cifti.specs.Conditions.{_when_, dimensionsWrong, lengthWrong, ofMaps, textTooLong}
+use Rattle.maps.specs.Survey.{MapsAre}
+use Rattle.maps.specs.Ready.{mapsIn, mapsAt, Ready, maps-many, maps-ready, maps-same}
+use Rattle.maps.specs.Eight.{Surveyed}
+use Rattle.maps.specs.Nine.{InRoom}
+use Rattle.maps.specs.declared.survey.Maps.{Maps}
+use Rattle.describe.specs.NamesOn.{namesAt}
+use Rattle.describe.specs.OfDocument.{names-at}
+use Rattle.reader.specs.Opening.{Opens, Passed, number9, nine-document, lengths-three}
+use Rattle.reader.specs.declared.opening.Opening.{Opening}
+use Rattle.reader.specs.declared.survey.Survey.{Survey}
+
+-- the maps of the document of a text that passes 1 to 9
+pub record Readied (text lengths : List ℕ) (maps : Maps) : Type 0 where
+  pub document : Element
+  pub parsed : parse text ≡ some document
+  pub room : InRoom text maps
+  pub all : mapsAt text maps ≡ mapsOf document
+  pub listed : dimensionsWrong lengths (mapsAt text maps) ≡ false
+  pub named : (d : ℕ) → namesOn d document ≡ namesAt text maps d
+
+pub record Surveys (text lengths : List ℕ) (s : Survey) : Type 0 where
+  pub number-is : s .number ≡ number9 text lengths
+  pub readied : s .number ≡ 0 → Readied text lengths (s .maps)
+
+-- the rest of the nine, where 1 to 7 do not apply
+nine-rest : {text lengths : List ℕ} {m : ℕ} → (p : Passed text lengths m) → number9 text lengths ≡ C.first (8 when dimensionsWrong lengths (mapsIn (the text m)) ∷ 9 when lengthWrong lengths (mapsIn (the text m)) ∷ [])
+unfolding ofMaps there textTooLong
+nine-rest {text} {lengths} {m} p =
+    nine-document text lengths (p .fine) (le-ltb 16777216 (length text) (p .short)) (p .document) (p .parsed)
+    ∙ rw (p .right-root, p .read-kinds, p .shape, p .numbers, p .maps)
+
+module _ {text lengths : List ℕ} {o : Opening} (op : Opens text lengths o) where
+  pub survey-refused : (o .number ≡ 0 → ⊥) → (s : Survey) → s .number ≡ o .number → Surveys text lengths s
+  survey-refused k s e = record { number-is = e ∙ op .refused k; readied = λ z. absurd (k (sym e ∙ z)) }
+
+  module _ (z : o .number ≡ 0) where
+    passed : Passed text lengths (o .matrix)
+    passed = op .passed z
+
+    pub survey-stands : Stands text (o .matrix)
+    survey-stands = passed .stands
+
+    module _ {maps : Maps} (are : MapsAre text (o .matrix) maps) where
+      pub survey-asks : Surveyed text (o .matrix) maps lengths
+      survey-asks = record { are = are; good = passed .good; few = lengths-three lengths (passed .fine) }
+
+      module _ {b : Bool} (p : b ≡ dimensionsWrong lengths (mapsIn (the text (o .matrix)))) where
+        pub survey-eight : b ≡ true → (s : Survey) → s .number ≡ 8 → Surveys text lengths s
+        unfolding C.first
+        survey-eight t s e = record { number-is = e ∙ sym (nine-rest passed ∙ rw (sym p ∙ t)); readied = λ y. absurd (omega arith) }
+
+        module _ (f : b ≡ false) where
+          few : maps .count ≤ 3
+          few = go (decLt 3 (maps .count))
+            where
+              go : Dec (3 < maps .count) → maps .count ≤ 3
+              go (yes h) = absurd (true≢false (sym (maps-many are (passed .good) lengths (lengths-three lengths (passed .fine)) h) ∙ sym p ∙ f))
+              go (no h) = omega arith
+
+          same : mapsAt text maps ≡ mapsIn (the text (o .matrix))
+          same = maps-same are (passed .good) few
+
+          pub survey-room : InRoom text maps
+          survey-room = record { ready = maps-ready are (passed .good) few; short = passed .short }
+
+          module _ {c : Bool} (q : c ≡ lengthWrong lengths (mapsAt text maps)) where
+            nine : lengthWrong lengths (mapsIn (the text (o .matrix))) ≡ c
+            nine = ap (lengthWrong lengths) (sym same) ∙ sym q
+
+            pub survey-nine : c ≡ true → (s : Survey) → s .number ≡ 9 → Surveys text lengths s
+            unfolding C.first
+            survey-nine t s e = record { number-is = e ∙ sym (nine-rest passed ∙ rw (sym p ∙ f, nine ∙ t)); readied = λ y. absurd (omega arith) }
+
+            pub survey-passes : c ≡ false → (s : Survey) → s .number ≡ 0 → s .maps ≡ maps → Surveys text lengths s
+            unfolding C.first
+            survey-passes g s e h = record {
+              number-is = e ∙ sym (nine-rest passed ∙ rw (sym p ∙ f, nine ∙ g));
+              readied = λ _. rw h (record {
+                document = passed .document;
+                parsed = passed .parsed;
+                room = survey-room;
+                all = same ∙ sym (passed .maps);
+                listed = rw same (sym p ∙ f);
+                named = names-at are few (passed .document) (passed .only);
+              });
+            }
+
+pub ruleset surveyed = (survey-refused, survey-stands, survey-asks, survey-eight, survey-room, survey-nine, survey-passes, needs)

@@ -1,0 +1,11 @@
+pub mod LawsFaults
+pub mod LawsRows
+pub mod LawsWords
+pub mod LawsForms
+pub mod LawsValues
+pub mod LawsExact
+pub mod LawsAttributes
+pub mod LawsLines
+pub mod LawsTimes
+pub mod LawsWalk
+pub mod LawsRoot

@@ -1,0 +1,6 @@
+pub mod Words
+pub mod Table
+pub mod Faults
+pub mod Parts
+pub mod Lines
+pub mod Asked

@@ -1,0 +1,2 @@
+// The records of all brain maps, stretch after stretch.
+pub mod fill;

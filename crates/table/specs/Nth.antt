@@ -1,0 +1,68 @@
+-- THE POSITION IN A LIST NEVER STARTS AGAIN: the n-th vertex, the n-th voxel of a model's list stands n places behind the place where the model begins.
+use mathlib.Core.Path.{_≡_, refl, sym, ap, _∙_}
+use mathlib.Core.List.{List, [], _∷_}
+use Prim.Native.Nat.{ℕ, zero, suc, _+_, _*_, _<_, _≤_}
+use native.Mathlib.Nat.{le-of-suc-le-suc, not-suc-le-zero}
+use native.Mathlib.Omega.{arith}
+use lib.ListN.{length, getD}
+use Rattle.lists.specs.Lists.{each}
+use Rattle.lists.specs.Laws.{length-each}
+use Rattle.records.specs.Record.{onSurface, inVolume, recordOf}
+use Rattle.records.specs.Fill.{wrote}
+use Rattle.cifti.specs.Maps.{Voxel, voxel, vertices, voxels, Model, threes, voxelAt, locations, locationsBy}
+use Rattle.maps.specs.Fill.{wrote-in}
+use Rattle.maps.specs.Table.{recordsOf}
+
+at-each : {A B : Type 0} (f : A → B) (l : List A) (z : A) (y : B) (p : ℕ) → p < length l → getD (each f l) p y ≡ f (getD l p z)
+unfolding each
+at-each f [] z y p u = absurd (not-suc-le-zero u)
+at-each f (x ∷ l) z y zero u = refl
+at-each f (x ∷ l) z y (suc p) u = at-each f l z y p (le-of-suc-le-suc u)
+
+-- the n-th voxel is the numbers 3n, 3n + 1 and 3n + 2 of the list
+abbrev nthThree : List ℕ → ℕ → Voxel
+nthThree l n = voxel (getD l (3 * n) 0) (getD l (3 * n + 1) 0) (getD l (3 * n + 2) 0)
+
+same-voxel : {i j k x y z : ℕ} → i ≡ x → j ≡ y → k ≡ z → voxel i j k ≡ voxel x y z
+same-voxel p q r = cc
+
+three-at : (l : List ℕ) (n : ℕ) → 3 * n + 2 < length l → (n < length (threes l)) × (getD (threes l) n (voxel 0 0 0) ≡ nthThree l n)
+unfolding threes
+three-at [] n h = absurd (omega arith)
+three-at (i ∷ []) n h = absurd (omega arith)
+three-at (i ∷ j ∷ []) n h = absurd (omega arith)
+three-at (i ∷ j ∷ k ∷ l) zero h = (omega arith, refl)
+three-at (i ∷ j ∷ k ∷ l) (suc n) h =
+    let (u, e) = three-at l n (omega arith) in
+    let a : 3 * suc n ≡ suc (suc (suc (3 * n))) = omega arith in
+    let b : 3 * suc n + 1 ≡ suc (suc (suc (3 * n + 1))) = omega arith in
+    let c : 3 * suc n + 2 ≡ suc (suc (suc (3 * n + 2))) = omega arith in
+    let s : List ℕ = i ∷ j ∷ k ∷ l in
+    (omega arith, e ∙ same-voxel (ap (λ p. getD s p 0) (sym a)) (ap (λ p. getD s p 0) (sym b)) (ap (λ p. getD s p 0) (sym c)))
+
+module _ (m : Model) (at : ℕ) (out : List ℕ) (room : at + length (recordsOf m) ≤ length out) where
+  pub nth-vertex : (surface : ℕ) (l : List ℕ) → m .listed ≡ vertices surface l → (n : ℕ) → n < length l
+      → getD (wrote at (recordsOf m) out) (at + n) 0 ≡ recordOf (onSurface (m .structure) (getD l n 0))
+  unfolding recordsOf locations locationsBy
+  nth-vertex surface l e n h =
+      let r : recordsOf m ≡ each recordOf (each (onSurface (m .structure)) l) = ap (λ t. each recordOf (locationsBy (m .structure) t)) e in
+      let k : length (each (onSurface (m .structure)) l) ≡ length l = length-each (onSurface (m .structure)) l in
+      let u : n < length (recordsOf m) = omega (arith, ap length r, length-each recordOf (each (onSurface (m .structure)) l)) in
+      wrote-in at (recordsOf m) out room n u
+      ∙ ap (λ x. getD x n 0) r
+      ∙ at-each recordOf (each (onSurface (m .structure)) l) (onSurface 0 0) 0 n (omega arith)
+      ∙ ap recordOf (at-each (onSurface (m .structure)) l 0 (onSurface 0 0) n h)
+
+  pub nth-voxel : (l : List ℕ) → m .listed ≡ voxels l → (n : ℕ) → 3 * n + 2 < length l
+      → getD (wrote at (recordsOf m) out) (at + n) 0 ≡ recordOf (inVolume (m .structure) (getD l (3 * n) 0) (getD l (3 * n + 1) 0) (getD l (3 * n + 2) 0))
+  unfolding recordsOf locations locationsBy voxelAt
+  nth-voxel l e n h =
+      let (v, t) = three-at l n h in
+      let r : recordsOf m ≡ each recordOf (each (voxelAt (m .structure)) (threes l)) = ap (λ t. each recordOf (locationsBy (m .structure) t)) e in
+      let k : length (each (voxelAt (m .structure)) (threes l)) ≡ length (threes l) = length-each (voxelAt (m .structure)) (threes l) in
+      let u : n < length (recordsOf m) = omega (arith, ap length r, length-each recordOf (each (voxelAt (m .structure)) (threes l))) in
+      wrote-in at (recordsOf m) out room n u
+      ∙ ap (λ x. getD x n 0) r
+      ∙ at-each recordOf (each (voxelAt (m .structure)) (threes l)) (onSurface 0 0) 0 n (omega arith)
+      ∙ ap recordOf (at-each (voxelAt (m .structure)) (threes l) (voxel 0 0 0) (onSurface 0 0) n v)
+      ∙ ap (λ x. recordOf (voxelAt (m .structure) x)) t
