@@ -132,10 +132,10 @@ module _ {text : List ℕ} {maps : Maps} {d n i : ℕ} (go : Tallying text maps 
       ready = go .ready;
       low = omega arith;
       so-far =
-        let s = go .so-far in
-        let split : count (eqb d) (listedDimensions (from text maps i)) ≡ count (eqb d) (dimensionsOf (the text (getD (maps .at) i 0))) + count (eqb d) (listedDimensions (from text maps (i + 1))) =
+          let s = go .so-far in
+          let split : count (eqb d) (listedDimensions (from text maps i)) ≡ count (eqb d) (dimensionsOf (the text (getD (maps .at) i 0))) + count (eqb d) (listedDimensions (from text maps (i + 1))) =
           ap (λ l. count (eqb d) (listedDimensions l)) (from-one (go .ready) i u) ∙ count-append (eqb d) (dimensionsOf (the text (getD (maps .at) i 0))) (listedDimensions (from text maps (i + 1))) in
-        omega arith;
+          omega arith;
     }
 
 pub ruleset tallying = (tally-start, tally-done, tally-place, tally-askable, tally-fits, tally-more, needs)

@@ -50,10 +50,20 @@ pub fn map_length(text: &[u8], at: usize) -> u64
     requires { ⌜ MapAt (now text) at ⌝ }
     ensures { λ r. ⌜ r ≡ lengthOf (mapOf (the (now (text .entry)) at)) ⌝ }
 {
-    if attribute_is(text, at, b"IndicesMapToDataType", b"CIFTI_INDEX_TYPE_BRAIN_MODELS") {
+    if attribute_is(
+        text,
+        at,
+        b"IndicesMapToDataType",
+        b"CIFTI_INDEX_TYPE_BRAIN_MODELS",
+    ) {
         return children_sum(text, at, true);
     }
-    if attribute_is(text, at, b"IndicesMapToDataType", b"CIFTI_INDEX_TYPE_SERIES") {
+    if attribute_is(
+        text,
+        at,
+        b"IndicesMapToDataType",
+        b"CIFTI_INDEX_TYPE_SERIES",
+    ) {
         return attribute_number(text, at, b"NumberOfSeriesPoints", 1, 1_048_576);
     }
     children_sum(text, at, false)

@@ -13,10 +13,20 @@ fn map_not_read(text: &[u8], at: usize) -> bool
     requires { ⌜ Stands (now text) at ⌝ }
     ensures { λ r. ⌜ r ≡ notRead (the (now (text .entry)) at) ⌝ }
 {
-    if attribute_is(text, at, b"IndicesMapToDataType", b"CIFTI_INDEX_TYPE_PARCELS") {
+    if attribute_is(
+        text,
+        at,
+        b"IndicesMapToDataType",
+        b"CIFTI_INDEX_TYPE_PARCELS",
+    ) {
         return true;
     }
-    attribute_is(text, at, b"IndicesMapToDataType", b"CIFTI_INDEX_TYPE_LABELS")
+    attribute_is(
+        text,
+        at,
+        b"IndicesMapToDataType",
+        b"CIFTI_INDEX_TYPE_LABELS",
+    )
 }
 
 fn matrix_not_read(text: &[u8], at: usize) -> bool

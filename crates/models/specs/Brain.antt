@@ -1,26 +1,24 @@
 -- A BRAIN MAP AT A PLACE OF A TEXT, good as conditions 6 and 7 ask: what its content is, and what its children are.
 use mathlib.Core.Path.{_≡_, refl, sym, ap, _∙_}
-use mathlib.Core.List.{List, [], _∷_, _++_}
-use mathlib.Core.Bool.{Bool, true, false, cond, _&&_}
-use Prim.Native.Nat.{ℕ, _+_, _*_, _<_, _≤_}
-use Prim.Native.String.{String}
-use native.Mathlib.Omega.{arith}
+use mathlib.Core.List.{List, [], _∷_}
+use mathlib.Core.Bool.{Bool, true, false}
+use Prim.Native.Nat.{ℕ, _<_, _≤_}
 use lib.ListN.{length}
 use Rattle.lists.specs.Lists.{those, each, total}
 use Rattle.grammar.specs.Bytes.{ascii}
 use Rattle.grammar.specs.Document.{Element}
-use Rattle.grammar.specs.Facts.{and-left, and-right, within}
-use Rattle.grammar.specs.Look.{Word, is, nameOf, contentsOf, attr, has, elements, children}
+use Rattle.grammar.specs.Facts.{and-right, within}
+use Rattle.grammar.specs.Look.{Word, is, nameOf, contentsOf, has, elements, children}
 use Rattle.numbers.specs.Numbers.{whole, digits, value}
 use Rattle.nodes.specs.Places.{Stands, the}
 use Rattle.nodes.specs.Children.{first, next, left}
 use Rattle.nodes.specs.Names.{named, name-is-law}
-use Rattle.nodes.specs.Walk.{kids, Walk, Turn, walk-children, kids-children, walk-none, turn-at, turn-splits, turn-falls}
+use Rattle.nodes.specs.Walk.{kids, Walk, walk-children, kids-children, walk-none, turn-at, turn-splits, turn-falls}
 use Rattle.nodes.specs.declared.Kid.{Kid}
 use Rattle.nodes.specs.declared.Kid.the-variants.{Child, Done}
-use Rattle.cifti.specs.Rows.{ElementKind, brainModels}
-use Rattle.cifti.specs.Maps.{Model, Map, Content, brain, Voxel, modelOf, sizesOf, contentOf, mapOf, models, modelsBy, volumeOf, volumeBy, lengthOf, lengthBy}
-use Rattle.maps.specs.Good.{Good, GoodAs, AllGood, none-left, one-good}
+use Rattle.cifti.specs.Rows.{brainModels}
+use Rattle.cifti.specs.Maps.{brain, modelOf, sizesOf, contentOf, mapOf, models, modelsBy, volumeOf, volumeBy, lengthBy}
+use Rattle.maps.specs.Good.{Good, GoodAs, AllGood, one-good}
 use Rattle.maps.specs.Kinds.{brainRows, GoodModel, good-model, brain-children}
 
 pub record BrainAt (text : List ℕ) (map : ℕ) : Type 0 where

@@ -1,16 +1,15 @@
 -- THE MODELS OF A MAP, GATHERED: what the struct `Models` holds of a text.
-use mathlib.Core.Path.{_≡_, refl, sym, ap, _∙_}
-use mathlib.Core.List.{List, [], _∷_, _++_}
-use mathlib.Core.Bool.{Bool, true, false}
+use mathlib.Core.Path.{_≡_}
+use mathlib.Core.List.{List, []}
+use mathlib.Core.Bool.{false}
 use Prim.Native.Nat.{ℕ, _+_, _<_, _≤_}
-use native.Mathlib.Omega.{arith}
 use lib.ListN.{length, getD, take, set}
 use Rattle.lists.specs.Lists.{each, twoOf}
 use Rattle.grammar.specs.Bytes.{ascii}
 use Rattle.grammar.specs.Document.{Element}
 use Rattle.grammar.specs.Look.{children}
-use Rattle.nodes.specs.Places.{Stands, the}
-use Rattle.cifti.specs.Maps.{Model, modelOf, mapOf, models}
+use Rattle.nodes.specs.Places.{the}
+use Rattle.cifti.specs.Maps.{modelOf, mapOf, models}
 use Rattle.cifti.specs.Conditions.{alike}
 use Rattle.maps.specs.Fields.{wordAt, numberSeen}
 use Rattle.models.specs.Kind.{kindNumber, ModelAt}

@@ -1,25 +1,23 @@
 -- THE GATHERED MODELS, as lists: what the arrays hold is what the map's models are.
 use mathlib.Core.Path.{_≡_, refl, sym, ap, ap₂, _∙_}
 use mathlib.Core.List.{List, [], _∷_}
-use mathlib.Core.Bool.{Bool, true, false, cond, not, _||_, _&&_}
-use Prim.Native.Nat.{ℕ, zero, suc, _+_, _*_, _-_, _<_, _≤_}
+use mathlib.Core.Bool.{Bool}
+use Prim.Native.Nat.{ℕ, zero, suc, _+_, _<_, _≤_}
 use native.Mathlib.Omega.{arith}
 use lib.Dec.{eqb}
-use lib.ListN.{length, getD, take}
-use borrow.Author.Needs.{needs}
-use Rattle.lists.specs.Lists.{table, countUp, each, all, any, count, total, allBelow}
+use lib.ListN.{length, getD}
+use Rattle.lists.specs.Lists.{table, each, count, total, allBelow}
 use Rattle.lists.specs.Laws.{count-each, count-same}
 use Rattle.grammar.specs.Look.{attr}
-use Rattle.nodes.specs.Places.{Stands, the}
+use Rattle.nodes.specs.Places.{the}
 use Rattle.numbers.specs.Numbers.{value}
-use Rattle.cifti.specs.Maps.{Model, Map, modelOf, mapOf, models, lengthOf, lengthBy, contentOf, covers, volumeOf}
-use Rattle.cifti.specs.Conditions.{listsCount, uneven, beyond}
-use Rattle.maps.specs.Kinds.{GoodModel, model-facts}
+use Rattle.cifti.specs.Maps.{Model, modelOf, mapOf, models, lengthOf, covers}
+use Rattle.maps.specs.Chain.{Counting}
+use Rattle.maps.specs.Kinds.{model-facts}
 use Rattle.models.specs.Brain.{BrainAt, brain-models, brain-sum, whole-within}
-use Rattle.models.specs.Kind.{ModelAt, kindNumber}
-use Rattle.models.specs.Gathered.{Holds, HoldsAt, gathered, Sized, Gathered}
-use Rattle.models.specs.Tables.{up-one, up-done, up-all, each-take, each-table, table-below, size-of-table, entry-of-table}
-use Rattle.models.specs.Ranges.{ranging, rangeOf, rangesOf, sumOf, tiling, Ranged}
+use Rattle.models.specs.Gathered.{HoldsAt, gathered, Sized, Gathered}
+use Rattle.models.specs.Tables.{each-take, each-table, table-below, size-of-table, entry-of-table}
+use Rattle.models.specs.Ranges.{counting-up, ranging, rangeOf, rangesOf, sumOf, tiling, Ranged}
 use Rattle.models.specs.declared.gather.Models.{Models}
 
 -- what each entry holds
@@ -101,13 +99,20 @@ held-plain {text} {m} h =
     table-below (m .count) (λ k u. (let x = h .holds k u in ap₂ ranging (x .offset-is) (x .length-is)))
     ∙ sym (each-table plain (λ i. modelOf (the text (getD (m .at) i 0))) (m .count))
 
+-- the sum of their counts is the map's length, and each counts one index at least
+pub held-total : {text : List ℕ} {map : ℕ} {m : Models} → BrainHeld text map m → lengthOf (mapOf (the text map)) ≡ total (λ x. x .count) (models (mapOf (the text map)))
+unfolding lengthOf mapOf
+held-total {text} {map} h = brain-sum (the text map) (h .brain .is-brain) ∙ sym (ap (total (λ x. x .count)) (brain-models (the text map) (h .brain .is-brain)))
+
+pub held-counting : {text : List ℕ} {map : ℕ} {m : Models} → BrainHeld text map m → Counting (models (mapOf (the text map)))
+unfolding modelsAt modelAt table
+held-counting {text} {map} {m} h =
+    rw (held-models h) (counting-up (λ i. modelOf (the text (getD (m .at) i 0))) 0 (m .count)
+    (λ k u v. (let x = h .held .holds k (omega arith) in let w = held-ranged (holding (h .held)) .least k (omega arith) in omega (arith, x .length-is))))
+
 pub held-tiling : {text : List ℕ} {map : ℕ} {m : Models} → BrainHeld text map m
     → tiling (rangesOf m) ≡ allBelow (lengthOf (mapOf (the text map))) (λ n. eqb (count (covers n) (models (mapOf (the text map)))) 1)
-unfolding lengthOf mapOf
 held-tiling {text} {map} {m} h =
     ap tiling (held-plain (holding (h .held)) ∙ ap (each plain) (sym (held-models h)))
     ∙ plain-tiling (models (mapOf (the text map)))
-    ∙ ap (λ k. allBelow k (λ n. eqb (count (covers n) (models (mapOf (the text map)))) 1)) (sum-is ∙ refl)
-  where
-    sum-is : total (λ x. x .count) (models (mapOf (the text map))) ≡ lengthBy (contentOf (the text map))
-    sum-is = ap (total (λ x. x .count)) (brain-models (the text map) (h .brain .is-brain)) ∙ sym (brain-sum (the text map) (h .brain .is-brain))
+    ∙ ap (λ k. allBelow k (λ n. eqb (count (covers n) (models (mapOf (the text map)))) 1)) (sym (held-total h))

@@ -1,22 +1,17 @@
 -- The type and the structure of a model, in one number: two models share both if it is the same.
-use mathlib.Core.Path.{_≡_, refl, sym, ap, ap₂, _∙_}
-use mathlib.Core.List.{List, [], _∷_, _++_}
-use mathlib.Core.Bool.{Bool, true, false, cond, _&&_}
-use Prim.Native.Nat.{ℕ, _+_, _<_, _≤_, _^_}
+use mathlib.Core.Path.{_≡_, refl, sym}
+use mathlib.Core.List.{List, []}
+use mathlib.Core.Bool.{Bool, true, false, _&&_}
+use Prim.Native.Nat.{ℕ, _+_, _<_, _≤_}
 use native.Mathlib.Omega.{arith}
 use lib.Dec.{eqb}
-use borrow.Author.Needs.{needs}
 use borrow.Author.Tests.{eqb-true, eq-eqb, ne-eqb, eqb-false}
-use Rattle.grammar.specs.Bytes.{ascii}
 use Rattle.grammar.specs.Document.{Element}
-use Rattle.grammar.specs.Look.{Word, is, attr, has}
-use Rattle.grammar.specs.Parser.{same}
+use Rattle.grammar.specs.Look.{attr}
 use Rattle.nodes.specs.Places.{Stands, the}
-use Rattle.cifti.specs.Words.{structures, numberIn}
-use Rattle.cifti.specs.Maps.{Listed, vertices, voxels, Model, modelOf, listedBy}
+use Rattle.cifti.specs.Maps.{Listed, vertices, voxels, Model, modelOf}
 use Rattle.cifti.specs.Conditions.{sameType, alike}
 use Rattle.maps.specs.Kinds.{GoodModel, model-facts}
-use Rattle.maps.specs.Fields.{wordAt, word-at}
 use Rattle.models.specs.Structures.{structure-below}
 
 -- 32 for voxels, and the structure's number
@@ -67,34 +62,3 @@ type-small (voxels l) = omega arith
 pub kind-small : {e : Element} → GoodModel e → kindNumber (modelOf e) < 64
 unfolding kindNumber
 kind-small {e} g = omega (arith, structure-small g, type-small ((modelOf e) .listed))
-
-type-is : (e : Element) → typeNumber ((modelOf e) .listed) ≡ cond (has "ModelType" "CIFTI_MODEL_TYPE_VOXELS" e) 32 0
-unfolding modelOf listedBy typeNumber
-type-is e = go (has "ModelType" "CIFTI_MODEL_TYPE_VOXELS" e) _ _ _
-  where
-    go : (b : Bool) (l : List ℕ) (n : ℕ) (j : List ℕ) → typeNumber (cond b (voxels l) (vertices n j)) ≡ cond b 32 0
-    go true l n j = refl
-    go false l n j = refl
-
-module _ {text : List ℕ} {at : ℕ} (m : ModelAt text at) {s : ℕ} (es : s ≡ numberIn structures (attr "BrainStructure" (the text at))) where
-  pub kind-stands : Stands text at
-  kind-stands = m .stands
-
-  module _ {b : Bool} (eb : b ≡ same (wordAt (ascii "ModelType") (the text at)) (ascii "CIFTI_MODEL_TYPE_VOXELS")) where
-    type : typeNumber ((modelOf (the text at)) .listed) ≡ cond b 32 0
-    unfolding has is
-    type = type-is (the text at) ∙ ap (λ t. cond t 32 0) (sym (eb ∙ ap (λ w. same w (ascii "CIFTI_MODEL_TYPE_VOXELS")) (word-at "ModelType" (the text at))))
-
-    pub kind-voxels : b ≡ true → 32 + s ≡ kindNumber (modelOf (the text at))
-    unfolding kindNumber modelOf
-    kind-voxels t = let z : typeNumber ((modelOf (the text at)) .listed) ≡ 32 = type ∙ rw t in omega arith
-
-    pub kind-surface : b ≡ false → s ≡ kindNumber (modelOf (the text at))
-    unfolding kindNumber modelOf
-    kind-surface t = let z : typeNumber ((modelOf (the text at)) .listed) ≡ 0 = type ∙ rw t in omega arith
-
-  pub kind-room : 32 + s < 2 ^ 64
-  unfolding modelOf
-  kind-room = omega (arith, structure-small (m .good))
-
-pub ruleset kinding = (kind-stands, kind-voxels, kind-surface, kind-room, needs)

@@ -1,15 +1,11 @@
 pub mod Brain
-pub mod Summing
 pub mod Structures
 pub mod Kind
 pub mod Gathered
-pub mod Gathering
 pub mod Tables
 pub mod Ranges
-pub mod Chaining
 pub mod Numbers
 pub mod Verdicts
 pub mod Listings
 pub mod Sizes
 pub mod Held
-pub mod Judging

@@ -1,21 +1,18 @@
 -- THE LIST OF A MODEL: the text of its only child.
-use mathlib.Core.Path.{_≡_, refl, sym, ap, ap₂, _∙_, subst}
-use mathlib.Core.List.{List, [], _∷_, _++_, append-nil}
-use mathlib.Core.Bool.{Bool, true, false, cond, _&&_}
-use Prim.Native.Nat.{ℕ, zero, suc, _+_, _*_, _<_, _≤_}
+use mathlib.Core.Path.{_≡_, refl, sym, ap, _∙_}
+use mathlib.Core.List.{List, [], _∷_, append-nil}
+use mathlib.Core.Bool.{true, _&&_}
+use Prim.Native.Nat.{ℕ}
 use Prim.Native.String.{String}
 use native.Mathlib.Omega.{arith}
-use lib.Dec.{eqb}
-use lib.ListN.{length, drop}
-use borrow.Author.Needs.{needs}
-use borrow.Author.Tests.{ne-eqb}
-use Rattle.lists.specs.Lists.{all, each, eachIn, those}
-use Rattle.grammar.specs.Bytes.{ascii, between}
+use lib.ListN.{drop}
+use Rattle.lists.specs.Lists.{all, eachIn, those}
+use Rattle.grammar.specs.Bytes.{between}
 use Rattle.grammar.specs.Document.{Element}
 use Rattle.grammar.specs.Facts.{and-left, and-right}
-use Rattle.grammar.specs.Look.{Word, is, nameOf, attr, has, contentsOf, elements, children, textOf}
-use Rattle.numbers.specs.Numbers.{digits, value, whole, wholes, words, values, parts, filled}
-use Rattle.nodes.specs.Places.{Stands, the}
+use Rattle.grammar.specs.Look.{Word, attr, contentsOf, elements, children, textOf}
+use Rattle.numbers.specs.Numbers.{digits, value, whole, wholes, words, values}
+use Rattle.nodes.specs.Places.{the}
 use Rattle.nodes.specs.Children.{first, next}
 use Rattle.nodes.specs.Walk.{kids, Walk, walk-children, kids-children, walk-none, turn-at, turn-splits}
 use Rattle.nodes.specs.Says.{says}
@@ -25,15 +22,10 @@ use Rattle.nodes.specs.declared.Kid.the-variants.{Child, Done}
 use Rattle.nodes.specs.declared.Found.{Found}
 use Rattle.nodes.specs.declared.Found.the-variants.{At, Nothing}
 use Rattle.cifti.specs.Rows.{ElementKind}
-use Rattle.cifti.specs.Maps.{Voxel, Listed, vertices, voxels, Model, modelOf, listedBy, threes, voxelsOf}
-use Rattle.cifti.specs.Conditions.{listsCount, beyond, outside}
-use Rattle.maps.specs.Good.{Good}
-use Rattle.maps.specs.Kinds.{GoodModel, surface-model, voxel-model, OnlyChild, surface-child, voxels-child, vertex-list, voxel-list, surface-size, model-facts}
-use Rattle.maps.specs.Fields.{wordAt, numberSeen, word-at, number-seen}
-use Rattle.models.specs.Brain.{whole-within}
-use Rattle.models.specs.Kind.{ModelAt, kindNumber, typeNumber, structure-small}
+use Rattle.cifti.specs.Maps.{Listed, vertices, voxels, modelOf, listedBy}
+use Rattle.maps.specs.Kinds.{GoodModel, surface-model, voxel-model, OnlyChild, surface-child, voxels-child, vertex-list, voxel-list, surface-size}
+use Rattle.models.specs.Kind.{ModelAt, kindNumber}
 use Rattle.models.specs.Numbers.{valuesAt, InForm}
-use Rattle.models.specs.Verdicts.{verdictBy, listVerdict, verticesVerdict, voxelsVerdict}
 
 -- the numbers that are listed
 unfoldable pub numbersOf : Listed → List ℕ
@@ -91,7 +83,7 @@ pub record ListAt (text : List ℕ) (at : ℕ) (f : Found) : Type 0 where
   pub form : all (digits 1 7) (words (text-from text f)) ≡ true
   pub numbers : values (text-from text f) ≡ numbersOf ((modelOf (the text at)) .listed)
 
-listed-is : (e : Element) → (modelOf e) .listed ≡ listedBy e
+pub listed-is : (e : Element) → (modelOf e) .listed ≡ listedBy e
 unfolding modelOf
 listed-is e = refl
 
@@ -121,8 +113,6 @@ module _ {text : List ℕ} {at : ℕ} (m : ModelAt text at) {kid : Kid} (e : kid
           numbers = ap values t ∙ sym (only .numbers) ∙ ap numbersOf (sym (listed-is (the text at)));
         }
 
-pub ruleset starting = (list-none, list-there, needs)
-
 -- ---- What is said of it.
 
 pub record Known (text : List ℕ) (at size kind : ℕ) : Type 0 where
@@ -130,83 +120,18 @@ pub record Known (text : List ℕ) (at size kind : ℕ) : Type 0 where
   pub length-is : size ≡ (modelOf (the text at)) .count
   pub kind-is : kind ≡ kindNumber (modelOf (the text at))
 
-from-at : (text : List ℕ) (i : ℕ) → text-from text (At i) ≡ says (drop i text)
+pub from-at : (text : List ℕ) (i : ℕ) → text-from text (At i) ≡ says (drop i text)
 unfolding text-from
 from-at text i = refl
 
-from-none : (text : List ℕ) → text-from text Nothing ≡ []
-unfolding text-from
-from-none text = refl
+-- the numbers from there on
+module _ {text : List ℕ} {at : ℕ} {f : Found} (x : ListAt text at f) {i : ℕ} (q : f ≡ At i) where
+  here : text-from text f ≡ says (drop i text)
+  here = ap (text-from text) q ∙ from-at text i
 
-values-none : values [] ≡ []
-unfolding values words each parts those filled
-values-none = refl
+  pub list-form : InForm text i
+  list-form = record { all-digits = sym (ap (λ w. all (digits 1 7) (words w)) here) ∙ x .form }
 
-counts-none : (n : ℕ) (l : Listed) → 1 ≤ n → numbersOf l ≡ [] → listsCount n l ≡ false
-unfolding listsCount numbersOf
-counts-none n (vertices s l) h e = ne-eqb (length l) n (λ z. omega (arith, ap length e))
-counts-none n (voxels l) h e = ne-eqb (length l) (3 * n) (λ z. omega (arith, ap length e))
-
-count-some : {e : Element} → GoodModel e → 1 ≤ (modelOf e) .count
-unfolding modelOf
-count-some {e} g = whole-within 1 1048576 (attr "IndexCount" e) (model-facts g .count) .0
-
-voxels-said : (volume : Voxel) (size : ℕ) (l : List ℕ) → verdictBy (listsCount size (voxels l)) (beyond volume (voxels l)) ≡ voxelsVerdict size volume l
-unfolding listsCount beyond voxelsOf voxelsVerdict
-voxels-said volume size l = refl
-
-vertices-said : (volume : Voxel) (size surface : ℕ) (l : List ℕ) → verdictBy (listsCount size (vertices surface l)) (beyond volume (vertices surface l)) ≡ verticesVerdict size surface l
-unfolding listsCount beyond verticesVerdict
-vertices-said volume size surface l = refl
-
-module _ (volume : Voxel) {text : List ℕ} {at size kind : ℕ} (k : Known text at size kind) {f : Found} (x : ListAt text at f) where
-  pub judge-stands : Stands text at
-  judge-stands = k .model .stands
-
-  pub judge-none : f ≡ Nothing → 11 ≡ listVerdict volume (modelOf (the text at))
-  unfolding listVerdict verdictBy
-  judge-none q =
-      let e : numbersOf ((modelOf (the text at)) .listed) ≡ [] = sym (x .numbers) ∙ ap (λ g. values (text-from text g)) q ∙ ap values (from-none text) ∙ values-none in
-      let c = counts-none ((modelOf (the text at)) .count) ((modelOf (the text at)) .listed) (count-some (k .model .good)) e in
-      sym (rw c)
-
-  module _ {i : ℕ} (q : f ≡ At i) where
-    t : text-from text f ≡ says (drop i text)
-    t = ap (text-from text) q ∙ from-at text i
-
-    pub judge-form : InForm text i
-    judge-form = record { all-digits = sym (ap (λ w. all (digits 1 7) (words w)) t) ∙ x .form }
-
-    numbers : numbersOf ((modelOf (the text at)) .listed) ≡ valuesAt text i
-    unfolding valuesAt
-    numbers = sym (x .numbers) ∙ ap values t
-
-    pub judge-voxels : 32 ≤ kind → {r : ℕ} → r ≡ voxelsVerdict size volume (valuesAt text i) → r ≡ listVerdict volume (modelOf (the text at))
-    unfolding listVerdict kindNumber typeNumber numbersOf
-    judge-voxels h {r} y = y ∙ sym (go ((modelOf (the text at)) .listed) refl (sym (k .kind-is)) numbers)
-      where
-        go : (l : Listed) → (modelOf (the text at)) .listed ≡ l → typeNumber l + (modelOf (the text at)) .structure ≡ kind → numbersOf l ≡ valuesAt text i
-            → verdictBy (listsCount ((modelOf (the text at)) .count) l) (beyond volume l) ≡ voxelsVerdict size volume (valuesAt text i)
-        go (vertices s l) p e n = absurd (omega (arith, structure-small (k .model .good)))
-        go (voxels l) p e n = voxels-said volume ((modelOf (the text at)) .count) l ∙ ap₂ (λ a b. voxelsVerdict a volume b) (sym (k .length-is)) n
-
-    pub judge-vertices : kind < 32 → {surface r : ℕ} → surface ≡ numberSeen 1 1048576 (wordAt (ascii "SurfaceNumberOfVertices") (the text at)) → r ≡ verticesVerdict size surface (valuesAt text i) → r ≡ listVerdict volume (modelOf (the text at))
-    unfolding listVerdict kindNumber typeNumber numbersOf
-    judge-vertices h {surface} {r} s y = y ∙ sym (go (model-lists (k .model .good)))
-      where
-        wide : (l : Listed) → (modelOf (the text at)) .listed ≡ l → kind ≡ typeNumber l + (modelOf (the text at)) .structure
-        wide l p = k .kind-is ∙ ap (λ z. typeNumber z + (modelOf (the text at)) .structure) p
-
-        go : Lists (the text at) → verdictBy (listsCount ((modelOf (the text at)) .count) ((modelOf (the text at)) .listed)) (beyond volume ((modelOf (the text at)) .listed)) ≡ verticesVerdict size surface (valuesAt text i)
-        go (lists-voxels o a g n) = absurd (let z = wide _ (listed-is (the text at) ∙ n) in omega arith)
-        go (lists-vertices o a g n w) =
-            let p = listed-is (the text at) ∙ n in
-            let seen : surface ≡ value (attr "SurfaceNumberOfVertices" (the text at)) =
-            s ∙ ap (numberSeen 1 1048576) (word-at "SurfaceNumberOfVertices" (the text at)) ∙ number-seen 1 1048576 (attr "SurfaceNumberOfVertices" (the text at)) w in
-            let same : values (textOf o) ≡ valuesAt text i = sym (ap numbersOf p) ∙ numbers in
-            ap (λ l. verdictBy (listsCount ((modelOf (the text at)) .count) l) (beyond volume l)) p
-            ∙ vertices-said volume ((modelOf (the text at)) .count) (value (attr "SurfaceNumberOfVertices" (the text at))) (values (textOf o))
-            ∙ ap₂ (λ b c. verticesVerdict b (value (attr "SurfaceNumberOfVertices" (the text at))) c) (sym (k .length-is)) same
-            ∙ ap (λ b. verticesVerdict size b (valuesAt text i)) (sym seen)
-
-pub ruleset judging = (judge-stands, judge-none, judge-form, judge-voxels, judge-vertices, needs)
+  pub list-numbers : numbersOf ((modelOf (the text at)) .listed) ≡ valuesAt text i
+  unfolding valuesAt
+  list-numbers = sym (x .numbers) ∙ ap values here

@@ -28,7 +28,12 @@ fn map_rule(text: &[u8], at: usize) -> u64
     requires { ⌜ MapAt (now text) at ⌝ }
     ensures { λ r. ⌜ r ≡ mapRule (mapOf (the (now (text .entry)) at)) ⌝ }
 {
-    if attribute_is(text, at, b"IndicesMapToDataType", b"CIFTI_INDEX_TYPE_BRAIN_MODELS") {
+    if attribute_is(
+        text,
+        at,
+        b"IndicesMapToDataType",
+        b"CIFTI_INDEX_TYPE_BRAIN_MODELS",
+    ) {
         let models = models_of(text, at);
         if models.shared {
             return 10;

@@ -13,7 +13,12 @@ fn map_twice(text: &[u8], at: usize, work: &mut [u64]) -> bool
     requires { ⌜ OneFine (now text) at (length (now work)) ⌝ }
     ensures { λ r. ⌜ ToldOne (now (text .entry)) at (now (work .entry)) r (now (work .exit)) ⌝ }
 {
-    if attribute_is(text, at, b"IndicesMapToDataType", b"CIFTI_INDEX_TYPE_BRAIN_MODELS") {
+    if attribute_is(
+        text,
+        at,
+        b"IndicesMapToDataType",
+        b"CIFTI_INDEX_TYPE_BRAIN_MODELS",
+    ) {
         return location_twice(text, at, work);
     }
     false

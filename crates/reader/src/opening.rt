@@ -46,18 +46,33 @@ fn of_root(text: &[u8], root: usize) -> Opening
     ensures { λ r. ⌜ Found (now (text .entry)) (the (now (text .entry)) root) r ⌝ }
 {
     if root_wrong(text, root) {
-        return Opening { number: 4, matrix: 0 };
+        return Opening {
+            number: 4,
+            matrix: 0,
+        };
     }
     if kind_not_read(text, root) {
-        return Opening { number: 5, matrix: 0 };
+        return Opening {
+            number: 5,
+            matrix: 0,
+        };
     }
     let fault = fault_number(text, root);
     if fault != 0 {
-        return Opening { number: fault, matrix: 0 };
+        return Opening {
+            number: fault,
+            matrix: 0,
+        };
     }
     match first_child(text, root) {
-        Kid::Child(m) => Opening { number: 0, matrix: m },
-        Kid::Done => Opening { number: 0, matrix: 0 },
+        Kid::Child(m) => Opening {
+            number: 0,
+            matrix: m,
+        },
+        Kid::Done => Opening {
+            number: 0,
+            matrix: 0,
+        },
     }
 }
 
@@ -75,7 +90,10 @@ fn in_document(text: &[u8]) -> Opening
 {
     match root_of(text) {
         Kid::Child(r) => of_root(text, r),
-        Kid::Done => Opening { number: 3, matrix: 0 },
+        Kid::Done => Opening {
+            number: 3,
+            matrix: 0,
+        },
     }
 }
 
@@ -83,13 +101,22 @@ pub fn opened(text: &[u8], lengths: &[u64]) -> Opening
     ensures { λ r. ⌜ Opens (now (text .entry)) (now (lengths .entry)) r ⌝ }
 {
     if lengths_wrong(lengths) {
-        return Opening { number: 1, matrix: 0 };
+        return Opening {
+            number: 1,
+            matrix: 0,
+        };
     }
     if 16_777_216 < text.len() {
-        return Opening { number: 2, matrix: 0 };
+        return Opening {
+            number: 2,
+            matrix: 0,
+        };
     }
     if well_formed(text) {
         return in_document(text);
     }
-    Opening { number: 3, matrix: 0 }
+    Opening {
+        number: 3,
+        matrix: 0,
+    }
 }

@@ -29,10 +29,19 @@ pub fn surveyed(text: &[u8], lengths: &[u64]) -> Survey
     }
     let maps = maps_of(text, m);
     if dimensions_wrong(text, m, maps, lengths) {
-        return Survey { number: 8, maps: maps };
+        return Survey {
+            number: 8,
+            maps: maps,
+        };
     }
     if length_wrong(text, maps, lengths) {
-        return Survey { number: 9, maps: maps };
+        return Survey {
+            number: 9,
+            maps: maps,
+        };
     }
-    Survey { number: 0, maps: maps }
+    Survey {
+        number: 0,
+        maps: maps,
+    }
 }

@@ -26,7 +26,7 @@ use Rattle.shape.specs.Table.{formAt, attributeAt, attributeForms, attri
 use Rattle.shape.specs.Faults.{fault, sooner}
 use Rattle.shape.specs.Parts.{namedOnly, attributesFault, textFault, ownFault}
 use Rattle.shape.specs.Asked.{Attributed, OfKind}
-use Rattle.shape.proofs.LawsWords.{and-left, and-right}
+use Rattle.grammar.specs.Facts.{and-left, and-right}
 use Rattle.shape.proofs.LawsFaults.{fault-and, IsFault, is-fault, is-none, is-six, sooner-fault, sooner-turned, sooner-three, none-sooner, sooner-none, six-first}
 use Rattle.shape.proofs.LawsValues.{count-more, count-end}
 use Rattle.shape.proofs.LawsExact.{named-law}
@@ -34,7 +34,6 @@ use Rattle.shape.proofs.LawsExact.{named-law}
 -- what is found of an attribute named in letters, and what the document has
 value-in-law : {text : List ℕ} {at : ℕ} (s : String) → Stands text at → Held text (place text at (ascii s)) (valueIn s (attributesOf (the text at)))
 value-in-law {text} {at} s st = rw (← lookup-is s (attributesOf (the text at))) (attribute-law (ascii s) st)
-
 
 -- what the reader of attributes found is what the document has
 module _ {text : List ℕ} {at : ℕ} (st : Stands text at) (w : ℕ) {f : Found} (a : f ≡ place text at (ascii (wordAt w))) where
@@ -153,7 +152,7 @@ module _ (text : List ℕ) (at kind : ℕ) (p : OfKind text at kind) {a : ℕ} (
     pub own-order : from ≤ to
     own-order = rw (f, t) (leb-true _ _ (and-left _ _ (bounded kind (p .known))))
 
-    named-as : namedOnly (attributesOfKind kind) (attributesOf (the text at)) ≡ eqb c (to - from)
+    named-as : namedOnly (attributesOfKind kind) (attributesOf (the text at)) ≡ eqb (to - from) c
     unfolding attributesFault fault
     named-as =
         named-law (p .stands) kind (p .known) (shaped-all (all (attributeShaped (attributesOf (the text at))) (attributesOfKind kind)) (all (attributeNumbered (attributesOf (the text at))) (attributesOfKind kind)) refl (λ e. n (i ∙ e)))
@@ -165,10 +164,10 @@ module _ (text : List ℕ) (at kind : ℕ) (p : OfKind text at kind) {a : ℕ} (
 
     pub own-other : (c ≡ to - from → ⊥) → 6 ≡ ownFault kind (the text at)
     unfolding ownFault fault
-    own-other h = sym (rw (named-as, ne-eqb c (to - from) h) (six-first (sooner-fault (attributes-faulty (attributesOfKind kind) (attributesOf (the text at))) (text-faulty (getD texts kind 0) (textOf (the text at))))))
+    own-other h = sym (rw (named-as, ne-eqb (to - from) c (λ e. h (sym e))) (six-first (sooner-fault (attributes-faulty (attributesOfKind kind) (attributesOf (the text at))) (text-faulty (getD texts kind 0) (textOf (the text at))))))
 
     pub own-text : c ≡ to - from → {g : ℕ} → g ≡ getD texts kind 0 → {r : ℕ} → r ≡ textFault g (textOf (the text at)) → {s : ℕ} → s ≡ sooner a r → s ≡ ownFault kind (the text at)
     unfolding ownFault fault
-    own-text h u r s = s ∙ rw (r, u) (sym (rw (named-as, eq-eqb c (to - from) h, ← i) (none-sooner _)))
+    own-text h u r s = s ∙ rw (r, u) (sym (rw (named-as, eq-eqb (to - from) c (sym h), ← i) (none-sooner _)))
 
 pub ruleset owning = (own-six, own-order, own-other, own-text, ofkind-known, ofkind-stands, needs)

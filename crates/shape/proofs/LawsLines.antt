@@ -25,7 +25,7 @@ use Rattle.shape.specs.Words.{dictionary, wordAt, firstWord}
 use Rattle.shape.specs.Table.{kinds, kindAt, lineAt, linesOfKind, linesFrom, linesTo, lineNames, lineKinds, whichAt, choices, each-below}
 use Rattle.shape.specs.Lines.{KindIs, kindOrNone, lineOf, lineName, caseAt}
 use Rattle.shape.specs.Asked.{Named, OfKind, OfLine, Lined, Choosing}
-use Rattle.shape.proofs.LawsWords.{and-left, and-right}
+use Rattle.grammar.specs.Facts.{and-left, and-right}
 use Rattle.shape.proofs.LawsValues.{count-more, count-end}
 use Rattle.shape.proofs.LawsAttributes.{found-none, found-some, ofkind-known}
 

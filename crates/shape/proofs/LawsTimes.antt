@@ -24,7 +24,7 @@ use Rattle.shape.specs.Table.{kinds, kindAt, lineAt, linesOfKind, linesF
 use Rattle.shape.specs.Lines.{lineOf, lineName, standsBy, timesBy, needing, countedOf}
 use Rattle.shape.specs.Parts.{timesRight}
 use Rattle.shape.specs.declared.walk.Tally.{Tally}
-use Rattle.shape.proofs.LawsWords.{same-equal}
+use Rattle.grammar.specs.Tokens.{same-equal}
 use Rattle.shape.proofs.LawsValues.{count-more, count-end}
 use Rattle.shape.proofs.LawsLines.{range, HasLine}
 

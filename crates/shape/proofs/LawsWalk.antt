@@ -6,20 +6,16 @@ use mathlib.Core.Option
 use mathlib.Core.Bool.{Bool, true, false, _||_}
 use Prim.Native.Nat.{ℕ, zero, suc, _+_, _-_, _<_, _≤_}
 use native.Mathlib.Omega.{arith}
-use lib.ListN.{getD, set, length, length-drop, drop}
+use lib.ListN.{getD, set, length}
 use borrow.Author.Needs.{needs}
 use Rattle.lists.specs.Lists.{all, any, count, ifThere, isSome}
 use Rattle.grammar.specs.Document.{Element}
-use Rattle.grammar.specs.Read.{Read, fail, got, Ok, good, ok-got}
-use Rattle.grammar.specs.Parser.{Look, look, at-close, at-comment, at-element, at-text, comment-at}
 use Rattle.grammar.specs.Look.{elements, contentsOf}
 use Rattle.schema.specs.Schema.{kindOf, shaped, numbered, everywhere}
 use Rattle.schema.specs.Walk.{atChild}
 use Rattle.cifti.specs.Rows.{rows}
-use Rattle.nodes.specs.Deeper.{comment-eats}
-use Rattle.nodes.specs.Scan.{to-tag, to-tag-short, tag-at, tag-less}
 use Rattle.nodes.specs.Places.{Stands, the}
-use Rattle.nodes.specs.Children.{first, first-by, next, left, kid-at, kid-within, kid-by, kid-then}
+use Rattle.nodes.specs.Children.{first, next, left, first-falls}
 use Rattle.nodes.specs.Walk.{Walk, Turn, kids, walk-children, kids-children, walk-none, turn-at, left-fits}
 use Rattle.nodes.specs.declared.Kid.{Kid}
 use Rattle.nodes.specs.declared.Kid.the-variants.{Child, Done}
@@ -35,37 +31,9 @@ use Rattle.shape.proofs.LawsAttributes.{own-faulty}
 use Rattle.shape.proofs.LawsLines.{range, HasLine, has-line, kind-none, kind-some}
 use Rattle.shape.proofs.LawsTimes.{named-line, times-law, Counted, counted-on}
 
--- the first child stands behind its parent's start
-then-left : (text : List ℕ) (m : Read (Unit {0})) (f : List ℕ → Kid) (s : List ℕ) → Ok (λ _ r. length r < length s) m → ((r : List ℕ) → left text (f r) ≤ length r) → left text (kid-then m f) ≤ length s
-unfolding kid-then left
-then-left text fail f s h k = omega arith
-then-left text (got u r) f s (good h) k = omega (arith, k r)
-
-by-left : (text : List ℕ) (f : List ℕ → Kid) (l : Look) (s : List ℕ) → ((r : List ℕ) → left text (f r) ≤ length r) → left text (kid-by l f (length text) s) ≤ length s
-unfolding kid-by left
-by-left text f at-close s k = omega arith
-by-left text f at-comment s k = then-left text (comment-at s) f s (comment-eats s) k
-by-left text f at-element s k = omega arith
-by-left text f at-text s k = omega arith
-
-within-left : (m : ℕ) (text s : List ℕ) → left text (kid-within m (length text) s) ≤ length s
-unfolding kid-within left
-within-left zero text s = omega arith
-within-left (suc m) text s = omega (arith, to-tag-short s, by-left text (kid-within m (length text)) (look (to-tag s)) (to-tag s) (λ r. within-left m text r))
-
-first-left : (text s : List ℕ) (m : Read Bool) → ((b : Bool) (r : List ℕ) → m ≡ got b r → length r < length s) → 0 < length s → left text (first-by (length text) m) < length s
-unfolding first-by left kid-at
-first-left text s fail f h = h
-first-left text s (got true r) f h = let z = within-left (suc (length r)) text r in let u = f true r refl in omega arith
-first-left text s (got false r) f h = h
-
-first-falls : (text : List ℕ) (at : ℕ) → Stands text at → left text (first text at) < length text - at
-unfolding first
-first-falls text at st =
-    let n : length (drop at text) ≡ length text - at = length-drop at text in
-    let h = st .here in
-    let z : left text (first-by (length text) (tag-at (drop at text))) < length (drop at text) = first-left text (drop at text) (tag-at (drop at text)) (λ b r e. ok-got (rw e at (tag-less (drop at text))) .falls) (omega arith) in
-    omega arith
+first-deeper : {text : List ℕ} {at : ℕ} → Stands text at → left text (first text at) < length text - at
+unfolding left
+first-deeper st = first-falls st
 
 -- the children, one by one
 kids-faulty : (k : ℕ) (l : List Element) → IsFault (kidsFault k l)
@@ -149,7 +117,7 @@ module _ {text : List ℕ} {at kind : ℕ} (p : OfKind text at kind) {worst : �
         of-kind = p;
         starts = f;
         walk = walk-children (p .stands);
-        deeper = first-falls text at (p .stands);
+        deeper = first-deeper (p .stands);
         faulty = rw w (own-faulty kind (the text at));
         faults = rw (w, kids-children (p .stands));
         counted = record { size = refl; lines = λ q h. rw (nothing-yet q, kids-children (p .stands)) (let z : count (named-line (getD linesFrom kind 0 + q)) (elements (contentsOf (the text at))) ≡ 0 + count (named-line (getD linesFrom kind 0 + q)) (elements (contentsOf (the text at))) = omega arith in z); voxels = rw (kids-children (p .stands)) };

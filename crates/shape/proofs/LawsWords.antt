@@ -1,34 +1,17 @@
 -- The words in the code's constant are those of the dictionary: one test that is computed.
 use mathlib.Core.Path.{_≡_, refl}
-use mathlib.Core.List.{List, [], _∷_}
-use mathlib.Core.Bool.{Bool, true, false, _&&_}
+use mathlib.Core.Bool.{Bool, true, _&&_}
 use Prim.Native.Nat.{ℕ, _+_, _-_, _<_, _≤_}
-use native.Mathlib.Omega.{arith}
-use lib.Dec.{eqb, leb}
+use lib.Dec.{leb}
 use lib.ListN.{take, drop}
-use borrow.Author.Tests.{eqb-true, leb-true}
+use borrow.Author.Tests.{leb-true}
 use Rattle.lists.specs.Lists.{allBelow, each}
 use Rattle.lists.specs.Quantifiers.{allBelow-iff}
 use Rattle.grammar.specs.Bytes.{ascii}
+use Rattle.grammar.specs.Facts.{and-left, and-right}
 use Rattle.grammar.specs.Parser.{same}
+use Rattle.grammar.specs.Tokens.{same-equal}
 use Rattle.shape.specs.Words.{dictionary, wordAt, letters, bounds, bound, lettersOf}
-
-pub and-left : (a b : Bool) → (a && b) ≡ true → a ≡ true
-and-left true b h = refl
-and-left false b h = h
-
-pub and-right : (a b : Bool) → (a && b) ≡ true → b ≡ true
-and-right true b h = h
-and-right false b h = let z : _≡_ {A = ℕ} 0 1 = cc in absurd (omega arith)
-
-pub same-equal : (n m : List ℕ) → same n m ≡ true → n ≡ m
-unfolding same
-same-equal [] [] e = refl
-same-equal [] (b ∷ m) e = let z : _≡_ {A = ℕ} 0 1 = cc in absurd (omega arith)
-same-equal (a ∷ n) [] e = let z : _≡_ {A = ℕ} 0 1 = cc in absurd (omega arith)
-same-equal (a ∷ n) (b ∷ m) e =
-    let h = eqb-true a b (and-left (eqb a b) (same n m) e) in
-    let k = same-equal n m (and-right (eqb a b) (same n m) e) in rw (h, k)
 
 fits : ℕ → Bool
 fits w = same (lettersOf w) (ascii (wordAt w)) && (leb (bound w) (bound (w + 1)) && leb (bound (w + 1)) 1514)

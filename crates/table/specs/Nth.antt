@@ -1,7 +1,8 @@
 -- THE POSITION IN A LIST NEVER STARTS AGAIN: the n-th vertex, the n-th voxel of a model's list stands n places behind the place where the model begins.
 use mathlib.Core.Path.{_≡_, refl, sym, ap, _∙_}
 use mathlib.Core.List.{List, [], _∷_}
-use Prim.Native.Nat.{ℕ, zero, suc, _+_, _*_, _<_, _≤_}
+use mathlib.Core.Bool.{true}
+use Prim.Native.Nat.{ℕ, zero, suc, _+_, _-_, _*_, _<_, _≤_}
 use native.Mathlib.Nat.{le-of-suc-le-suc, not-suc-le-zero}
 use native.Mathlib.Omega.{arith}
 use lib.ListN.{length, getD}
@@ -9,9 +10,13 @@ use Rattle.lists.specs.Lists.{each}
 use Rattle.lists.specs.Laws.{length-each}
 use Rattle.records.specs.Record.{onSurface, inVolume, recordOf}
 use Rattle.records.specs.Fill.{wrote}
-use Rattle.cifti.specs.Maps.{Voxel, voxel, vertices, voxels, Model, threes, voxelAt, locations, locationsBy}
+use Rattle.cifti.specs.Maps.{Voxel, voxel, vertices, voxels, Model, models, lengthOf, covers, threes, voxelAt, locations, locationsBy}
+use Rattle.cifti.specs.Answer.{stretch}
+use Rattle.cifti.specs.Meaning.{even-iff, covers-iff, record-at}
+use Rattle.cifti.specs.Said.{stretch-at}
 use Rattle.maps.specs.Fill.{wrote-in}
 use Rattle.maps.specs.Table.{recordsOf}
+use Rattle.table.specs.Ready.{mapAt, Ready, nobody, in-range}
 
 at-each : {A B : Type 0} (f : A → B) (l : List A) (z : A) (y : B) (p : ℕ) → p < length l → getD (each f l) p y ≡ f (getD l p z)
 unfolding each
@@ -66,3 +71,22 @@ module _ (m : Model) (at : ℕ) (out : List ℕ) (room : at + length (recordsOf 
       ∙ at-each recordOf (each (voxelAt (m .structure)) (threes l)) (onSurface 0 0) 0 n (omega arith)
       ∙ ap recordOf (at-each (voxelAt (m .structure)) (threes l) (voxel 0 0 0) (onSurface 0 0) n v)
       ∙ ap (λ x. recordOf (voxelAt (m .structure) x)) t
+
+-- ---- In the map: the n-th of a model's list is at IndexOffset + n of the stretch.
+
+module _ {text : List ℕ} {map room start : ℕ} (r : Ready text map room start) (a : ℕ) (u : a < length (models (mapAt text map))) where
+  abbrev here : Model
+  here = getD (models (mapAt text map)) a nobody
+
+  pub nth-index : (n : ℕ) → n < here .count → getD (stretch (mapAt text map)) (here .offset + n) 0 ≡ recordOf (getD (locations here) n (onSurface 0 0))
+  nth-index n h =
+      let e = even-iff nobody (mapAt text map) .0 (r .even) in
+      let c : covers (here .offset + n) here ≡ true = covers-iff (here .offset + n) here .1 (omega arith, omega arith) in
+      let w : here .offset + n < lengthOf (mapAt text map) = omega (arith, in-range (r .brain) (r .even) a u) in
+      let o = e .one (here .offset + n) w in
+      let i : a ≡ o .0 = o .3 a u c in
+      let d : here .offset + n - here .offset ≡ n = omega arith in
+      stretch-at (mapAt text map) (here .offset + n) w
+      ∙ record-at nobody (models (mapAt text map)) (here .offset + n) o
+      ∙ ap (λ k. recordOf (getD (locations (getD (models (mapAt text map)) k nobody)) (here .offset + n - (getD (models (mapAt text map)) k nobody) .offset) (onSurface 0 0))) (sym i)
+      ∙ ap (λ k. recordOf (getD (locations here) k (onSurface 0 0))) d

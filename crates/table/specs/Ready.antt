@@ -23,6 +23,7 @@ use Rattle.maps.specs.Table.{recordsOf, fitting, table-law}
 use Rattle.maps.specs.Good.{AllGood, none-left, one-good}
 use Rattle.maps.specs.Kinds.{GoodModel, good-model, model-facts, brainRows, brain-children}
 use Rattle.models.specs.Brain.{BrainAt, isModel, models-are, brain-models, brain-volume, brain-sum, whole-within}
+use Rattle.models.specs.Verdicts.{listsRule}
 use Rattle.models.specs.Gathered.{Gathered, Gathers}
 use Rattle.models.specs.Held.{BrainHeld, holding, modelsAt, held-models, held-count, held-at}
 use Rattle.models.specs.declared.gather.Models.{Models}
@@ -40,6 +41,16 @@ pub record Ready (text : List ℕ) (map room start : ℕ) : Type 0 where
   pub even : uneven (mapAt text map) ≡ false
   pub in-volume : any (λ b. beyond (volumeOf (mapAt text map)) (b .listed)) (models (mapAt text map)) ≡ false
   pub enough : start + lengthOf (mapAt text map) ≤ room
+
+-- by the answers of condition 10 and of 11 and 12
+pub ready-by : {text : List ℕ} {map room start : ℕ} → BrainAt text map → twoOf alike (models (mapAt text map)) ≡ false → listsRule (mapAt text map) ≡ 0 → start + lengthOf (mapAt text map) ≤ room → Ready text map room start
+unfolding listsRule
+ready-by {text} {map} {room} {start} b a l e = go (uneven (mapAt text map)) (any (λ x. beyond (volumeOf (mapAt text map)) (x .listed)) (models (mapAt text map))) refl refl l
+  where
+    go : (x y : Bool) → uneven (mapAt text map) ≡ x → any (λ x. beyond (volumeOf (mapAt text map)) (x .listed)) (models (mapAt text map)) ≡ y → _≡_ {A = ℕ} (cond x 11 (cond y 12 0)) 0 → Ready text map room start
+    go true y p q h = absurd (omega arith)
+    go false true p q h = absurd (omega arith)
+    go false false p q h = record { brain = b; apart = a; even = p; in-volume = q; enough = e }
 
 -- the stretch is written from `start` on, and its length told
 pub record Filled (text : List ℕ) (map : ℕ) (before : List ℕ) (start n : ℕ) (after : List ℕ) : Type 0 where
@@ -110,12 +121,20 @@ pub sum-is : {text : List ℕ} {map : ℕ} → BrainAt text map → lengthOf (ma
 unfolding lengthOf mapOf
 sum-is {text} {map} b = brain-sum (the text map) (b .is-brain) ∙ ap (total (λ x. x .count)) (sym (brain-models (the text map) (b .is-brain)))
 
+-- where 11 does not apply, every model has its place in the map
+all-places : {text : List ℕ} {map : ℕ} → BrainAt text map → uneven (mapAt text map) ≡ false → Fitting recordsOf (lengthOf (mapAt text map)) (models (mapAt text map))
+all-places {text} {map} b e = fitting nobody (mapAt text map) e (counting b) (sum-is b)
+
+pub in-range : {text : List ℕ} {map : ℕ} → BrainAt text map → uneven (mapAt text map) ≡ false → (i : ℕ) → i < length (models (mapAt text map))
+    → (getD (models (mapAt text map)) i nobody) .offset + (getD (models (mapAt text map)) i nobody) .count ≤ lengthOf (mapAt text map)
+in-range b e i u = fits-by (all-places b e) nobody i u .1
+
 module _ {text : List ℕ} {map room start : ℕ} (r : Ready text map room start) where
   pub ready-brain : BrainAt text map
   ready-brain = r .brain
 
   places : Fitting recordsOf (lengthOf (mapAt text map)) (models (mapAt text map))
-  places = fitting nobody (mapAt text map) (r .even) (counting (r .brain)) (sum-is (r .brain))
+  places = all-places (r .brain) (r .even)
 
   module _ {m : Models} (gs : Gathers text map m) where
     pub ready-gathered : Gathered text map m

@@ -1,5 +1,4 @@
-use Rattle.models.specs.Kind.{kinding}
-use native.Mathlib.Omega.{arith}
+use Rattle.models.proofs.LawsKind.{kinding}
 use borrow.Author.Needs.{needs}
 use Rattle.models.proofs.gather.kind_at.Statement.{statement}
 use Rattle.models.proofs.gather.kind_at.Tie as tie

@@ -1,6 +1,5 @@
 use Rattle.nodes.specs.Children.{left}
-use Rattle.models.specs.Gathering.{Gathering, gathering, gathering-room}
-use native.Mathlib.Omega.{arith}
+use Rattle.models.proofs.LawsGathering.{Gathering, gathering, gathering-room}
 use Rattle.models.proofs.gather.models_of.Statement.{statement}
 use Rattle.models.proofs.gather.models_of.Tie as tie
 
@@ -10,7 +9,6 @@ Inv-loop text map models₀ seen₀ kid₀ t9 models seen kid = Gathering text m
 abbrev μ-loop : tie.MeasureT-loop
 μ-loop text map models₀ seen₀ kid₀ t9 models seen kid = left text kid
 
--- src/gather.rt:86:21
 with-model-requires : tie.Need-with-model-requires Inv-loop μ-loop
 with-model-requires c κs =
     gathering-room (c .before .before .before .before .before .before .before .before .before .loop .inv) (c .before .before .before .before .before .before .before .kid .given .1) (c .before .before .before .name-is .ensures) (c .before .before .if1 .taken)

@@ -1,11 +1,9 @@
 use mathlib.Core.Path.{ap₂}
 use Rattle.models.specs.Gathered.{withModel}
-use native.Mathlib.Omega.{arith}
 use borrow.Author.Needs.{needs}
 use Rattle.models.proofs.gather.with_model.Statement.{statement}
 use Rattle.models.proofs.gather.with_model.Tie as tie
 
--- src/gather.rt:43:1
 returns : tie.Need-returns
 returns c =
     ap₂ (λ o l. withModel (c .before .before .before .before .before .args .models) (c .before .before .before .before .before .args .at) o l (c .before .before .before .before .before .args .kind)) (c .before .before .attribute-number .ensures) (c .attribute-number2 .ensures)

@@ -1,6 +1,5 @@
 use Rattle.nodes.specs.Children.{left}
-use Rattle.models.specs.Summing.{Summing, summing}
-use native.Mathlib.Omega.{arith}
+use Rattle.models.proofs.LawsSumming.{Summing, summing}
 use Rattle.models.proofs.lengths.brain_length.Statement.{statement}
 use Rattle.models.proofs.lengths.brain_length.Tie as tie
 

@@ -1,10 +1,8 @@
 use mathlib.Core.Path.{refl}
 use Rattle.cifti.specs.Conditions.{outside}
-use native.Mathlib.Omega.{arith}
 use Rattle.models.proofs.listing.is_outside.Statement.{statement}
 use Rattle.models.proofs.listing.is_outside.Tie as tie
 
--- src/listing.rt:74:1
 returns : tie.Need-returns
 unfolding outside
 returns c = refl

@@ -1,5 +1,4 @@
-use Rattle.models.specs.Listings.{starting}
-use native.Mathlib.Omega.{arith}
+use Rattle.models.proofs.LawsListings.{starting}
 use borrow.Author.Needs.{needs}
 use Rattle.models.proofs.listing.list_start.Statement.{statement}
 use Rattle.models.proofs.listing.list_start.Tie as tie

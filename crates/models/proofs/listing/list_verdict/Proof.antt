@@ -1,5 +1,4 @@
-use Rattle.models.specs.Listings.{judging}
-use native.Mathlib.Omega.{arith}
+use Rattle.models.proofs.LawsListings.{judging}
 use borrow.Author.Needs.{needs}
 use Rattle.models.proofs.listing.list_verdict.Statement.{statement}
 use Rattle.models.proofs.listing.list_verdict.Tie as tie

@@ -1,5 +1,4 @@
-use Rattle.models.specs.Numbers.{inThrees}
-use native.Mathlib.Omega.{arith}
+use Rattle.models.proofs.LawsNumbers.{inThrees}
 use borrow.Author.Needs.{needs}
 use Rattle.models.proofs.listing.next_voxel.Statement.{statement}
 use Rattle.models.proofs.listing.next_voxel.Tie as tie

@@ -1,5 +1,4 @@
-use Rattle.models.specs.Verdicts.{byTests}
-use native.Mathlib.Omega.{arith}
+use Rattle.models.proofs.LawsVerdicts.{byTests}
 use Rattle.models.proofs.listing.verdict.Statement.{statement}
 use Rattle.models.proofs.listing.verdict.Tie as tie
 

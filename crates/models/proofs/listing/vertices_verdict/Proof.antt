@@ -1,6 +1,6 @@
 use lib.ListN as ListN
 use Prim.Native.Nat.{_-_}
-use Rattle.models.specs.Verdicts.{vertices-room, Vertices, overVertices}
+use Rattle.models.proofs.LawsVerdicts.{vertices-room, Vertices, overVertices}
 use native.Mathlib.Omega.{arith}
 use Rattle.models.proofs.listing.vertices_verdict.Statement.{statement}
 use Rattle.models.proofs.listing.vertices_verdict.Tie as tie

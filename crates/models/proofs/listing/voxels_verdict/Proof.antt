@@ -1,6 +1,7 @@
 use lib.ListN as ListN
 use Prim.Native.Nat.{_-_}
-use Rattle.models.specs.Verdicts.{voxels-room, Voxels, overVoxels, volumeFrom}
+use Rattle.models.proofs.LawsVerdicts.{voxels-room, Voxels, overVoxels}
+use Rattle.models.specs.Verdicts.{volumeFrom}
 use native.Mathlib.Omega.{arith}
 use Rattle.models.proofs.listing.voxels_verdict.Statement.{statement}
 use Rattle.models.proofs.listing.voxels_verdict.Tie as tie

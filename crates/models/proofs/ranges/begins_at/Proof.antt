@@ -1,6 +1,5 @@
 use Prim.Native.Nat.{_-_}
-use Rattle.models.specs.Ranges.{Beginning, beginning}
-use native.Mathlib.Omega.{arith}
+use Rattle.models.proofs.LawsRanges.{Beginning, beginning}
 use Rattle.models.proofs.ranges.begins_at.Statement.{statement}
 use Rattle.models.proofs.ranges.begins_at.Tie as tie
 

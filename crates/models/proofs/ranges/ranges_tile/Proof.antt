@@ -1,6 +1,5 @@
 use Prim.Native.Nat.{_-_}
-use Rattle.models.specs.Chaining.{Chaining, chaining}
-use native.Mathlib.Omega.{arith}
+use Rattle.models.proofs.LawsChaining.{Chaining, chaining}
 use Rattle.models.proofs.ranges.ranges_tile.Statement.{statement}
 use Rattle.models.proofs.ranges.ranges_tile.Tie as tie
 

@@ -1,6 +1,5 @@
 use Prim.Native.Nat.{_-_}
-use Rattle.models.specs.Ranges.{Adding, adding}
-use native.Mathlib.Omega.{arith}
+use Rattle.models.proofs.LawsRanges.{Adding, adding}
 use Rattle.models.proofs.ranges.sum.Statement.{statement}
 use Rattle.models.proofs.ranges.sum.Tie as tie
 

@@ -1,5 +1,4 @@
-use Rattle.models.specs.Structures.{structured}
-use native.Mathlib.Omega.{arith}
+use Rattle.models.proofs.LawsStructures.{structured}
 use borrow.Author.Needs.{needs}
 use Rattle.models.proofs.structures.structure_number.Statement.{statement}
 use Rattle.models.proofs.structures.structure_number.Tie as tie

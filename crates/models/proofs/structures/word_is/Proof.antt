@@ -1,5 +1,4 @@
-use Rattle.models.specs.Structures.{wording}
-use native.Mathlib.Omega.{arith}
+use Rattle.models.proofs.LawsStructures.{wording}
 use borrow.Author.Needs.{needs}
 use Rattle.models.proofs.structures.word_is.Statement.{statement}
 use Rattle.models.proofs.structures.word_is.Tie as tie

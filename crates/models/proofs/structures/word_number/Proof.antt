@@ -1,7 +1,6 @@
 use Prim.Native.Nat.{_-_}
 use Rattle.nodes.specs.Values.{value-there}
-use Rattle.models.specs.Structures.{Finding, finding}
-use native.Mathlib.Omega.{arith}
+use Rattle.models.proofs.LawsStructures.{Finding, finding}
 use Rattle.models.proofs.structures.word_number.Statement.{statement}
 use Rattle.models.proofs.structures.word_number.Tie as tie
 

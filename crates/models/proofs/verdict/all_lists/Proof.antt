@@ -1,7 +1,6 @@
 use Prim.Native.Nat.{_-_}
 use Rattle.models.specs.Verdicts.{volumeFrom}
-use Rattle.models.specs.Judging.{Judging, judgingAll}
-use native.Mathlib.Omega.{arith}
+use Rattle.models.proofs.LawsJudging.{Judging, judgingAll}
 use Rattle.models.proofs.verdict.all_lists.Statement.{statement}
 use Rattle.models.proofs.verdict.all_lists.Tie as tie
 

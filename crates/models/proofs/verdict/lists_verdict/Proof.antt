@@ -1,5 +1,4 @@
-use Rattle.models.specs.Judging.{ruling}
-use native.Mathlib.Omega.{arith}
+use Rattle.models.proofs.LawsJudging.{ruling}
 use borrow.Author.Needs.{needs}
 use Rattle.models.proofs.verdict.lists_verdict.Statement.{statement}
 use Rattle.models.proofs.verdict.lists_verdict.Tie as tie

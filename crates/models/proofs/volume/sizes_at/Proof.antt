@@ -1,5 +1,4 @@
-use Rattle.models.specs.Sizes.{sizing}
-use native.Mathlib.Omega.{arith}
+use Rattle.models.proofs.LawsSizes.{sizing}
 use borrow.Author.Needs.{needs}
 use Rattle.models.proofs.volume.sizes_at.Statement.{statement}
 use Rattle.models.proofs.volume.sizes_at.Tie as tie

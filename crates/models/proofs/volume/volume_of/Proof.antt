@@ -1,6 +1,5 @@
 use Rattle.nodes.specs.Children.{left}
-use Rattle.models.specs.Sizes.{Looking, looking}
-use native.Mathlib.Omega.{arith}
+use Rattle.models.proofs.LawsSizes.{Looking, looking}
 use Rattle.models.proofs.volume.volume_of.Statement.{statement}
 use Rattle.models.proofs.volume.volume_of.Tie as tie
 

@@ -1,0 +1,11 @@
+pub mod LawsSumming
+pub mod LawsGathering
+pub mod LawsChaining
+pub mod LawsJudging
+pub mod LawsVerdicts
+pub mod LawsRanges
+pub mod LawsSizes
+pub mod LawsKind
+pub mod LawsStructures
+pub mod LawsListings
+pub mod LawsNumbers
