@@ -1,0 +1,119 @@
+/* Dzwonolin: a proved reader of CIFTI-2 headers, from C.
+
+   Nothing here allocates, keeps state or calls the system. All memory is lent by the caller: each slice is
+   a pointer and the number of its elements. Slices lent for writing overlap no other slice of the call. The
+   pointer of an empty slice is not followed (give any address that is not null).
+
+   Every function returns its number: 0, or the number of refusal (the smallest that applies):
+
+     1  lengths are not 2 or 3, or one is 0 or above 1,048,576
+     2  text above 16,777,216 bytes
+     3  no document of the markup grammar writes this text
+     4  the root is not CIFTI with Version 2
+     5  a map of kind PARCELS or LABELS
+     6  an element, attribute, child, named word or non-blank text is not as the format says
+     7  a number's form, limit or fixed value, or the sixteen of the transformation
+     8  some dimension is not listed exactly once, or a listed one does not exist
+     9  a map's length is not that of a dimension it applies to
+    10  two models of a map share type and structure
+    11  a model does not list as many numbers as it says, or an index of the map is in no range or in two
+    12  a vertex or voxel is outside its surface or volume
+    13  records lent are fewer than all stretches, or work space than the longest
+    14  a vertex twice in a model, or a voxel twice in a map
+    15  sheet count 0 or above 1,048,576; unpacking: also not a sheet
+    16  an illegal record
+    17  the slice to be written is too short
+    18  map name: no such dimension, it is not scalars, or the index is not below its length
+    19  find: no such record
+
+   The slices `answer`, `part`, `place` and `count` take the rest of an answer. They are written on every
+   call, refused or not, from their start; what lies past the numbers named below is left as it was. Where
+   such a slice is too short it is left as it was, and everything else is done all the same. */
+#ifndef DZWONOLIN_H
+#define DZWONOLIN_H
+
+#include <stddef.h>
+#include <stdint.h>
+
+#ifdef __cplusplus
+extern "C" {
+#endif
+
+/* How many numbers an answer of dz_read takes. */
+#define DZ_ANSWER 31
+/* Numbers of one dimension in the answer; dimension d begins at 1 + DZ_DIMENSION * d. */
+#define DZ_DIMENSION 10
+
+/* Places in the ten numbers of a dimension. Amounts and the exponent are in two's complement: read them
+   as int64_t. A decimal is its amount with so many places after the point: 2.0 is 20 with 1 place. */
+enum {
+    DZ_KIND = 0,         /* one of the four kinds below; 0 where there is no such dimension */
+    DZ_LENGTH = 1,       /* length of the map */
+    DZ_START = 2,        /* brain: where its stretch starts in the records; else 0 */
+    DZ_START_AMOUNT = 3, /* series: SeriesStart; else 0, as the five below */
+    DZ_START_PLACES = 4,
+    DZ_STEP_AMOUNT = 5,  /* series: SeriesStep */
+    DZ_STEP_PLACES = 6,
+    DZ_EXPONENT = 7,     /* series: SeriesExponent */
+    DZ_UNIT = 8,         /* series: 0 second, 1 hertz, 2 meter, 3 radian */
+    DZ_SPARE = 9         /* 0 */
+};
+enum { DZ_NONE = 0, DZ_BRAIN = 1, DZ_SERIES = 2, DZ_SCALARS = 3 };
+
+/* Reads a text with the lengths of its matrix into records. Refusals 1 to 14.
+
+   text, lengths   read only.
+   records         accepted: each brain map fills one stretch, in text order of maps, from place 0 on, index n
+                   of the map at the n-th place of its stretch; places past the last stretch are left as they
+                   were. Refused: all left as it was. A record is 40 bits, most significant first: voxel flag
+                   1, structure 5, payload 34 (surface: vertex number; voxel: i in 11 bits, j in 11, k in 12).
+                   Room for the sum of the lengths is always enough.
+   work            all zero after every call. Room for the largest of the lengths is always enough.
+   answer          [0] the number, then ten numbers for each of three dimensions, as above. Refused: [0] the
+                   number and 30 zeros. With under 31 places only the returned number tells. */
+uint64_t dz_read(const uint8_t *text, size_t text_len,
+                 const uint64_t *lengths, size_t lengths_len,
+                 uint64_t *records, size_t records_len,
+                 uint64_t *work, size_t work_len,
+                 uint64_t *answer, size_t answer_len);
+
+/* The name of map `index` (from 0) along `dimension` (from 0): the part of the caller's text between its MapName
+   tags, as written. Refusals 1 to 9, then 18.
+
+   part            [0], [1] = where the part starts in the text, and its length. Refused: 0, 0. */
+uint64_t dz_map_name(const uint8_t *text, size_t text_len,
+                     const uint64_t *lengths, size_t lengths_len,
+                     uint64_t dimension, uint64_t index,
+                     uint64_t *part, size_t part_len);
+
+/* The first place of a number in the records. Refusal 19.
+
+   place           [0] = the place, from 0. Refused: 0. */
+uint64_t dz_find(const uint64_t *records, size_t records_len,
+                 uint64_t number,
+                 uint64_t *place, size_t place_len);
+
+/* Packs all records lent into a sheet: a byte 5, the count in 3 bytes, then 5 bytes for each record, most
+   significant first. Refusals 15, 16, 17 in that order.
+
+   sheet           accepted: its first 4 + 5 * records_len bytes are the sheet, the rest is left as it was.
+                   Refused: all left as it was.
+   count           [0] = bytes written. Refused: 0. */
+uint64_t dz_pack(const uint64_t *records, size_t records_len,
+                 uint8_t *sheet, size_t sheet_len,
+                 uint64_t *count, size_t count_len);
+
+/* Unpacks a whole sheet. Refusals 15, 16, 17 in that order.
+
+   records         accepted: the sheet's records from place 0 on, the rest is left as it was. Refused: all left
+                   as it was.
+   count           [0] = records written. Refused: 0. */
+uint64_t dz_unpack(const uint8_t *sheet, size_t sheet_len,
+                   uint64_t *records, size_t records_len,
+                   uint64_t *count, size_t count_len);
+
+#ifdef __cplusplus
+}
+#endif
+
+#endif

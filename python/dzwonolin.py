@@ -1,0 +1,236 @@
+"""Dzwonolin from Python: a proved reader of CIFTI-2 headers.
+
+    import dzwonolin
+    answer = dzwonolin.read(text, [2, 91282])
+    answer.number                 0, or the number of refusal
+    answer.dimensions[1].kind     'brain', 'series' or 'scalars'
+    answer.records                one whole number of 40 bits for each location
+    dzwonolin.map_name(text, [2, 91282], 0, 1)     (0, b'the second name')
+
+On a terminal, with the text of a header in a file and the lengths of its matrix:
+
+    python3 python/dzwonolin.py list header.xml 2,91282      the morning card, for a text of any size
+    python3 python/dzwonolin.py card header.xml 2,91282      the same, then a line for each model:
+        model START TYPE STRUCTURE NAME COUNT FIRST          stretch start, S or V, count, first index
+
+Standard library only. The shared library is looked for in DZWONOLIN_LIBRARY (a path), beside this file, in the
+folders lib, build and target above it, and then where the system keeps its own.
+"""
+import collections
+import ctypes
+import ctypes.util
+import os
+import pathlib
+import re
+import sys
+
+__all__ = ["read", "map_name", "find", "pack", "unpack", "unfold", "Answer", "Dimension", "STRUCTURES", "UNITS"]
+
+LENGTH_LIMIT = 1048576
+ANSWER = 31
+KINDS = (None, "brain", "series", "scalars")
+UNITS = ("SECOND", "HERTZ", "METER", "RADIAN")
+STRUCTURES = (
+    "ACCUMBENS_LEFT ACCUMBENS_RIGHT ALL_WHITE_MATTER ALL_GREY_MATTER AMYGDALA_LEFT AMYGDALA_RIGHT "
+    "BRAIN_STEM CAUDATE_LEFT CAUDATE_RIGHT CEREBELLAR_WHITE_MATTER_LEFT CEREBELLAR_WHITE_MATTER_RIGHT "
+    "CEREBELLUM CEREBELLUM_LEFT CEREBELLUM_RIGHT CEREBRAL_WHITE_MATTER_LEFT CEREBRAL_WHITE_MATTER_RIGHT "
+    "CORTEX CORTEX_LEFT CORTEX_RIGHT DIENCEPHALON_VENTRAL_LEFT DIENCEPHALON_VENTRAL_RIGHT "
+    "HIPPOCAMPUS_LEFT HIPPOCAMPUS_RIGHT OTHER OTHER_GREY_MATTER OTHER_WHITE_MATTER PALLIDUM_LEFT "
+    "PALLIDUM_RIGHT PUTAMEN_LEFT PUTAMEN_RIGHT THALAMUS_LEFT THALAMUS_RIGHT").split()
+
+# series_start and series_step are (digits, places): 2.0 is (20, 1). They, exponent and unit are 0 but for a series.
+Dimension = collections.namedtuple("Dimension", "kind length start series_start series_step exponent unit")
+# A refused answer has its number, no dimensions and no records.
+Answer = collections.namedtuple("Answer", "number dimensions records")
+
+_loaded = None
+_SLICE = (ctypes.c_void_p, ctypes.c_size_t)
+_FUNCTIONS = {"dz_read": _SLICE * 5, "dz_map_name": _SLICE * 2 + (ctypes.c_uint64,) * 2 + _SLICE,
+              "dz_find": _SLICE + (ctypes.c_uint64,) + _SLICE, "dz_pack": _SLICE * 3, "dz_unpack": _SLICE * 3}
+
+
+# ----------------------------------------------------------- library and slices
+
+def _places():
+    name = "libdzwonolin.so"
+    here = pathlib.Path(__file__).resolve().parent
+    yield here / name
+    for folder in ("lib", "build", "target"):
+        yield here.parent / folder / name
+
+
+def _library():
+    """The shared library, loaded once."""
+    global _loaded
+    if _loaded is None:
+        told = os.environ.get("DZWONOLIN_LIBRARY")
+        found = told or next((str(p) for p in _places() if p.exists()), None) or ctypes.util.find_library("dzwonolin")
+        if not found:
+            raise OSError("libdzwonolin.so not found; name it in DZWONOLIN_LIBRARY")
+        library = ctypes.CDLL(found)
+        for name, arguments in _FUNCTIONS.items():
+            function = getattr(library, name)
+            function.argtypes, function.restype = arguments, ctypes.c_uint64
+        _loaded = library
+    return _loaded
+
+
+def _number(value):
+    """A number that fits 64 bits; ctypes alone would cut it short."""
+    value = int(value)
+    if not 0 <= value < 1 << 64:
+        raise ValueError(f"{value} is not a whole number of 64 bits")
+    return value
+
+
+def _numbers(values):
+    """A lent slice that holds these numbers."""
+    if isinstance(values, ctypes.Array) and values._type_ is ctypes.c_uint64:
+        return values
+    values = [_number(v) for v in values]
+    return (ctypes.c_uint64 * len(values))(*values)
+
+
+def _bytes(data):
+    """A slice to read: the caller's own memory where it is bytes, a copy of another buffer."""
+    return data if isinstance(data, bytes) else bytes(data)
+
+
+def _room(given, default):
+    """A slice to be written: a size gives a new one of zeros, a buffer of 64-bit numbers is used as it is."""
+    if given is None or isinstance(given, int):
+        return (ctypes.c_uint64 * (default if given is None else given))()
+    if isinstance(given, ctypes.Array) and given._type_ is ctypes.c_uint64:
+        return given
+    view = memoryview(given)
+    if view.itemsize not in (1, 8) or view.nbytes % 8 or not view.contiguous:
+        raise ValueError("a buffer of 64-bit numbers is asked for")
+    if not view.nbytes:
+        return (ctypes.c_uint64 * 0)()
+    return (ctypes.c_uint64 * (view.nbytes // 8)).from_buffer(given)
+
+
+def _signed(number):
+    return number - (1 << 64) if number >> 63 else number
+
+
+# -------------------------------------------------------------------- functions
+
+def call_read(text, lengths, records, work, answer):
+    """dz_read on slices as they are (ctypes arrays); its number."""
+    text = _bytes(text)
+    return _library().dz_read(text, len(text), lengths, len(lengths), records, len(records), work, len(work), answer, len(answer))
+
+
+def call_map_name(text, lengths, dimension, index, part):
+    """dz_map_name on slices as they are; its number."""
+    text = _bytes(text)
+    return _library().dz_map_name(text, len(text), lengths, len(lengths), dimension, index, part, len(part))
+
+
+def _dimension(numbers):
+    kind, length, start, begin, begin_places, step, step_places, exponent, unit, _ = numbers
+    return Dimension(KINDS[kind], length, start, (_signed(begin), begin_places), (_signed(step), step_places),
+                     _signed(exponent), unit)
+
+
+def read(text, lengths, records=None, work=None):
+    """Reads the text of a header, with the lengths of its matrix.
+
+    `records` and `work` are sizes, or buffers of 64-bit numbers that are written in place. By default both are as
+    large as the lengths can ask for."""
+    fine = len(lengths) in (2, 3) and all(1 <= n <= LENGTH_LIMIT for n in lengths)
+    records = _room(records, sum(lengths) if fine else 0)
+    work = _room(work, max(lengths) if fine else 0)
+    answer = (ctypes.c_uint64 * ANSWER)()
+    number = call_read(text, _numbers(lengths), records, work, answer)
+    if number:
+        return Answer(number, [], [])
+    dimensions = [_dimension(answer[at:at + 10]) for at in range(1, ANSWER, 10) if answer[at]]
+    filled = max((d.start + d.length for d in dimensions if d.kind == "brain"), default=0)
+    return Answer(0, dimensions, records[:filled])
+
+
+def map_name(text, lengths, dimension, index):
+    """(0, the bytes between the tags of that MapName, as written) or (number, b'')."""
+    part = (ctypes.c_uint64 * 2)()
+    number = call_map_name(text, _numbers(lengths), _number(dimension), _number(index), part)
+    return number, bytes(text[part[0]:part[0] + part[1]])
+
+
+def find(records, number):
+    """(0, the first place of the number) or (19, 0)."""
+    records, place = _numbers(records), (ctypes.c_uint64 * 1)()
+    return _library().dz_find(records, len(records), _number(number), place, 1), place[0]
+
+
+def pack(records):
+    """(0, the sheet of these records) or (number, b'')."""
+    records, count = _numbers(records), (ctypes.c_uint64 * 1)()
+    sheet = ctypes.create_string_buffer(4 + 5 * len(records))
+    number = _library().dz_pack(records, len(records), sheet, len(sheet), count, 1)
+    return number, sheet.raw[:count[0]]
+
+
+def unpack(sheet):
+    """(0, the records of this sheet) or (number, [])."""
+    sheet, count = _bytes(sheet), (ctypes.c_uint64 * 1)()
+    records = (ctypes.c_uint64 * (len(sheet) // 5))()
+    number = _library().dz_unpack(sheet, len(sheet), records, len(records), count, 1)
+    return number, records[:count[0]]
+
+
+def unfold(record):
+    """('S', structure, vertex) or ('V', structure, i, j, k)."""
+    structure, payload = record >> 34 & 31, record & (1 << 34) - 1
+    if record >> 39:
+        return "V", structure, payload >> 23, payload >> 12 & 2047, payload & 4095
+    return "S", structure, payload
+
+
+# ------------------------------------------------------------- the command line
+
+def _stretches(answer):
+    """(start, length) of each brain map once, in text order."""
+    return sorted({(d.start, d.length) for d in answer.dimensions if d.kind == "brain"})
+
+
+def card(answer):
+    """The lines of the morning card."""
+    if answer.number:
+        yield f"refused {answer.number}"
+        return
+    yield "ok"
+    for number, one in enumerate(answer.dimensions):
+        yield f"{number} {one.kind} {one.length}" + (f" {one.start}" if one.kind == "brain" else "")
+    for start, length in _stretches(answer):
+        for index in range(length):
+            yield " ".join(map(str, (index, *unfold(answer.records[start + index]))))
+
+
+def models(answer):
+    """A line for each model of each brain map, in order of first index."""
+    for start, length in _stretches(answer):
+        found = {}
+        for index, record in enumerate(answer.records[start:start + length]):
+            found.setdefault(record >> 34, [0, index])[0] += 1
+        for front, (count, first) in found.items():
+            kind, structure = "SV"[front >> 5], front & 31
+            yield f"model {start} {kind} {structure} {STRUCTURES[structure]} {count} {first}"
+
+
+def main(arguments):
+    if len(arguments) != 3 or arguments[0] not in ("card", "list"):
+        print("usage: dzwonolin.py card|list FILE LENGTHS (as 2,91282)", file=sys.stderr)
+        return 2
+    text = pathlib.Path(arguments[1]).read_bytes()
+    fine = re.fullmatch("[0-9]{1,7}(,[0-9]{1,7})*", arguments[2])
+    answer = read(text, [int(n) for n in arguments[2].split(",")] if fine else [])
+    sys.stdout.writelines(line + "\n" for line in card(answer))
+    if arguments[0] == "card":
+        sys.stdout.writelines(line + "\n" for line in models(answer))
+    return 1 if answer.number else 0
+
+
+if __name__ == "__main__":
+    sys.exit(main(sys.argv[1:]))

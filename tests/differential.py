@@ -1,0 +1,215 @@
+"""The proved library against the oracle, on texts from a seed, the paper's examples and real headers.
+
+    python3 tests/differential.py --count 20000 --seed 1
+    python3 tests/differential.py --seconds 60 --large --real
+    python3 tests/differential.py --lister PATH --count 5000       the morning card's program instead of the library
+    python3 tests/differential.py --module oracle --count 500      tries this comparison itself
+
+Compared: the number, the whole answer, the records, what is left as it was (past the stretches, past the answer, on
+refusal, around every lent slice), and that the work space is zero. The last line is 'N compared, M differ'.
+"""
+import argparse
+import collections
+import ctypes
+import pathlib
+import random
+import subprocess
+import sys
+import time
+
+HERE = pathlib.Path(__file__).resolve().parent
+sys.path[:0] = [str(HERE), str(HERE.parent / "python")]
+
+import dzwonolin  # noqa: E402
+import oracle  # noqa: E402
+import paper  # noqa: E402
+import real  # noqa: E402
+import standin  # noqa: E402
+import texts  # noqa: E402
+
+GUARD = 3
+ANSWER_ROOMS = [31, 31, 31, 31, 34, 40, 30, 1, 0]
+
+
+class Lent:
+    """A lent slice with marked numbers (or bytes) in it and on both sides."""
+
+    def __init__(self, rng, length, unit=ctypes.c_uint64):
+        self.length = length
+        size = ctypes.sizeof(unit)
+        self.before = rng.randbytes((length + 2 * GUARD) * size)
+        self.memory = (ctypes.c_ubyte * len(self.before)).from_buffer(bytearray(self.before))
+        self.slice = (unit * length).from_buffer(self.memory, GUARD * size)
+        self.entry = list(self.slice)
+        self.edge = GUARD * size
+
+    def holds(self, start):
+        """The slice begins with `start` and is otherwise as it was, and so are its sides."""
+        after = bytes(self.memory)
+        inside = list(self.slice)
+        return (inside[:len(start)] == list(start) and inside[len(start):] == self.entry[len(start):]
+                and after[:self.edge] == self.before[:self.edge] and after[-self.edge:] == self.before[-self.edge:])
+
+
+class Comparison:
+    """Counts what was compared and what differed."""
+
+    def __init__(self, show):
+        self.compared = self.differ = 0
+        self.show = show
+        self.numbers = collections.Counter()
+
+    def check(self, what, fine):
+        self.compared += 1
+        if not fine:
+            self.differ += 1
+            if self.differ <= self.show:
+                print("differs:", what)
+
+    def read(self, rng, name, text, lengths, records_room, work_room):
+        """dz_read with marked slices, and the module's read; the oracle's answer."""
+        wanted = oracle.read(text, lengths, records_room, work_room)
+        self.numbers[wanted.number] += 1
+        records, work = Lent(rng, records_room), Lent(rng, work_room)
+        answer, lent = Lent(rng, rng.choice(ANSWER_ROOMS)), dzwonolin._numbers(lengths)
+        copy = bytes(bytearray(text))
+        got = dzwonolin.call_read(text, lent, records.slice, work.slice, answer.slice)
+        row = standin.answer_numbers(wanted) if answer.length >= 31 else []
+        for part, fine in [(f"number {got}, wanted {wanted.number}", got == wanted.number), ("answer", answer.holds(row)),
+                           ("records", records.holds(wanted.records)), ("work space", work.holds([0] * work_room)),
+                           ("text", text == copy), ("lengths", list(lent) == list(lengths))]:
+            if not fine:
+                self.check(f"{name}: {part}", False)
+                return wanted
+        again = dzwonolin.read(text, lengths, records_room, work_room)
+        self.check(f"{name}: read of the module", tuple(again) == tuple(wanted))
+        return wanted
+
+    def map_names(self, rng, name, text, lengths):
+        for dimension, index in texts.questions(rng, lengths):
+            wanted = oracle.map_name_place(text, lengths, dimension, index)
+            self.numbers[18] += wanted[0] == 18
+            part = Lent(rng, rng.choice([2, 2, 2, 3, 1, 0]))
+            got = dzwonolin.call_map_name(text, dzwonolin._numbers(lengths), dimension, index, part.slice)
+            fine = got == wanted[0] and part.holds(wanted[1:] if part.length >= 2 else [])
+            number, taken = dzwonolin.map_name(text, lengths, dimension, index)
+            fine = fine and (number, taken) == (wanted[0], text[wanted[1]:wanted[1] + wanted[2]])
+            self.check(f"{name}: map name {dimension}, {index}: {got}, wanted {wanted[0]}", fine)
+
+    def find(self, rng, name, records):
+        asked = [rng.getrandbits(64), 0] + ([rng.choice(records), records[0], records[-1], records[-1] + 1] if records else [])
+        for number in asked:
+            wanted = oracle.find(records, number)
+            self.numbers[19] += wanted[0] == 19
+            lent, place = dzwonolin._numbers(records), Lent(rng, rng.choice([1, 1, 2, 0]))
+            got = dzwonolin._library().dz_find(lent, len(lent), number, place.slice, place.length)
+            fine = got == wanted[0] and place.holds([wanted[1]][:place.length]) and list(lent) == list(records)
+            self.check(f"{name}: find {number}", fine and dzwonolin.find(records, number) == wanted)
+
+    def pack(self, rng, name, records, room):
+        wanted, sheet_wanted = oracle.pack(records, room)
+        sheet, count = Lent(rng, room, ctypes.c_ubyte), Lent(rng, rng.choice([1, 1, 2, 0]))
+        lent = dzwonolin._numbers(records)
+        got = dzwonolin._library().dz_pack(lent, len(lent), sheet.slice, room, count.slice, count.length)
+        fine = got == wanted and sheet.holds(sheet_wanted) and count.holds([len(sheet_wanted)][:count.length])
+        fine = fine and dzwonolin.pack(records) == oracle.pack(records) and list(lent) == records
+        self.numbers[got] += got > 0
+        self.check(f"{name}: pack: {got}, wanted {wanted}", fine)
+
+    def unpack(self, rng, name, sheet, room):
+        wanted, records_wanted = oracle.unpack(sheet, room)
+        records, count = Lent(rng, room), Lent(rng, rng.choice([1, 1, 2, 0]))
+        got = dzwonolin._library().dz_unpack(sheet, len(sheet), records.slice, room, count.slice, count.length)
+        fine = got == wanted and records.holds(records_wanted) and count.holds([len(records_wanted)][:count.length])
+        fine = fine and dzwonolin.unpack(sheet) == oracle.unpack(sheet)
+        self.numbers[got] += got > 0
+        self.check(f"{name}: unpack: {got}, wanted {wanted}", fine)
+
+    # ------------------------------------------------------------ the runs
+
+    def paper(self):
+        rng = random.Random(0)
+        for name, text, lengths, records, work, number in paper.rows():
+            wanted = self.read(rng, name, text, lengths, records, work)
+            self.check(f"{name}: the paper says {number}", wanted.number == number)
+        self.check("P2", dzwonolin.pack(dzwonolin.read(paper.CASE_A, [2, 3]).records) == (0, paper.SHEET_A))
+        card = "".join(line + "\n" for line in dzwonolin.card(dzwonolin.read(paper.CASE_A, [2, 3])))
+        self.check("card of A", card.encode() == paper.CARD_A)
+
+    def one(self, seed, number, large):
+        rng = random.Random(f"{seed}/compare/{number}")
+        case = texts.case(seed, number, large)
+        name = f"seed {seed} text {number} ({case.label})"
+        wanted = self.read(rng, name, case.text, case.lengths, case.records_room, case.work_room)
+        if number % 4 == 0:
+            self.map_names(rng, name, case.text, case.lengths)
+        if number % 8 == 0 or wanted.records and len(wanted.records) < 5000:
+            self.find(rng, name, wanted.records)
+        if wanted.records and len(wanted.records) < 5000:
+            self.pack(rng, name, wanted.records, 4 + 5 * len(wanted.records))
+        if number % 2 == 0:
+            self.pack(rng, name, *texts.records_case(seed, number))
+            self.unpack(rng, name, *texts.sheet_case(seed, number))
+
+    def card(self, lister, seed, number):
+        """The lister's whole output on a whole input."""
+        given = texts.card_case(seed, number)
+        wanted = oracle.lister(given)
+        got = subprocess.run([lister], input=given, capture_output=True, timeout=20).stdout
+        if wanted.startswith(b"refused"):
+            self.numbers[int(wanted.split()[1])] += 1
+        else:
+            self.numbers[0] += 1
+        self.check(f"seed {seed} card {number}: {got[:40]!r}, wanted {wanted[:40]!r}", got == wanted)
+
+    def real(self):
+        try:
+            found = real.headers()
+        except OSError as reason:
+            print("real headers SKIPPED:", reason)
+            return
+        for name, text, lengths in found:
+            rng = random.Random(name)
+            wanted = self.read(rng, name, text, lengths, sum(lengths), max(lengths))
+            self.map_names(rng, name, text, lengths)
+            print(f"{name}: {len(text)} bytes, number {wanted.number}, {len(wanted.records)} records")
+            if wanted.records:
+                self.pack(rng, name, wanted.records, 4 + 5 * len(wanted.records))
+                self.read(rng, name + " short", text, lengths, sum(lengths), len(wanted.records) - 1)
+
+
+def main():
+    options = argparse.ArgumentParser(description=__doc__, formatter_class=argparse.RawDescriptionHelpFormatter)
+    options.add_argument("--count", type=int, default=None, help="texts to compare (5000 where no --seconds are given)")
+    options.add_argument("--seed", type=int, default=1)
+    options.add_argument("--first", type=int, default=0, help="number of the first text")
+    options.add_argument("--seconds", type=float, default=None, help="stop after so long")
+    options.add_argument("--large", action="store_true", help="also texts at the limit of length, and long lists")
+    options.add_argument("--real", action="store_true", help="also the real headers")
+    options.add_argument("--lister", metavar="PATH", help="compare this program's cards, and nothing else")
+    options.add_argument("--module", choices=["library", "oracle"], default="library")
+    options.add_argument("--show", type=int, default=20, help="differences to print")
+    given = options.parse_args()
+    if given.module == "oracle":
+        standin.install(dzwonolin)
+    count = given.count if given.count is not None else 5000 if given.seconds is None else 1 << 40
+    end = time.monotonic() + given.seconds if given.seconds is not None else float("inf")
+    run = Comparison(given.show)
+    if not given.lister:
+        run.paper()
+    if given.real and not given.lister:
+        run.real()
+    for number in range(given.first, given.first + count):
+        if time.monotonic() > end:
+            break
+        if given.lister:
+            run.card(given.lister, given.seed, number)
+        else:
+            run.one(given.seed, number, given.large)
+    print("numbers:", ", ".join(f"{n}: {k}" for n, k in sorted(run.numbers.items())))
+    print(f"{run.compared} compared, {run.differ} differ")
+    return 1 if run.differ else 0
+
+
+if __name__ == "__main__":
+    sys.exit(main())

@@ -1,0 +1,174 @@
+"""Tries the comparison: wrong readers, each with one known mistake, must be found out.
+
+    python3 tests/faults.py [--count 6000] [--seed 1]
+Each fault is put into a copy of the oracle behind the C interface. The last line is 'N found, M missed'.
+"""
+import argparse
+import importlib
+import pathlib
+import re
+import sys
+
+HERE = pathlib.Path(__file__).resolve().parent
+sys.path[:0] = [str(HERE), str(HERE.parent / "python")]
+
+import differential  # noqa: E402
+import dzwonolin  # noqa: E402
+import standin  # noqa: E402
+
+
+def copy_of_oracle():
+    """The oracle's three modules, loaded anew."""
+    names = ["oracle_markup", "oracle_rules", "oracle"]
+    kept = {name: sys.modules.pop(name) for name in names}
+    copy = importlib.import_module("oracle")
+    sys.modules.update(kept)
+    return copy
+
+
+def only_refuses(o):
+    o.accepted = lambda *given: (_ for _ in ()).throw(o.Refused(3))
+
+
+def no_records(o):
+    whole = o.accepted
+    o.accepted = lambda *given: whole(*given)._replace(records=[])
+
+
+def fills_in_text_order(o):
+    o.map_records = lambda one: [r for m in one.models for r in o.model_records(m)]
+
+
+def counts_by_sum(o):
+    def check(one):
+        for m in one.models:
+            o.refuse_if(11, len(m.numbers) != m.count * (1 if m.type == "S" else 3))
+    o.check_ranges = check
+
+
+def decodes_twice(o):
+    once = o.markup.decode
+    o.markup.decode = lambda raw: once(once(raw))
+
+
+def voxels_by_structure(o):
+    o.location = lambda record: record
+
+
+def first_model_only(o):
+    whole = o.check_inside
+
+    def check(one):
+        rest, one.models = one.models, one.models[:1]
+        whole(one)
+        one.models = rest
+    o.check_inside = check
+
+
+def first_map_only(o):
+    whole, maps_of, first = o.check_ranges, o.maps_of, []
+
+    def remember(*given):
+        maps = maps_of(*given)
+        first[:] = [m for m in maps if m.kind == "brain"][:1]
+        return maps
+    o.maps_of = remember
+    o.check_ranges = lambda one: whole(one) if one in first else None
+
+
+def room_last(o):
+    whole = o.accepted
+
+    def accepted(text, lengths, records_room, work_room, limit):
+        answer = whole(text, lengths, 1 << 30, 1 << 30, limit)
+        if records_room < len(answer.records):
+            raise o.Refused(13)
+        return answer
+    o.accepted = accepted
+
+
+def signs_in_wholes(o):
+    o.rules.WHOLE = re.compile(rb"[+-]?[0-9]{1,7}\Z")
+
+
+def seven_before_six(o):
+    whole = o.rules.check_elements
+
+    def check(root):
+        for matrix in root.children(b"Matrix"):
+            for one in matrix.children(b"MatrixIndicesMap"):
+                o.refuse_if(7, not o.rules.DIMENSIONS.match(one.value(b"AppliesToMatrixDimension") or b"0"))
+        whole(root)
+    o.rules.check_elements = check
+
+
+def depth_seventeen(o):
+    o.markup.DEPTH_LIMIT = 17
+
+
+def long_names(o):
+    o.markup.NAME_LIMIT = 65
+
+
+def overlong_utf8(o):
+    o.markup.check_characters = lambda text: None
+
+
+def comment_parts_numbers(o):
+    def add(element, raw):
+        if b"]]>" in raw:
+            raise o.markup.no_document("]]>")
+        element.contents.append(bytearray(o.markup.decode(raw)))
+    o.markup.add_run = add
+    o.markup.Element.text = lambda self: b" ".join(c for c in self.contents if isinstance(c, bytes))
+
+
+def places_dropped(o):
+    whole = o.rules.decimal
+    o.rules.decimal = lambda word: (whole(word)[0], 0)
+
+
+def limit_off_by_one(o):
+    whole = o.rules.volume_dimensions
+    o.rules.volume_dimensions = lambda word: whole(word.replace(b"4097", b"4096"))
+
+
+def name_past_nine(o):
+    whole = o.map_name_place
+    o.map_name_place = lambda text, lengths, d, i: (18, 0, 0) if d >= len(lengths) else whole(text, lengths, d, i)
+
+
+FAULTS = [only_refuses, no_records, fills_in_text_order, counts_by_sum, decodes_twice, voxels_by_structure,
+          first_model_only, first_map_only, room_last, signs_in_wholes, seven_before_six, depth_seventeen, long_names,
+          overlong_utf8, comment_parts_numbers, places_dropped, limit_off_by_one, name_past_nine]
+
+
+def found(fault, seed, count):
+    """The number of the first text on which the fault shows, or None."""
+    standin.oracle = copy_of_oracle()
+    fault(standin.oracle)
+    standin.install(dzwonolin)
+    run = differential.Comparison(0)
+    for number in range(count):
+        run.one(seed, number, False)
+        if run.differ:
+            return number
+    return None
+
+
+def main():
+    options = argparse.ArgumentParser(description=__doc__, formatter_class=argparse.RawDescriptionHelpFormatter)
+    options.add_argument("--count", type=int, default=6000)
+    options.add_argument("--seed", type=int, default=1)
+    given = options.parse_args()
+    missed = 0
+    for fault in FAULTS:
+        at = found(fault, given.seed, given.count)
+        missed += at is None
+        print(f"{fault.__name__}: " + ("MISSED" if at is None else f"found at text {at}"))
+    print(f"{len(FAULTS) - missed} found, {missed} missed")
+    return 1 if missed else 0
+
+
+if __name__ == "__main__":
+    sys.exit(main())

@@ -1,0 +1,253 @@
+"""An independent reading of the paper, to compare the proved reader with.
+
+Written from the paper alone, in the paper's order: the markup grammar (oracle_markup), the elements and numbers
+(oracle_rules), and here the conditions 1 to 19, the sheet and the morning card. It builds a whole tree, and each rule
+stands by itself.
+
+    python3 tests/oracle.py < INPUT            the morning card of an input
+    python3 tests/oracle.py --cases FILE       hold the card to cases in JSON lines
+"""
+import collections
+import json
+import re
+import sys
+
+import oracle_markup as markup
+import oracle_rules as rules
+from oracle_markup import Refused
+from oracle_rules import LENGTH_LIMIT, VERTEX_LIMIT
+
+TEXT_LIMIT = 16777216
+
+# One dimension of an accepted answer; kind is 'brain', 'series' or 'scalars'.
+Dimension = collections.namedtuple("Dimension", "kind length start series_start series_step exponent unit")
+# number 0 or the refusal; a refused answer has no dimensions and no records.
+Answer = collections.namedtuple("Answer", "number dimensions records")
+
+# -------------------------------------------------------------- the conditions
+
+def refuse_if(number, applies):
+    if applies:
+        raise Refused(number)
+
+
+def check_lengths(lengths):
+    refuse_if(1, len(lengths) not in (2, 3))
+    refuse_if(1, any(not 1 <= n <= LENGTH_LIMIT for n in lengths))
+
+
+def maps_of(text, lengths, text_limit=TEXT_LIMIT):
+    """Conditions 1 to 9; the maps in text order."""
+    check_lengths(lengths)
+    refuse_if(2, len(text) > text_limit)
+    root = markup.document(text)
+    refuse_if(4, root.name != b"CIFTI" or root.value(b"Version") != b"2")
+    for matrix in root.children(b"Matrix"):
+        for one in matrix.children(b"MatrixIndicesMap"):
+            refuse_if(5, one.value(b"IndicesMapToDataType") in rules.LATER_KINDS)
+    rules.check_elements(root)
+    maps = [rules.Map(m) for m in root.child(b"Matrix").children(b"MatrixIndicesMap")]
+    listed = collections.Counter(d for m in maps for d in m.applies)
+    refuse_if(8, listed != collections.Counter(range(len(lengths))))
+    refuse_if(9, any(m.length != lengths[d] for m in maps for d in m.applies))
+    return maps
+
+
+def check_ranges(one):
+    """Condition 11 for a map: every list as long as told, every index in one range exactly."""
+    for model in one.models:
+        numbers = model.count * (1 if model.type == "S" else 3)
+        refuse_if(11, len(model.numbers) != numbers)
+    times = bytearray(one.length)
+    for model in one.models:
+        for index in range(model.offset, min(model.offset + model.count, one.length)):
+            refuse_if(11, times[index])
+            times[index] = 1
+    refuse_if(11, 0 in times)
+
+
+def check_inside(one):
+    """Condition 12 for a map."""
+    for model in one.models:
+        if model.type == "S":
+            refuse_if(12, max(model.numbers) >= model.vertices)
+        else:
+            for axis in range(3):
+                refuse_if(12, max(model.numbers[axis::3]) >= one.volume[axis])
+
+
+def model_records(model):
+    front = ((model.type == "V") << 5 | model.structure) << 34
+    if model.type == "S":
+        return [front | vertex for vertex in model.numbers]
+    return [front | i << 23 | j << 12 | k for i, j, k in
+            zip(model.numbers[0::3], model.numbers[1::3], model.numbers[2::3])]
+
+
+def location(record):
+    """What may not come twice in a map: for a voxel the structure does not count."""
+    if record >> 39:
+        return 1 << 39 | record & (1 << 34) - 1
+    return record
+
+
+def map_records(one):
+    records = [0] * one.length
+    for model in one.models:
+        records[model.offset:model.offset + model.count] = model_records(model)
+    return records
+
+
+def accepted(text, lengths, records_room, work_room, text_limit):
+    maps = maps_of(text, lengths, text_limit)
+    brains = [m for m in maps if m.kind == "brain"]
+    for one in brains:
+        pairs = [(m.type, m.structure) for m in one.models]
+        refuse_if(10, len(set(pairs)) < len(pairs))
+    for one in brains:
+        check_ranges(one)
+    for one in brains:
+        check_inside(one)
+    refuse_if(13, records_room < sum(m.length for m in brains))
+    refuse_if(13, work_room < max((m.length for m in brains), default=0))
+    records, starts = [], {}
+    for one in brains:
+        stretch = map_records(one)
+        refuse_if(14, len(set(map(location, stretch))) < len(stretch))
+        starts[id(one)] = len(records)
+        records += stretch
+    dimensions = []
+    for number in range(len(lengths)):
+        one = next(m for m in maps if number in m.applies)
+        dimensions.append(Dimension(one.kind, one.length, starts.get(id(one), 0),
+                                    one.series_start, one.series_step, one.exponent, one.unit))
+    return Answer(0, dimensions, records)
+
+
+def read(text, lengths, records_room, work_room, text_limit=TEXT_LIMIT):
+    """The answer on a text, with room for so many records and so much work."""
+    try:
+        return accepted(text, lengths, records_room, work_room, text_limit)
+    except Refused as refusal:
+        return Answer(refusal.number, [], [])
+
+
+def map_name_place(text, lengths, dimension, index):
+    """(number, start and length of the name in the text)."""
+    try:
+        maps = maps_of(text, lengths)
+        refuse_if(18, not 0 <= dimension < len(lengths))
+        one = next(m for m in maps if dimension in m.applies)
+        refuse_if(18, one.kind != "scalars" or not 0 <= index < one.length)
+        name = one.named[index].child(b"MapName")
+        return 0, name.begin, name.end - name.begin
+    except Refused as refusal:
+        return refusal.number, 0, 0
+
+
+def map_name(text, lengths, dimension, index):
+    """(number, the bytes between the MapName tags as written)."""
+    number, start, length = map_name_place(text, lengths, dimension, index)
+    return number, text[start:start + length]
+
+
+def find(records, number):
+    """(0, the first place) or (19, 0)."""
+    for place, record in enumerate(records):
+        if record == number:
+            return 0, place
+    return 19, 0
+
+
+# ------------------------------------------------------------------ the sheet
+
+def legal(record):
+    if record >= 1 << 40:
+        return False
+    return bool(record >> 39) or record & (1 << 34) - 1 <= VERTEX_LIMIT
+
+
+def pack(records, room=None):
+    """(number, the sheet); room is the length of the slice lent for it."""
+    if not 1 <= len(records) <= LENGTH_LIMIT:
+        return 15, b""
+    if not all(map(legal, records)):
+        return 16, b""
+    if room is not None and room < 4 + 5 * len(records):
+        return 17, b""
+    return 0, b"\x05" + len(records).to_bytes(3, "big") + b"".join(r.to_bytes(5, "big") for r in records)
+
+
+def unpack(sheet, room=None):
+    """(number, the records); room is the length of the slice lent for them."""
+    if len(sheet) < 4 or sheet[0] != 5:
+        return 15, []
+    count = int.from_bytes(sheet[1:4], "big")
+    if not 1 <= count <= LENGTH_LIMIT or len(sheet) != 4 + 5 * count:
+        return 15, []
+    records = [int.from_bytes(sheet[at:at + 5], "big") for at in range(4, len(sheet), 5)]
+    if not all(map(legal, records)):
+        return 16, []
+    if room is not None and room < count:
+        return 17, []
+    return 0, records
+
+
+# ------------------------------------------------------------ the morning card
+
+CARD_TEXT = 32768
+CARD_ROOM = 2048
+LENGTHS_LINE = re.compile(rb"([0-9]{1,7}(?:,[0-9]{1,7})*)\n")
+
+
+def record_line(index, record):
+    structure, payload = record >> 34 & 31, record & (1 << 34) - 1
+    if record >> 39:
+        return f"{index} V {structure} {payload >> 23} {payload >> 12 & 2047} {payload & 4095}"
+    return f"{index} S {structure} {payload}"
+
+
+def card_lines(answer):
+    if answer.number:
+        return [f"refused {answer.number}"]
+    lines, stretches = ["ok"], {}
+    for number, one in enumerate(answer.dimensions):
+        line = f"{number} {one.kind} {one.length}"
+        if one.kind == "brain":
+            line += f" {one.start}"
+            stretches[one.start] = one.length
+        lines.append(line)
+    for start in sorted(stretches):
+        for index in range(stretches[start]):
+            lines.append(record_line(index, answer.records[start + index]))
+    return lines
+
+
+def lister(given):
+    """The whole output for a whole standard input."""
+    line = LENGTHS_LINE.match(given)
+    if not line:
+        return b"refused 1\n"
+    lengths = [int(n) for n in line.group(1).split(b",")]
+    answer = read(given[line.end():], lengths, CARD_ROOM, CARD_ROOM, CARD_TEXT)
+    return "".join(l + "\n" for l in card_lines(answer)).encode()
+
+
+def run_cases(path):
+    passed = failed = 0
+    with open(path, encoding="utf-8") as cases:
+        for case in map(json.loads, cases):
+            got = lister(case["in"].encode("latin-1"))
+            if got == case["out"].encode("latin-1"):
+                passed += 1
+            else:
+                failed += 1
+                print(f"{case['name']}: wanted {case['out'][:60]!r}, got {got[:60]!r}")
+    print(f"{passed} passed, {failed} failed")
+    return 1 if failed else 0
+
+
+if __name__ == "__main__":
+    if sys.argv[1:2] == ["--cases"]:
+        sys.exit(run_cases(sys.argv[2]))
+    sys.stdout.buffer.write(lister(sys.stdin.buffer.read()))

@@ -1,0 +1,181 @@
+"""The markup grammar of the paper: from bytes to the one document they write.
+
+A strict reader of its own; no XML library is used. Refusal 3 where no document writes the bytes.
+"""
+import re
+
+
+class Refused(Exception):
+    """Carries the number of refusal."""
+
+    def __init__(self, number, why=""):
+        super().__init__(number, why)
+        self.number = number
+
+
+BLANKS = b" \t\n\r"
+BLANK = rb"[ \t\n\r]"
+NAME = rb"[A-Za-z_][A-Za-z0-9_\-.:]*"
+VALUE = rb"(?:\"[^\"<]*\"|'[^'<]*')"
+START_TAG = re.compile(
+    rb"<(?P<name>%b)(?P<attributes>(?:%b+%b%b*=%b*%b)*)%b*(?P<empty>/?)>"
+    % (NAME, BLANK, NAME, BLANK, BLANK, VALUE, BLANK))
+ATTRIBUTE = re.compile(
+    rb"%b+(?P<name>%b)%b*=%b*(?P<value>%b)" % (BLANK, NAME, BLANK, BLANK, VALUE))
+END_TAG = re.compile(rb"</(?P<name>%b)%b*>" % (NAME, BLANK))
+DECLARATION = re.compile(
+    rb"<\?xml%b+version%b*=%b*(?:\"1\.0\"|'1\.0')"
+    rb"(?:%b+encoding%b*=%b*(?:\"UTF-8\"|'UTF-8'))?%b*\?>" % ((BLANK,) * 7))
+REFERENCE = re.compile(rb"&(amp|lt|gt|quot|apos);")
+REFERENCES = {b"amp": b"&", b"lt": b"<", b"gt": b">", b"quot": b'"', b"apos": b"'"}
+LONE_AMPERSAND = re.compile(rb"&(?!(?:amp|lt|gt|quot|apos);)")
+FORBIDDEN = re.compile(rb"[\x00-\x08\x0b\x0c\x0e-\x1f]|\xef\xbf[\xbe\xbf]")
+SPACED = bytes.maketrans(b"\t\n\r", b"   ")
+NAME_LIMIT = 64
+ATTRIBUTE_LIMIT = 16
+DEPTH_LIMIT = 16
+
+
+class Element:
+    """A name, attributes in order, contents in order (elements, and runs of
+    decoded characters as bytes), and where its contents stand in the text."""
+
+    __slots__ = ("name", "attributes", "contents", "begin", "end")
+
+    def __init__(self, name, attributes, begin):
+        self.name = name
+        self.attributes = attributes
+        self.contents = []
+        self.begin = self.end = begin
+
+    def children(self, name=None):
+        return [c for c in self.contents
+                if isinstance(c, Element) and (name is None or c.name == name)]
+
+    def child(self, name):
+        return self.children(name)[0]
+
+    def text(self):
+        return b"".join(c for c in self.contents if isinstance(c, bytes))
+
+    def value(self, name):
+        for key, value in self.attributes:
+            if key == name:
+                return value
+        return None
+
+
+def no_document(why):
+    return Refused(3, why)
+
+
+def decode(raw):
+    """Characters as written, to characters meant: each reference once."""
+    if b"&" not in raw:
+        return raw
+    if LONE_AMPERSAND.search(raw):
+        raise no_document("a lone &")
+    return REFERENCE.sub(lambda m: REFERENCES[m.group(1)], raw)
+
+
+def check_characters(text):
+    """All of a document is UTF-8 of legal characters, markup and comments too."""
+    try:
+        text.decode("utf-8", "strict")
+    except UnicodeDecodeError:
+        raise no_document("not UTF-8") from None
+    if FORBIDDEN.search(text):
+        raise no_document("a character that is never allowed")
+
+
+def comment_end(text, at):
+    """The place after the comment that begins at `at`."""
+    dashes = text.find(b"--", at + 4)
+    if dashes < 0 or text[dashes + 2:dashes + 3] != b">":
+        raise no_document("a comment that does not end well")
+    return dashes + 3
+
+
+def skip_aside(text, at):
+    """Past blanks and comments, before and after the root."""
+    while True:
+        while at < len(text) and text[at] in BLANKS:
+            at += 1
+        if not text.startswith(b"<!--", at):
+            return at
+        at = comment_end(text, at)
+
+
+def start_tag(text, at):
+    """The element whose start tag stands at `at`, whether it is empty, and the place after."""
+    tag = START_TAG.match(text, at)
+    if not tag or len(tag["name"]) > NAME_LIMIT:
+        raise no_document("not a start tag")
+    attributes = []
+    for one in ATTRIBUTE.finditer(tag["attributes"]):
+        if len(one["name"]) > NAME_LIMIT:
+            raise no_document("a name too long")
+        value = one["value"][1:-1]
+        attributes.append((one["name"], decode(value.translate(SPACED))))
+    if len(attributes) > ATTRIBUTE_LIMIT:
+        raise no_document("too many attributes")
+    if len({name for name, _ in attributes}) < len(attributes):
+        raise no_document("an attribute twice")
+    return Element(tag["name"], attributes, tag.end()), bool(tag["empty"]), tag.end()
+
+
+def add_run(element, raw):
+    """A stretch of text; it joins the run before it, where only comments stand between."""
+    if b"]]>" in raw:
+        raise no_document("]]> in text")
+    run = decode(raw)
+    if element.contents and isinstance(element.contents[-1], bytearray):
+        element.contents[-1] += run
+    else:
+        element.contents.append(bytearray(run))
+
+
+def close(element, end):
+    element.end = end
+    element.contents = [c if isinstance(c, Element) else bytes(c) for c in element.contents]
+
+
+def root_element(text, at):
+    """The element that stands at `at`, and the place after it."""
+    root, empty, at = start_tag(text, at)
+    if empty:
+        return root, at
+    stack = [root]
+    while stack:
+        angle = text.find(b"<", at)
+        if angle < 0:
+            raise no_document("an element that does not end")
+        if angle > at:
+            add_run(stack[-1], text[at:angle])
+        if text.startswith(b"<!--", angle):
+            at = comment_end(text, angle)
+        elif text.startswith(b"</", angle):
+            tag = END_TAG.match(text, angle)
+            if not tag or tag["name"] != stack[-1].name:
+                raise no_document("a wrong end tag")
+            close(stack.pop(), angle)
+            at = tag.end()
+        else:
+            element, empty, at = start_tag(text, angle)
+            if len(stack) >= DEPTH_LIMIT:
+                raise no_document("too deep")
+            stack[-1].contents.append(element)
+            if not empty:
+                stack.append(element)
+    return root, at
+
+
+def document(text):
+    """The root of the one document that these bytes write; refusal 3 where there is none."""
+    check_characters(text)
+    declared = DECLARATION.match(text)
+    at = skip_aside(text, declared.end() if declared else 0)
+    root, at = root_element(text, at)
+    if skip_aside(text, at) != len(text):
+        raise no_document("something after the root")
+    return root

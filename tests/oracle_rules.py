@@ -1,0 +1,241 @@
+"""The paper's rules on elements (refusal 6) and on numbers (refusal 7), over documents of oracle_markup."""
+import collections
+import re
+
+from oracle_markup import BLANKS, Refused
+
+LENGTH_LIMIT = 1048576
+VERTEX_LIMIT = 1048575
+VOXEL_LIMIT = 4095
+
+# ---------------------------------------------------------- elements, rule 6
+
+KIND = b"CIFTI_INDEX_TYPE_"
+KINDS = {KIND + b"BRAIN_MODELS": "brain", KIND + b"SERIES": "series", KIND + b"SCALARS": "scalars"}
+LATER_KINDS = (KIND + b"PARCELS", KIND + b"LABELS")
+MODEL = b"CIFTI_MODEL_TYPE_"
+MODELS = {MODEL + b"SURFACE": "S", MODEL + b"VOXELS": "V"}
+UNITS = (b"SECOND", b"HERTZ", b"METER", b"RADIAN")
+MANY = 10 ** 9
+
+
+def structure_words():
+    told = (
+        "ACCUMBENS* ALL_WHITE_MATTER ALL_GREY_MATTER AMYGDALA* BRAIN_STEM CAUDATE* "
+        "CEREBELLAR_WHITE_MATTER* CEREBELLUM CEREBELLUM* CEREBRAL_WHITE_MATTER* CORTEX CORTEX* "
+        "DIENCEPHALON_VENTRAL* HIPPOCAMPUS* OTHER OTHER_GREY_MATTER OTHER_WHITE_MATTER "
+        "PALLIDUM* PUTAMEN* THALAMUS*")
+    words = []
+    for word in told.split():
+        if word.endswith("*"):
+            words += [word[:-1] + "_LEFT", word[:-1] + "_RIGHT"]
+        else:
+            words.append(word)
+    return {b"CIFTI_STRUCTURE_" + w.encode(): n for n, w in enumerate(words)}
+
+
+STRUCTURES = structure_words()
+
+
+def not_as_told(why):
+    return Refused(6, why)
+
+
+def shape(element, attributes, children, text=False):
+    """The element has exactly these attributes, children within these bounds and,
+    where it holds no text, only blanks between them."""
+    if {name for name, _ in element.attributes} != set(attributes):
+        raise not_as_told("attributes of " + repr(element.name))
+    counts = collections.Counter(c.name for c in element.children())
+    for name in counts:
+        if name not in children:
+            raise not_as_told("child " + repr(name))
+    for name, (least, most) in children.items():
+        if not least <= counts[name] <= most:
+            raise not_as_told("count of " + repr(name))
+    if not text and element.text().strip(BLANKS):
+        raise not_as_told("text in " + repr(element.name))
+
+
+def check_metadata(element):
+    shape(element, [], {b"MD": (0, MANY)})
+    for entry in element.children():
+        shape(entry, [], {b"Name": (1, 1), b"Value": (1, 1)})
+        for part in entry.children():
+            shape(part, [], {}, text=True)
+
+
+def check_named_map(element):
+    shape(element, [], {b"MapName": (1, 1), b"MetaData": (0, 1)})
+    shape(element.child(b"MapName"), [], {}, text=True)
+    for data in element.children(b"MetaData"):
+        check_metadata(data)
+
+
+TRANSFORMATION = b"TransformationMatrixVoxelIndicesIJKtoXYZ"
+
+
+def check_volume(element):
+    shape(element, [b"VolumeDimensions"], {TRANSFORMATION: (1, 1)})
+    shape(element.child(TRANSFORMATION), [b"MeterExponent"], {}, text=True)
+
+
+def check_model(element):
+    kind = MODELS.get(element.value(b"ModelType"))
+    if kind is None:
+        raise not_as_told("ModelType")
+    attributes = [b"IndexOffset", b"IndexCount", b"ModelType", b"BrainStructure"]
+    listing = b"VoxelIndicesIJK"
+    if kind == "S":
+        attributes.append(b"SurfaceNumberOfVertices")
+        listing = b"VertexIndices"
+    shape(element, attributes, {listing: (1, 1)})
+    shape(element.child(listing), [], {}, text=True)
+    if element.value(b"BrainStructure") not in STRUCTURES:
+        raise not_as_told("BrainStructure")
+
+
+def check_map(element):
+    kind = KINDS.get(element.value(b"IndicesMapToDataType"))
+    attributes = [b"AppliesToMatrixDimension", b"IndicesMapToDataType"]
+    if kind == "series":
+        attributes += [b"NumberOfSeriesPoints", b"SeriesStart", b"SeriesStep",
+                       b"SeriesExponent", b"SeriesUnit"]
+        shape(element, attributes, {})
+        if element.value(b"SeriesUnit") not in UNITS:
+            raise not_as_told("SeriesUnit")
+    elif kind == "scalars":
+        shape(element, attributes, {b"NamedMap": (0, MANY)})
+        for named in element.children():
+            check_named_map(named)
+    elif kind == "brain":
+        shape(element, attributes, {b"BrainModel": (1, MANY), b"Volume": (0, 1)})
+        for volume in element.children(b"Volume"):
+            check_volume(volume)
+        models = element.children(b"BrainModel")
+        for model in models:
+            check_model(model)
+        voxels = any(MODELS[m.value(b"ModelType")] == "V" for m in models)
+        if voxels and not element.children(b"Volume"):
+            raise not_as_told("a voxel model without a Volume")
+    else:
+        raise not_as_told("IndicesMapToDataType")
+
+
+def check_elements(root):
+    shape(root, [b"Version"], {b"Matrix": (1, 1)})
+    matrix = root.child(b"Matrix")
+    shape(matrix, [], {b"MetaData": (0, 1), b"MatrixIndicesMap": (1, MANY)})
+    for data in matrix.children(b"MetaData"):
+        check_metadata(data)
+    for one in matrix.children(b"MatrixIndicesMap"):
+        check_map(one)
+
+
+# ------------------------------------------------------------ numbers, rule 7
+
+WHOLE = re.compile(rb"[0-9]{1,7}\Z")
+EXPONENT = re.compile(rb"-?[0-9]{1,2}\Z")
+DECIMAL = re.compile(rb"([+-]?)([0-9]+)(?:\.([0-9]+))?\Z")
+DIMENSIONS = re.compile(rb"[0-9](?:,[0-9])*\Z")
+BETWEEN = re.compile(rb"[ \t\n\r]+")
+
+
+def not_a_number(why):
+    return Refused(7, why)
+
+
+def whole(word, least, most):
+    if not WHOLE.match(word) or not least <= int(word) <= most:
+        raise not_a_number(repr(word[:20]))
+    return int(word)
+
+
+def exponent(word):
+    if not EXPONENT.match(word) or not -30 <= int(word) <= 30:
+        raise not_a_number(repr(word[:20]))
+    return int(word)
+
+
+def decimal(word):
+    """(the digits as a signed whole number, the places after the point)."""
+    found = DECIMAL.match(word)
+    if not found:
+        raise not_a_number(repr(word[:20]))
+    sign, before, after = found.group(1), found.group(2), found.group(3) or b""
+    if len(before) + len(after) > 15:
+        raise not_a_number("too many digits")
+    amount = int(before + after)
+    return (-amount if sign == b"-" else amount), len(after)
+
+
+def dimension_list(word):
+    if not DIMENSIONS.match(word):
+        raise not_a_number("dimension list")
+    return [int(digit) for digit in word.split(b",")]
+
+
+def volume_dimensions(word):
+    parts = word.split(b",")
+    if len(parts) != 3:
+        raise not_a_number("VolumeDimensions")
+    return tuple(whole(p, 1, most) for p, most in zip(parts, (2048, 2048, 4096)))
+
+
+def words(text):
+    return [w for w in BETWEEN.split(text) if w]
+
+
+def check_transformation(text):
+    numbers = [decimal(w) for w in words(text)]
+    if len(numbers) != 16:
+        raise not_a_number("not sixteen")
+    for (amount, places), wanted in zip(numbers[12:], (0, 0, 0, 1)):
+        if amount != wanted * 10 ** places:
+            raise not_a_number("the last row")
+
+
+Model = collections.namedtuple("Model", "type structure offset count vertices numbers")
+
+
+class Map:
+    """A MatrixIndicesMap with its numbers read."""
+
+    def __init__(self, element):
+        self.kind = KINDS[element.value(b"IndicesMapToDataType")]
+        self.applies = dimension_list(element.value(b"AppliesToMatrixDimension"))
+        self.series_start = self.series_step = (0, 0)
+        self.exponent = self.unit = 0
+        self.models, self.volume, self.named = [], None, []
+        if self.kind == "series":
+            self.length = whole(element.value(b"NumberOfSeriesPoints"), 1, LENGTH_LIMIT)
+            self.series_start = decimal(element.value(b"SeriesStart"))
+            self.series_step = decimal(element.value(b"SeriesStep"))
+            self.exponent = exponent(element.value(b"SeriesExponent"))
+            self.unit = UNITS.index(element.value(b"SeriesUnit"))
+        elif self.kind == "scalars":
+            self.named = element.children(b"NamedMap")
+            self.length = len(self.named)
+        else:
+            for volume in element.children(b"Volume"):
+                self.volume = volume_dimensions(volume.value(b"VolumeDimensions"))
+                matrix = volume.child(TRANSFORMATION)
+                exponent(matrix.value(b"MeterExponent"))
+                check_transformation(matrix.text())
+            self.models = [read_model(m) for m in element.children(b"BrainModel")]
+            self.length = sum(m.count for m in self.models)
+
+
+def read_model(element):
+    kind = MODELS[element.value(b"ModelType")]
+    offset = whole(element.value(b"IndexOffset"), 0, LENGTH_LIMIT)
+    count = whole(element.value(b"IndexCount"), 1, LENGTH_LIMIT)
+    vertices = 0
+    if kind == "S":
+        vertices = whole(element.value(b"SurfaceNumberOfVertices"), 1, LENGTH_LIMIT)
+        listing, most = element.child(b"VertexIndices"), VERTEX_LIMIT
+    else:
+        listing, most = element.child(b"VoxelIndicesIJK"), VOXEL_LIMIT
+    numbers = [whole(w, 0, most) for w in words(listing.text())]
+    structure = STRUCTURES[element.value(b"BrainStructure")]
+    return Model(kind, structure, offset, count, vertices, numbers)

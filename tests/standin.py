@@ -1,0 +1,80 @@
+"""The oracle behind the C interface, to try the Python module and the comparison without the proved library.
+
+`install(module)` makes the module call the oracle through real C calls, by include/dzwonolin.h.
+"""
+import ctypes
+
+import oracle
+
+KINDS = {"brain": 1, "series": 2, "scalars": 3}
+
+
+def numbers(pointer, length):
+    """The lent slice of 64-bit numbers at a pointer."""
+    return (ctypes.c_uint64 * length).from_address(pointer) if length else []
+
+
+def answer_numbers(answer):
+    """An answer of the oracle as the 31 numbers of dz_read."""
+    row = [answer.number]
+    for one in answer.dimensions:
+        row += [KINDS[one.kind], one.length, one.start, *one.series_start, *one.series_step, one.exponent, one.unit, 0]
+    return [n % (1 << 64) for n in row + [0] * (31 - len(row))]
+
+
+def store(slot, values):
+    """The values at the start of a lent slice, if they all fit."""
+    if len(slot) >= len(values):
+        slot[:len(values)] = values
+
+
+def dz_read(text, text_len, lengths, lengths_len, records, records_len, work, work_len, answer, answer_len):
+    got = oracle.read(ctypes.string_at(text, text_len), list(numbers(lengths, lengths_len)), records_len, work_len)
+    store(numbers(records, records_len), got.records)
+    if work_len:
+        ctypes.memset(work, 0, 8 * work_len)
+    store(numbers(answer, answer_len), answer_numbers(got))
+    return got.number
+
+
+def dz_map_name(text, text_len, lengths, lengths_len, dimension, index, part, part_len):
+    number, start, length = oracle.map_name_place(
+        ctypes.string_at(text, text_len), list(numbers(lengths, lengths_len)), dimension, index)
+    store(numbers(part, part_len), [start, length])
+    return number
+
+
+def dz_find(records, records_len, number, place, place_len):
+    refusal, found = oracle.find(list(numbers(records, records_len)), number)
+    store(numbers(place, place_len), [found])
+    return refusal
+
+
+def dz_pack(records, records_len, sheet, sheet_len, count, count_len):
+    number, written = oracle.pack(list(numbers(records, records_len)), sheet_len)
+    ctypes.memmove(sheet, written, len(written))
+    store(numbers(count, count_len), [len(written)])
+    return number
+
+
+def dz_unpack(sheet, sheet_len, records, records_len, count, count_len):
+    number, written = oracle.unpack(ctypes.string_at(sheet, sheet_len), records_len)
+    store(numbers(records, records_len), written)
+    store(numbers(count, count_len), [len(written)])
+    return number
+
+
+class Library:
+    """Has the five functions, each behind a C function pointer."""
+
+    def __init__(self, signatures):
+        for function in (dz_read, dz_map_name, dz_find, dz_pack, dz_unpack):
+            kind = ctypes.CFUNCTYPE(ctypes.c_uint64, *signatures[function.__name__])
+            callback = kind(function)
+            setattr(self, function.__name__ + "_kept", callback)
+            prototype = ctypes.CFUNCTYPE(ctypes.c_uint64, *signatures[function.__name__])
+            setattr(self, function.__name__, prototype(ctypes.cast(callback, ctypes.c_void_p).value))
+
+
+def install(module):
+    module._loaded = Library(module._FUNCTIONS)
