@@ -79,7 +79,7 @@ fn scalars_said(length: u64) -> Dimension
 }
 
 // What the answer says of the map at `at`, whose stretch, if it has one, begins at `start`.
-pub fn described(text: &[u8], at: usize, start: usize) -> Dimension
+pub(crate) fn described(text: &[u8], at: usize, start: usize) -> Dimension
     requires { ⌜ MapAt (now text) at ⌝ }
     ensures { λ r. ⌜ r ≡ answers.described start (contentOf (the (now (text .entry)) at)) ⌝ }
 {

@@ -81,7 +81,7 @@ fn unit_number(text: &[u8], at: usize) -> u64
     4
 }
 
-pub fn series_at(text: &[u8], at: usize) -> Series
+pub(crate) fn series_at(text: &[u8], at: usize) -> Series
     requires { ⌜ SeriesAt (now text) at ⌝ }
     ensures { λ r. ⌜ r ≡ seriesSaid (the (now (text .entry)) at) ⌝ }
 {

@@ -11,7 +11,7 @@ ghost use Rattle.maps.specs.Sums.{MapAt};
 ghost use Rattle.maps.specs.Ready.{mapsAt};
 ghost use Rattle.maps.specs.Nine.{InRoom};
 
-pub fn stretch_length(text: &[u8], at: usize) -> u64
+pub(crate) fn stretch_length(text: &[u8], at: usize) -> u64
     requires { ⌜ MapAt (now text) at ⌝ }
     ensures { λ r. ⌜ r ≡ reach (contentOf (the (now (text .entry)) at)) ⌝ }
 {

@@ -73,7 +73,7 @@ pub fn lists_digit(text: &[u8], at: usize, d: usize) -> u64
 }
 
 // How often the maps list the dimension, told up to twice.
-pub fn listed(text: &[u8], maps: Maps, d: usize) -> u64
+pub(crate) fn listed(text: &[u8], maps: Maps, d: usize) -> u64
     requires { ⌜ Asking (now text) maps d ⌝ }
     ensures { λ r. ⌜ r ≡ min 2 (count (eqb d) (listedDimensions (mapsAt (now (text .entry)) maps))) ⌝ }
 {

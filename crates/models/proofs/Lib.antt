@@ -1,4 +1,3 @@
-pub mod LawsSumming
 pub mod LawsGathering
 pub mod LawsChaining
 pub mod LawsJudging

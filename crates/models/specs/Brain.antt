@@ -26,11 +26,6 @@ pub record BrainAt (text : List ℕ) (map : ℕ) : Type 0 where
   pub good : Good brainModels (the text map)
   pub is-brain : has "IndicesMapToDataType" "CIFTI_INDEX_TYPE_BRAIN_MODELS" (the text map) ≡ true
 
--- in a text that condition 2 lets pass
-pub record BrainIn (text : List ℕ) (map : ℕ) : Type 0 where
-  pub brain : BrainAt text map
-  pub short : length text ≤ 16777216
-
 -- ---- The content of a brain map.
 
 module _ (e : Element) (h : has "IndicesMapToDataType" "CIFTI_INDEX_TYPE_BRAIN_MODELS" e ≡ true) where

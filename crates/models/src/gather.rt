@@ -28,7 +28,7 @@ pub struct Models {
 }
 
 // The type and the structure of the model at `at`, in one number.
-pub fn kind_at(text: &[u8], at: usize) -> u64
+pub(crate) fn kind_at(text: &[u8], at: usize) -> u64
     requires { ⌜ ModelAt (now text) at ⌝ }
     ensures { λ r. ⌜ r ≡ kindNumber (modelOf (the (now (text .entry)) at)) ⌝ }
 {
@@ -91,13 +91,4 @@ pub fn models_of(text: &[u8], map: usize) -> Models
             }
         }
     }
-}
-
-// 10: two models of the map share type and structure.
-pub fn models_share(text: &[u8], map: usize) -> bool
-    requires { ⌜ BrainAt (now text) map ⌝ }
-    ensures { λ r. ⌜ r ≡ twoOf alike (models (mapOf (the (now (text .entry)) map))) ⌝ }
-{
-    let gathered = models_of(text, map);
-    gathered.shared
 }

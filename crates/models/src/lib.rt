@@ -1,6 +1,5 @@
 // The models of a brain map, read off a text: conditions 10, 11 and 12.
 pub mod gather;
-pub mod lengths;
 pub mod listing;
 pub mod ranges;
 pub mod structures;

@@ -122,7 +122,7 @@ pub fn list_start(text: &[u8], at: usize) -> Found
 }
 
 // 11 or 12 for the list of the model at `at`, whose length and kind are known.
-pub fn list_verdict(text: &[u8], at: usize, length: u64, kind: u64, sizes: Sizes) -> u64
+pub(crate) fn list_verdict(text: &[u8], at: usize, length: u64, kind: u64, sizes: Sizes) -> u64
     requires { ⌜ Known (now text) at length kind ⌝ }
     ensures { λ r. ⌜ r ≡ listVerdict (volumeFrom sizes) (modelOf (the (now (text .entry)) at)) ⌝ }
 {

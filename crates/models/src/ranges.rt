@@ -35,7 +35,7 @@ fn begins_at(models: Models, index: u64) -> usize
 }
 
 // Every index below the sum lies in exactly one range: from 0, each range goes on where the last one ended, up to the sum.
-pub fn ranges_tile(models: Models) -> bool
+pub(crate) fn ranges_tile(models: Models) -> bool
     requires { ⌜ Ranged models ⌝ }
     ensures { λ r. ⌜ r ≡ tiling (rangesOf models) ⌝ }
 {

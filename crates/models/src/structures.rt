@@ -75,7 +75,7 @@ fn word_number(text: &[u8], v: usize) -> u64
 }
 
 // The structure of the model at `at`; 32 where it names none.
-pub fn structure_number(text: &[u8], at: usize) -> u64
+pub(crate) fn structure_number(text: &[u8], at: usize) -> u64
     requires { ⌜ Stands (now text) at ⌝ }
     ensures { λ r. ⌜ r ≡ numberIn structures (attr "BrainStructure" (the (now (text .entry)) at)) ⌝ }
 {

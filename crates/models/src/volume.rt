@@ -39,7 +39,7 @@ fn sizes_at(text: &[u8], at: usize) -> Sizes
 }
 
 // The sizes of the map's volume, 0 where it has none.
-pub fn volume_of(text: &[u8], map: usize) -> Sizes
+pub(crate) fn volume_of(text: &[u8], map: usize) -> Sizes
     requires { ⌜ BrainAt (now text) map ⌝ }
     ensures { λ r. ⌜ volumeFrom r ≡ volumeOf (mapOf (the (now (text .entry)) map)) ⌝ }
 {

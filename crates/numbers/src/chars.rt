@@ -48,7 +48,7 @@ pub fn wide(b: u8) -> u64
 }
 
 // The digits at `at`, at most so many, behind those that write `before`.
-pub fn digits(text: &[u8], at: usize, source: Source, most: u64, before: u64) -> Run
+pub(crate) fn digits(text: &[u8], at: usize, source: Source, most: u64, before: u64) -> Run
     requires { ⌜ (most ≤ 15) × (before < 10 ^ (15 - most)) ⌝ }
     ensures { λ r. ⌜ r ≡ digitsAt source (now (text .entry)) most before 0 at ⌝ }
 {
@@ -123,7 +123,7 @@ pub fn blanks(text: &[u8], at: usize) -> usize
 }
 
 // The number, with a sign in front.
-pub fn signed(negative: bool, n: u64) -> i64
+pub(crate) fn signed(negative: bool, n: u64) -> i64
     requires { ⌜ n < 10 ^ 15 ⌝ }
     ensures { λ r. ⌜ r ≡ withSign (signIf negative) n ⌝ }
 {

@@ -15,7 +15,7 @@ ghost use Rattle.numbers.specs.Sixteen.{rightAt};
 ghost use Rattle.numbers.specs.Spelled.{Pointed, Pure, Spelled};
 
 // The digits behind the point, after `count` digits that write `before`.
-pub fn places_at(
+pub(crate) fn places_at(
     text: &[u8],
     at: usize,
     source: Source,
@@ -95,7 +95,7 @@ pub fn decimal_at(text: &[u8], at: usize, source: Source) -> Spelling
 }
 
 // So many zeros behind `n`.
-pub fn shifted(n: u64, places: u64) -> u64
+pub(crate) fn shifted(n: u64, places: u64) -> u64
     requires { ⌜ (n ≤ 1) × (places ≤ 14) ⌝ }
     ensures { λ r. ⌜ r ≡ n * 10 ^ places ⌝ }
 {
@@ -109,7 +109,7 @@ pub fn shifted(n: u64, places: u64) -> u64
 }
 
 // The decimal is equal in value to `n`.
-pub fn equals(d: Scaled, n: u64) -> bool
+pub(crate) fn equals(d: Scaled, n: u64) -> bool
     requires { ⌜ (n ≤ 1) × (d .places ≤ 14) ⌝ }
     ensures { λ r. ⌜ r ≡ isWhole (n * 10 ^ (d .places)) (d .amount) ⌝ }
 {
@@ -119,7 +119,7 @@ pub fn equals(d: Scaled, n: u64) -> bool
 }
 
 // The decimal is right where so many of the sixteen are still to come.
-pub fn right_at(left: u64, d: Scaled) -> bool
+pub(crate) fn right_at(left: u64, d: Scaled) -> bool
     requires { ⌜ d .places ≤ 14 ⌝ }
     ensures { λ r. ⌜ r ≡ rightAt left d ⌝ }
 {

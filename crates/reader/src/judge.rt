@@ -43,7 +43,7 @@ fn map_rule(text: &[u8], at: usize) -> u64
     0
 }
 
-pub fn judged(text: &[u8], maps: Maps) -> u64
+pub(crate) fn judged(text: &[u8], maps: Maps) -> u64
     requires { ⌜ InRoom (now text) maps ⌝ }
     ensures { λ r. ⌜ r ≡ rule12 (mapsAt (now (text .entry)) maps) ⌝ }
 {

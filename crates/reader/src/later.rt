@@ -39,7 +39,7 @@ fn any_twice(text: &[u8], maps: Maps, work: &mut [u64]) -> bool
     false
 }
 
-pub fn later_refusal(text: &[u8], maps: Maps, room: usize, work: &mut [u64]) -> u64
+pub(crate) fn later_refusal(text: &[u8], maps: Maps, room: usize, work: &mut [u64]) -> u64
     requires { ⌜ InRoom (now text) maps ⌝ }
     ensures { λ r. ⌜ Later (now (text .entry)) maps room (now (work .entry)) r (now (work .exit)) ⌝ }
 {

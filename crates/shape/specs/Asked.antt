@@ -40,7 +40,3 @@ pub record Choosing (text : List ℕ) (at w from to shift : ℕ) : Type 0 where
 pub record Counting (counts : List ℕ) (p : ℕ) : Type 0 where
   pub known : p < 4
   pub room : getD counts p 0 < 18446744073709551615
-
-pub record Shaped (text : List ℕ) (at : ℕ) : Type 0 where
-  pub stands : Stands text at
-  pub right : shapeWrong (the text at) ≡ false

@@ -97,7 +97,7 @@ const LINE_KINDS: [usize; 14] = [1, 2, 15, 3, 4, 4, 16, 9, 8, 4, 2, 10, 13, 14];
 const TEXTS: [u8; 15] = [0, 0, 0, 0, 1, 0, 0, 0, 0, 0, 2, 0, 0, 3, 4];
 
 // Where a word begins.
-pub fn word_bound(w: usize) -> usize
+pub(crate) fn word_bound(w: usize) -> usize
     requires { ⌜ w < 70 ⌝ }
     ensures { λ r. ⌜ r ≡ bound w ⌝ }
 {
@@ -105,7 +105,7 @@ pub fn word_bound(w: usize) -> usize
 }
 
 // The attributes of a kind are the words from here ..
-pub fn attributes_from(kind: usize) -> usize
+pub(crate) fn attributes_from(kind: usize) -> usize
     requires { ⌜ kind < 15 ⌝ }
     ensures { λ r. ⌜ r ≡ getD attributesFrom kind 0 ⌝ }
 {
@@ -113,7 +113,7 @@ pub fn attributes_from(kind: usize) -> usize
 }
 
 // .. up to here.
-pub fn attributes_to(kind: usize) -> usize
+pub(crate) fn attributes_to(kind: usize) -> usize
     requires { ⌜ kind < 15 ⌝ }
     ensures { λ r. ⌜ r ≡ getD attributesTo kind 0 ⌝ }
 {
@@ -121,7 +121,7 @@ pub fn attributes_to(kind: usize) -> usize
 }
 
 // The form of an attribute.
-pub fn form(w: usize) -> u8
+pub(crate) fn form(w: usize) -> u8
     requires { ⌜ w < 15 ⌝ }
     ensures { λ r. ⌜ r ≡ getD attributeForms w 0 ⌝ }
 {
@@ -129,7 +129,7 @@ pub fn form(w: usize) -> u8
 }
 
 // The children of a kind are the lines from here ..
-pub fn lines_from(kind: usize) -> usize
+pub(crate) fn lines_from(kind: usize) -> usize
     requires { ⌜ kind < 15 ⌝ }
     ensures { λ r. ⌜ r ≡ getD linesFrom kind 0 ⌝ }
 {
@@ -137,7 +137,7 @@ pub fn lines_from(kind: usize) -> usize
 }
 
 // .. up to here.
-pub fn lines_to(kind: usize) -> usize
+pub(crate) fn lines_to(kind: usize) -> usize
     requires { ⌜ kind < 15 ⌝ }
     ensures { λ r. ⌜ r ≡ getD linesTo kind 0 ⌝ }
 {
@@ -145,7 +145,7 @@ pub fn lines_to(kind: usize) -> usize
 }
 
 // The word that names a line's child.
-pub fn line_name(i: usize) -> usize
+pub(crate) fn line_name(i: usize) -> usize
     requires { ⌜ i < 14 ⌝ }
     ensures { λ r. ⌜ r ≡ getD lineNames i 0 ⌝ }
 {
@@ -153,7 +153,7 @@ pub fn line_name(i: usize) -> usize
 }
 
 // How often a line's child stands.
-pub fn line_times(i: usize) -> u8
+pub(crate) fn line_times(i: usize) -> u8
     requires { ⌜ i < 14 ⌝ }
     ensures { λ r. ⌜ r ≡ getD lineTimes i 0 ⌝ }
 {
@@ -161,7 +161,7 @@ pub fn line_times(i: usize) -> u8
 }
 
 // The kind of a line's child, or the choice that gives it.
-pub fn line_kind(i: usize) -> usize
+pub(crate) fn line_kind(i: usize) -> usize
     requires { ⌜ i < 14 ⌝ }
     ensures { λ r. ⌜ r ≡ getD lineKinds i 0 ⌝ }
 {
@@ -169,7 +169,7 @@ pub fn line_kind(i: usize) -> usize
 }
 
 // The text of a kind.
-pub fn text_form(kind: usize) -> u8
+pub(crate) fn text_form(kind: usize) -> u8
     requires { ⌜ kind < 15 ⌝ }
     ensures { λ r. ⌜ r ≡ getD texts kind 0 ⌝ }
 {

@@ -16,7 +16,7 @@ ghost use Rattle.shape.specs.Parts.{attributesFault, textNumbered, textF
 ghost use Rattle.shape.specs.Asked.{Attributed, OfKind};
 
 // The first of the words from `from` up to `to` that the value at `v` is, or `to`.
-pub fn word_place(text: &[u8], v: usize, from: usize, to: usize) -> usize
+pub(crate) fn word_place(text: &[u8], v: usize, from: usize, to: usize) -> usize
     requires { ⌜ (from ≤ to) × (to ≤ 69) ⌝ }
     ensures { λ r. ⌜ r ≡ firstWord (value-there (now (text .entry)) v) from (to - from) ⌝ }
 {
@@ -169,7 +169,7 @@ fn text_fault(text: &[u8], at: usize, form: u8) -> u8
 }
 
 // The fault of the element's own part: its attributes and its text.
-pub fn own_fault(text: &[u8], at: usize, kind: usize) -> u8
+pub(crate) fn own_fault(text: &[u8], at: usize, kind: usize) -> u8
     requires { ⌜ OfKind (now text) at kind ⌝ }
     ensures { λ r. ⌜ r ≡ ownFault kind (the (now (text .entry)) at) ⌝ }
 {

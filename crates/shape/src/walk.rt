@@ -133,7 +133,7 @@ fn times_right(kind: usize, tally: Tally) -> bool
 }
 
 // The fault of the element at `at`, of this kind, and of all that is in it.
-pub fn fault(text: &[u8], at: usize, kind: usize) -> u8
+pub(crate) fn fault(text: &[u8], at: usize, kind: usize) -> u8
     requires { ⌜ OfKind (now text) at kind ⌝ }
     ensures { λ r. ⌜ r ≡ faultOf kind (the (now (text .entry)) at) ⌝ }
 {

@@ -15,7 +15,7 @@ const WORDS: [u8; 1514] =
     *b"VersionAppliesToMatrixDimensionIndicesMapToDataTypeNumberOfSeriesPointsSeriesStartSeriesStepSeriesExponentSeriesUnitIndexOffsetIndexCountModelTypeBrainStructureSurfaceNumberOfVerticesVolumeDimensionsMeterExponentMatrixMetaDataMatrixIndicesMapMDNameValueBrainModelVolumeNamedMapMapNameTransformationMatrixVoxelIndicesIJKtoXYZVertexIndicesVoxelIndicesIJKCIFTI_INDEX_TYPE_BRAIN_MODELSCIFTI_INDEX_TYPE_SERIESCIFTI_INDEX_TYPE_SCALARSCIFTI_MODEL_TYPE_SURFACECIFTI_MODEL_TYPE_VOXELSSECONDHERTZMETERRADIANCIFTI_STRUCTURE_ACCUMBENS_LEFTCIFTI_STRUCTURE_ACCUMBENS_RIGHTCIFTI_STRUCTURE_ALL_WHITE_MATTERCIFTI_STRUCTURE_ALL_GREY_MATTERCIFTI_STRUCTURE_AMYGDALA_LEFTCIFTI_STRUCTURE_AMYGDALA_RIGHTCIFTI_STRUCTURE_BRAIN_STEMCIFTI_STRUCTURE_CAUDATE_LEFTCIFTI_STRUCTURE_CAUDATE_RIGHTCIFTI_STRUCTURE_CEREBELLAR_WHITE_MATTER_LEFTCIFTI_STRUCTURE_CEREBELLAR_WHITE_MATTER_RIGHTCIFTI_STRUCTURE_CEREBELLUMCIFTI_STRUCTURE_CEREBELLUM_LEFTCIFTI_STRUCTURE_CEREBELLUM_RIGHTCIFTI_STRUCTURE_CEREBRAL_WHITE_MATTER_LEFTCIFTI_STRUCTURE_CEREBRAL_WHITE_MATTER_RIGHTCIFTI_STRUCTURE_CORTEXCIFTI_STRUCTURE_CORTEX_LEFTCIFTI_STRUCTURE_CORTEX_RIGHTCIFTI_STRUCTURE_DIENCEPHALON_VENTRAL_LEFTCIFTI_STRUCTURE_DIENCEPHALON_VENTRAL_RIGHTCIFTI_STRUCTURE_HIPPOCAMPUS_LEFTCIFTI_STRUCTURE_HIPPOCAMPUS_RIGHTCIFTI_STRUCTURE_OTHERCIFTI_STRUCTURE_OTHER_GREY_MATTERCIFTI_STRUCTURE_OTHER_WHITE_MATTERCIFTI_STRUCTURE_PALLIDUM_LEFTCIFTI_STRUCTURE_PALLIDUM_RIGHTCIFTI_STRUCTURE_PUTAMEN_LEFTCIFTI_STRUCTURE_PUTAMEN_RIGHTCIFTI_STRUCTURE_THALAMUS_LEFTCIFTI_STRUCTURE_THALAMUS_RIGHT";
 
 // The element at `at` has the word for its name.
-pub fn name_is(text: &[u8], at: usize, w: usize) -> bool
+pub(crate) fn name_is(text: &[u8], at: usize, w: usize) -> bool
     requires { ⌜ Named (now text) at w ⌝ }
     ensures { λ r. ⌜ r ≡ is (wordAt w) (nameOf (the (now (text .entry)) at)) ⌝ }
 {
@@ -25,7 +25,7 @@ pub fn name_is(text: &[u8], at: usize, w: usize) -> bool
 }
 
 // The value at `v` is the word.
-pub fn value_is(text: &[u8], v: usize, w: usize) -> bool
+pub(crate) fn value_is(text: &[u8], v: usize, w: usize) -> bool
     requires { ⌜ w < 69 ⌝ }
     ensures { λ r. ⌜ r ≡ is (wordAt w) (value-there (now (text .entry)) v) ⌝ }
 {
@@ -35,7 +35,7 @@ pub fn value_is(text: &[u8], v: usize, w: usize) -> bool
 }
 
 // Where the value of the attribute of this name begins.
-pub fn attribute(text: &[u8], at: usize, w: usize) -> Found
+pub(crate) fn attribute(text: &[u8], at: usize, w: usize) -> Found
     requires { ⌜ w < 69 ⌝ }
     ensures { λ r. ⌜ r ≡ place (now (text .entry)) at (ascii (wordAt w)) ⌝ }
 {

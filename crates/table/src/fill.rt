@@ -67,7 +67,7 @@ fn fill_voxels(text: &[u8], start: usize, structure: u64, out: &mut [u64], at: u
 }
 
 // The records of the model at `model`, which is of this kind, one behind the other from `at` on.
-pub fn fill_model(text: &[u8], model: usize, kind: u64, out: &mut [u64], at: usize)
+pub(crate) fn fill_model(text: &[u8], model: usize, kind: u64, out: &mut [u64], at: usize)
     requires { ⌜ Fillable (now text) model kind (now out) at ⌝ }
     ensures { λ _. ⌜ now (out .exit) ≡ wrote at (recordsOf (modelOf (the (now (text .entry)) model))) (now (out .entry)) ⌝ }
 {
