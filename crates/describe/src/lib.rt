@@ -1,5 +1,2 @@
-// What the answer says of the maps of a header, condition 13, and where a map name stands.
-pub mod names;
+// The laws of what the answer says, of condition 13 and of map names that the reader's code is proved by; and what is said of each map, by value.
 pub mod said;
-pub mod series;
-pub mod stretch;

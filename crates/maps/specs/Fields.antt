@@ -20,6 +20,7 @@ use native.Mathlib.Omega.{arith}
 use Rattle.nodes.specs.Places.{Stands, the}
 use Rattle.nodes.specs.Attributes.{place, lookup, lookup-is, Held, missing, held, attribute-law}
 use Rattle.nodes.specs.Values.{value-there, value-law}
+use Rattle.nodes.specs.Found.{value-at-name, found-law}
 use Rattle.nodes.specs.declared.Found.{Found}
 use Rattle.nodes.specs.declared.Found.the-variants.{At, Nothing}
 use Rattle.numbers.specs.Answers.{wholeIn}
@@ -62,7 +63,7 @@ module _ {text : List ℕ} {at : ℕ} (w : List ℕ) (st : Stands text at) {f : 
       go : (o : Option Word) → Held text Nothing o → orEmpty o ≡ []
       go Option.none missing = refl
 
-  -- the paths of `attribute_number` and `attribute_is`
+  -- the paths of `attribute_number`
   pub seen-is : (lo hi : ℕ) {v n : ℕ} {a : Whole} → f ≡ At v → a ≡ wholeIn lo hi (value-there text v) → a ≡ Is n → n ≡ numberSeen lo hi (wordAt w (the text at))
   unfolding numberSeen orZero
   seen-is lo hi h p q = sym (ap (λ x. orZero (wholeIn lo hi x)) (sym (found-value h)) ∙ ap orZero (sym p ∙ q))
@@ -75,15 +76,9 @@ module _ {text : List ℕ} {at : ℕ} (w : List ℕ) (st : Stands text at) {f : 
   unfolding numberSeen orZero wholeIn whole digits all
   seen-none lo hi h = rw (found-none h)
 
-  pub is-there : (word : List ℕ) {v : ℕ} {b : Bool} → f ≡ At v → b ≡ same (value-there text v) word → b ≡ same (wordAt w (the text at)) word
-  is-there word h p = p ∙ ap (λ x. same x word) (found-value h)
+-- what `attribute_is` of nodes says, of a standing element
+pub is-word : {text : List ℕ} {at : ℕ} (w word : List ℕ) → Stands text at → {b : Bool} → b ≡ same (value-at-name text at w) word → b ≡ same (wordAt w (the text at)) word
+unfolding value-at-name wordAt
+is-word w word st p = p ∙ ap (λ o. same (orEmpty o) word) (found-law w st)
 
-  pub is-missing : (word : List ℕ) → f ≡ Nothing → eqb (length word) 0 ≡ same (wordAt w (the text at)) word
-  unfolding same
-  is-missing word h = rw (found-none h) (go word)
-    where
-      go : (word : List ℕ) → eqb (length word) 0 ≡ same [] word
-      go [] = refl
-      go (a ∷ word) = ne-eqb (length (a ∷ word)) 0 (λ z. omega arith)
-
-pub ruleset fieldSteps = (seen-is, seen-no, seen-none, is-there, is-missing, needs)
+pub ruleset fieldSteps = (seen-is, seen-no, seen-none, is-word, needs)

@@ -14,6 +14,7 @@ use Rattle.grammar.specs.Look.{is, nameOf, attr, has, contentsOf, elements, chi
 use Rattle.nodes.specs.Places.{Stands, the}
 use Rattle.nodes.specs.Children.{first, next, left}
 use Rattle.nodes.specs.Names.{named, name-is-law}
+use Rattle.nodes.specs.Found.{value-at-name, has-law}
 use Rattle.nodes.specs.Walk.{kids, Walk, Turn, walk-children, kids-children, walk-none, turn-at, turn-splits, turn-falls}
 use Rattle.nodes.specs.declared.Kid.{Kid}
 use Rattle.nodes.specs.declared.Kid.the-variants.{Child, Done}
@@ -36,9 +37,9 @@ module _ {text : List ℕ} {at : ℕ} (st : Stands text at) {b : Bool} (nm : b �
   unfolding rootWrong
   root-other f = rw (sym root-name ∙ f)
 
-  pub root-version : b ≡ true → {c : Bool} → c ≡ same (wordAt (ascii "Version") (the text at)) (ascii "2") → not c ≡ rootWrong (the text at)
+  pub root-version : b ≡ true → {c : Bool} → c ≡ same (value-at-name text at (ascii "Version")) (ascii "2") → not c ≡ rootWrong (the text at)
   unfolding rootWrong
-  root-version t p = rw (sym root-name ∙ t) (ap not (says-has "Version" "2" (the text at) p))
+  root-version t p = rw (sym root-name ∙ t) (ap not (p ∙ has-law "Version" "2" st))
 
 pub ruleset rooting = (root-other, root-version, needs)
 
@@ -50,14 +51,17 @@ notRead m = has "IndicesMapToDataType" "CIFTI_INDEX_TYPE_PARCELS" m || has "Indi
 unfoldable pub anyNotRead : Element → Bool
 anyNotRead e = any notRead (children "MatrixIndicesMap" e)
 
-module _ (e : Element) {b : Bool} (p : b ≡ same (wordAt (ascii "IndicesMapToDataType") e) (ascii "CIFTI_INDEX_TYPE_PARCELS")) where
-  pub unread-parcels : b ≡ true → true ≡ notRead e
-  unfolding notRead
-  unread-parcels t = rw (sym (says-has "IndicesMapToDataType" "CIFTI_INDEX_TYPE_PARCELS" e p) ∙ t)
+module _ {text : List ℕ} {at : ℕ} (st : Stands text at) {b : Bool} (p : b ≡ same (value-at-name text at (ascii "IndicesMapToDataType")) (ascii "CIFTI_INDEX_TYPE_PARCELS")) where
+  parcels : b ≡ has "IndicesMapToDataType" "CIFTI_INDEX_TYPE_PARCELS" (the text at)
+  parcels = p ∙ has-law "IndicesMapToDataType" "CIFTI_INDEX_TYPE_PARCELS" st
 
-  pub unread-labels : b ≡ false → {c : Bool} → c ≡ same (wordAt (ascii "IndicesMapToDataType") e) (ascii "CIFTI_INDEX_TYPE_LABELS") → c ≡ notRead e
+  pub unread-parcels : b ≡ true → true ≡ notRead (the text at)
   unfolding notRead
-  unread-labels f q = rw (sym (says-has "IndicesMapToDataType" "CIFTI_INDEX_TYPE_PARCELS" e p) ∙ f) (says-has "IndicesMapToDataType" "CIFTI_INDEX_TYPE_LABELS" e q)
+  unread-parcels t = rw (sym parcels ∙ t)
+
+  pub unread-labels : b ≡ false → {c : Bool} → c ≡ same (value-at-name text at (ascii "IndicesMapToDataType")) (ascii "CIFTI_INDEX_TYPE_LABELS") → c ≡ notRead (the text at)
+  unfolding notRead
+  unread-labels f q = rw (sym parcels ∙ f) (q ∙ has-law "IndicesMapToDataType" "CIFTI_INDEX_TYPE_LABELS" st)
 
 pub ruleset unread-one = (unread-parcels, unread-labels, needs)
 

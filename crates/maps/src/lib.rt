@@ -1,9 +1,3 @@
-// The maps of a header, read off a text: conditions 4, 5, 8 and 9.
-pub mod agree;
-pub mod dimensions;
+// What a header that passes 1 to 7 is known to hold, and the laws of conditions 8 and 9 that the reader's code is proved by; and the places of the maps, by value.
 pub mod dims;
-pub mod fields;
-pub mod lengths;
-pub mod root;
 pub mod survey;
-pub mod unread;

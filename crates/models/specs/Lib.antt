@@ -9,3 +9,13 @@ pub mod Verdicts
 pub mod Listings
 pub mod Sizes
 pub mod Held
+pub mod LawsGathering
+pub mod LawsChaining
+pub mod LawsJudging
+pub mod LawsVerdicts
+pub mod LawsRanges
+pub mod LawsSizes
+pub mod LawsKind
+pub mod LawsStructures
+pub mod LawsListings
+pub mod LawsNumbers

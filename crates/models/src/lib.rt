@@ -1,7 +1,4 @@
-// The models of a brain map, read off a text: conditions 10, 11 and 12.
+// The laws of conditions 10, 11 and 12 that the reader's code is proved by; and the models of a brain map, by value.
 pub mod gather;
 pub mod listing;
-pub mod ranges;
-pub mod structures;
-pub mod verdict;
 pub mod volume;

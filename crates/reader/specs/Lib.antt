@@ -1,4 +1,3 @@
-pub mod Opening
 pub mod Surveying
 pub mod Naming
 pub mod Judging

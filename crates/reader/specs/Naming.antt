@@ -23,7 +23,7 @@ use Rattle.maps.specs.declared.survey.Maps.{Maps}
 use Rattle.describe.specs.NamesOn.{Naming, NameThere, no-name, name-at, namesAt}
 use Rattle.describe.specs.OfDocument.{naming}
 use Rattle.reader.specs.Surveying.{Surveys, Readied}
-use Rattle.reader.specs.declared.survey.Survey.{Survey}
+use Rattle.reader.specs.declared.surveying.Survey.{Survey}
 
 -- ---- The first of two tables, one behind the other.
 

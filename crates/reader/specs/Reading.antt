@@ -22,10 +22,10 @@ use Rattle.cifti.specs.declared.answer.Answer.{Answer}
 use Rattle.maps.specs.Nine.{InRoom}
 use Rattle.maps.specs.Ready.{mapsAt}
 use Rattle.stretches.specs.All.{Fillable}
-use Rattle.reader.specs.Opening.{number9}
+use Rattle.opening.specs.Opening.{number9}
 use Rattle.reader.specs.Surveying.{Surveys, Readied}
 use Rattle.reader.specs.Later.{Later, rule14}
-use Rattle.reader.specs.declared.survey.Survey.{Survey}
+use Rattle.reader.specs.declared.surveying.Survey.{Survey}
 
 -- the first of two tables in a row
 nine-then : (a b c d e f g h i : Bool) (k : List Refusal)

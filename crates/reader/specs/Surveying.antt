@@ -24,9 +24,9 @@ use Rattle.maps.specs.Nine.{InRoom}
 use Rattle.maps.specs.declared.survey.Maps.{Maps}
 use Rattle.describe.specs.NamesOn.{namesAt}
 use Rattle.describe.specs.OfDocument.{names-at}
-use Rattle.reader.specs.Opening.{Opens, Passed, number9, nine-document, lengths-three}
-use Rattle.reader.specs.declared.opening.Opening.{Opening}
-use Rattle.reader.specs.declared.survey.Survey.{Survey}
+use Rattle.opening.specs.Opening.{Opens, Passed, number9, nine-document, lengths-three}
+use Rattle.opening.specs.declared.seven.Opening.{Opening}
+use Rattle.reader.specs.declared.surveying.Survey.{Survey}
 
 -- the maps of the document of a text that passes 1 to 9
 pub record Readied (text lengths : List ℕ) (maps : Maps) : Type 0 where

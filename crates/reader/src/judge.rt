@@ -1,8 +1,8 @@
 // Conditions 10, 11 and 12 over all maps: each map's lists are read once.
-use maps::fields::attribute_is;
+use super::fields::attribute_is;
+use super::gather::models_of;
+use super::verdict::lists_verdict;
 use maps::survey::Maps;
-use models::gather::models_of;
-use models::verdict::lists_verdict;
 ghost use mathlib.Core.Path.{_≡_};
 ghost use Rattle.nodes.specs.Places.{the};
 ghost use Rattle.cifti.specs.Maps.{mapOf};

@@ -1,9 +1,9 @@
 // Conditions 10 to 14, where 1 to 9 do not apply.
+use super::fields::attribute_is;
 use super::judge::judged;
-use describe::stretch::room_short;
-use maps::fields::attribute_is;
+use super::stretch::room_short;
+use super::twice::location_twice;
 use maps::survey::Maps;
-use table::twice::location_twice;
 ghost use lib.ListN.{length};
 ghost use Rattle.maps.specs.Nine.{InRoom};
 ghost use Rattle.reader.specs.Later.{OneFine, AllFine, ToldOne, ToldAll, Later};

@@ -1,10 +1,29 @@
 // The reader: the header text in, the brain location of every matrix index out, or the one right refusal.
+mod agree;
+mod dimensions;
+mod dims;
+mod fields;
+mod fill;
+mod gather;
 mod judge;
 mod later;
+mod lengths;
+mod listing;
+mod map;
 mod names;
-mod opening;
+mod naming;
+mod ranges;
 mod reading;
+mod said;
+mod series;
+mod stretch;
+mod stretching;
+mod structures;
 mod survey;
+mod surveying;
+mod twice;
+mod verdict;
+mod volume;
 
 pub use names::map_name;
 pub use names::map_name_number;

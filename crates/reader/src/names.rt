@@ -1,6 +1,6 @@
 // The name of a map: the number of its refusal, and the part of the text that is the name.
-use super::survey::surveyed;
-use describe::names::name_there;
+use super::naming::name_there;
+use super::surveying::surveyed;
 use nodes::Found;
 use nodes::texts::written;
 ghost use Rattle.cifti.specs.Names.{NameNumber, NamePart};

@@ -1,11 +1,11 @@
 // The table of a header text, or the one right refusal.
 use super::later::later_refusal;
-use super::survey::surveyed;
+use super::said::accepted;
+use super::stretching::fill_all;
+use super::surveying::surveyed;
 use cifti::Answer;
 use cifti::refused;
-use describe::said::accepted;
 use records::clear;
-use stretches::fill::fill_all;
 ghost use Rattle.cifti.specs.Answer.{Reads};
 
 pub fn read(text: &[u8], lengths: &[u64], records: &mut [u64], work: &mut [u64]) -> Answer

@@ -1,47 +1,43 @@
-// Conditions 1 to 9, which the table and the map names both ask.
-use super::opening::opened;
-use maps::agree::length_wrong;
-use maps::dimensions::dimensions_wrong;
+// Where the maps of a matrix begin.
 use maps::survey::Maps;
-use maps::survey::maps_of;
-ghost use Rattle.reader.specs.Surveying.{Surveys};
+use nodes::Kid;
+ghost use Rattle.nodes.specs.Places.{Stands};
+ghost use Rattle.maps.specs.Survey.{Noted, MapsAre};
 
-// The number of the first that applies; where it is 0, the maps.
-pub struct Survey {
-    pub number: u64,
-    pub maps: Maps,
+fn noted(maps: Maps, k: usize) -> Maps
+    ensures { λ r. ⌜ Noted k maps r ⌝ }
+{
+    let n = maps.count;
+    let mut next = maps;
+    if n < 3 {
+        next.at[n] = k;
+        next.count = n + 1;
+        return next;
+    }
+    next.count = 4;
+    next
 }
 
-pub fn surveyed(text: &[u8], lengths: &[u64]) -> Survey
-    ensures { λ r. ⌜ Surveys (now (text .entry)) (now (lengths .entry)) r ⌝ }
+pub(crate) fn maps_of(text: &[u8], matrix: usize) -> Maps
+    requires { ⌜ Stands (now text) matrix ⌝ }
+    ensures { λ r. ⌜ MapsAre (now (text .entry)) matrix r ⌝ }
 {
-    let o = opened(text, lengths);
-    let n = o.number;
-    let m = o.matrix;
-    if n != 0 {
-        return Survey {
-            number: n,
-            maps: Maps {
-                count: 0,
-                at: [0; 3],
-            },
-        };
-    }
-    let maps = maps_of(text, m);
-    if dimensions_wrong(text, m, maps, lengths) {
-        return Survey {
-            number: 8,
-            maps: maps,
-        };
-    }
-    if length_wrong(text, maps, lengths) {
-        return Survey {
-            number: 9,
-            maps: maps,
-        };
-    }
-    Survey {
-        number: 0,
-        maps: maps,
+    let mut maps = Maps {
+        count: 0,
+        at: [0; 3],
+    };
+    let mut kid = nodes::children::first_child(text, matrix);
+    loop {
+        match kid {
+            Kid::Child(k) => {
+                kid = nodes::children::next_child(text, k);
+                if nodes::names::name_is(text, k, b"MatrixIndicesMap") {
+                    maps = noted(maps, k);
+                }
+            }
+            Kid::Done => {
+                return maps;
+            }
+        }
     }
 }

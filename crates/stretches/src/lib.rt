@@ -1,2 +1,1 @@
-// The records of all brain maps, stretch after stretch.
-pub mod fill;
+// The laws of the stretches of all brain maps that the reader's code is proved by. No code: see specs/.

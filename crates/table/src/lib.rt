@@ -1,4 +1,1 @@
-// The table of a brain map, and condition 14.
-pub mod fill;
-pub mod map;
-pub mod twice;
+// The laws of the table of a brain map, and of condition 14, that the reader's code is proved by. No code: see specs/.

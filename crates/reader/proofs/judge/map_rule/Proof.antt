@@ -5,9 +5,9 @@ use Rattle.reader.proofs.judge.map_rule.Statement.{statement}
 use Rattle.reader.proofs.judge.map_rule.Tie as tie
 use Rattle.reader.proofs.judge.map_rule.Reads as reads
 use Rattle.reader.proofs.judge.map_rule.Lts as lts
-use Rattle.maps.proofs.fields.attribute_is.Reads as attribute-is-reads
-use Rattle.models.proofs.gather.models_of.Reads as models-of-reads
-use Rattle.models.proofs.verdict.lists_verdict.Reads as lists-verdict-reads
+use Rattle.reader.proofs.fields.attribute_is.Reads as attribute-is-reads
+use Rattle.reader.proofs.gather.models_of.Reads as models-of-reads
+use Rattle.reader.proofs.verdict.lists_verdict.Reads as lists-verdict-reads
 
 -- src/judge.rt:31:31
 slice-aggregate-attribute-is : tie.Need-slice-aggregate-attribute-is

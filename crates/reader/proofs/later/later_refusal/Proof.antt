@@ -5,7 +5,7 @@ use Rattle.reader.proofs.later.later_refusal.Statement.{statement}
 use Rattle.reader.proofs.later.later_refusal.Tie as tie
 use Rattle.reader.proofs.later.later_refusal.Reads as reads
 use Rattle.reader.proofs.later.later_refusal.Lts as lts
-use Rattle.describe.proofs.stretch.room_short.Reads as room-short-reads
+use Rattle.reader.proofs.stretch.room_short.Reads as room-short-reads
 use Rattle.reader.proofs.judge.judged.Reads as judged-reads
 use Rattle.reader.proofs.later.any_twice.Reads as any-twice-reads
 

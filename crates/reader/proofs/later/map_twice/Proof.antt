@@ -5,8 +5,8 @@ use Rattle.reader.proofs.later.map_twice.Statement.{statement}
 use Rattle.reader.proofs.later.map_twice.Tie as tie
 use Rattle.reader.proofs.later.map_twice.Reads as reads
 use Rattle.reader.proofs.later.map_twice.Lts as lts
-use Rattle.maps.proofs.fields.attribute_is.Reads as attribute-is-reads
-use Rattle.table.proofs.twice.location_twice.Reads as location-twice-reads
+use Rattle.reader.proofs.fields.attribute_is.Reads as attribute-is-reads
+use Rattle.reader.proofs.twice.location_twice.Reads as location-twice-reads
 
 -- src/later.rt:16:31
 slice-aggregate-attribute-is : tie.Need-slice-aggregate-attribute-is

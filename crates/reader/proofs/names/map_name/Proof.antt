@@ -5,8 +5,8 @@ use Rattle.reader.proofs.names.map_name.Statement.{statement}
 use Rattle.reader.proofs.names.map_name.Tie as tie
 use Rattle.reader.proofs.names.map_name.Reads as reads
 use Rattle.reader.proofs.names.map_name.Lts as lts
-use Rattle.describe.proofs.names.name_there.Reads as name-there-reads
-use Rattle.reader.proofs.survey.surveyed.Reads as surveyed-reads
+use Rattle.reader.proofs.naming.name_there.Reads as name-there-reads
+use Rattle.reader.proofs.surveying.surveyed.Reads as surveyed-reads
 use Rattle.nodes.proofs.texts.written.Reads as written-reads
 
 -- src/names.rt:33:9

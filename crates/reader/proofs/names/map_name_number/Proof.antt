@@ -5,8 +5,8 @@ use Rattle.reader.proofs.names.map_name_number.Statement.{statement}
 use Rattle.reader.proofs.names.map_name_number.Tie as tie
 use Rattle.reader.proofs.names.map_name_number.Reads as reads
 use Rattle.reader.proofs.names.map_name_number.Lts as lts
-use Rattle.describe.proofs.names.name_there.Reads as name-there-reads
-use Rattle.reader.proofs.survey.surveyed.Reads as surveyed-reads
+use Rattle.reader.proofs.naming.name_there.Reads as name-there-reads
+use Rattle.reader.proofs.surveying.surveyed.Reads as surveyed-reads
 
 -- src/names.rt:12:9
 surveyed-requires : tie.Need-surveyed-requires

@@ -6,11 +6,11 @@ use Rattle.reader.proofs.reading.read.Tie as tie
 use Rattle.reader.proofs.reading.read.Reads as reads
 use Rattle.reader.proofs.reading.read.Lts as lts
 use Rattle.cifti.proofs.refused.Reads as refused-reads
-use Rattle.describe.proofs.said.accepted.Reads as accepted-reads
+use Rattle.reader.proofs.said.accepted.Reads as accepted-reads
 use Rattle.reader.proofs.later.later_refusal.Reads as later-refusal-reads
-use Rattle.reader.proofs.survey.surveyed.Reads as surveyed-reads
+use Rattle.reader.proofs.surveying.surveyed.Reads as surveyed-reads
 use Rattle.records.proofs.clear.Reads as clear-reads
-use Rattle.stretches.proofs.fill.fill_all.Reads as fill-all-reads
+use Rattle.reader.proofs.stretching.fill_all.Reads as fill-all-reads
 
 -- src/reading.rt:14:9
 surveyed-requires : tie.Need-surveyed-requires

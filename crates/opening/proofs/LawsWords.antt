@@ -1,0 +1,48 @@
+-- The words in the code's constant are those of the dictionary: one test that is computed.
+use mathlib.Core.Path.{_≡_, refl}
+use mathlib.Core.Bool.{Bool, true, _&&_}
+use Prim.Native.Nat.{ℕ, _+_, _-_, _<_, _≤_}
+use lib.Dec.{leb}
+use lib.ListN.{take, drop}
+use borrow.Author.Tests.{leb-true}
+use Rattle.lists.specs.Lists.{allBelow, each}
+use Rattle.lists.specs.Quantifiers.{allBelow-iff}
+use Rattle.grammar.specs.Bytes.{ascii}
+use Rattle.grammar.specs.Facts.{and-left, and-right}
+use Rattle.grammar.specs.Parser.{same}
+use Rattle.grammar.specs.Tokens.{same-equal}
+use Rattle.opening.specs.Words.{dictionary, wordAt, letters, bounds, bound, lettersOf}
+
+fits : ℕ → Bool
+fits w = same (lettersOf w) (ascii (wordAt w)) && (leb (bound w) (bound (w + 1)) && leb (bound (w + 1)) 1514)
+
+all-fit : allBelow 69 fits ≡ true
+unfolding allBelow fits same lettersOf wordAt dictionary letters bounds bound each
+all-fit = refl
+
+module _ (w : ℕ) (h : w < 69) where
+  fit : fits w ≡ true
+  fit = (allBelow-iff 69 fits) .0 all-fit w h
+
+  pub letters-are : lettersOf w ≡ ascii (wordAt w)
+  unfolding fits
+  letters-are = same-equal (lettersOf w) (ascii (wordAt w)) (and-left _ _ fit)
+
+  pub bound-up : bound w ≤ bound (w + 1)
+  unfolding fits
+  bound-up = leb-true (bound w) (bound (w + 1)) (and-left _ _ (and-right (same (lettersOf w) (ascii (wordAt w))) _ fit))
+
+  pub bound-in : bound (w + 1) ≤ 1514
+  unfolding fits
+  bound-in = leb-true (bound (w + 1)) 1514 (and-right (leb (bound w) (bound (w + 1))) _ (and-right (same (lettersOf w) (ascii (wordAt w))) _ fit))
+
+  module _ {from to : ℕ} (e : from ≡ bound w) (f : to ≡ bound (w + 1)) where
+    pub from-to : from ≤ to
+    from-to = rw (e, f) bound-up
+
+    pub to-end : to ≤ 1514
+    to-end = rw f bound-in
+
+    pub part-is : take (to - from) (drop from letters) ≡ ascii (wordAt w)
+    unfolding lettersOf
+    part-is = rw (e, f) letters-are

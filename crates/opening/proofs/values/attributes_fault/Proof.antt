@@ -1,0 +1,27 @@
+use Rattle.opening.proofs.LawsAttributes.{fitting}
+use Prim.Native.Nat.{_-_}
+use Rattle.opening.proofs.LawsAttributes.{Fitting}
+use Rattle.opening.proofs.values.attributes_fault.Statement.{statement}
+use Rattle.opening.proofs.values.attributes_fault.Tie as tie
+
+abbrev Inv-loop : tie.InvT-loop
+Inv-loop text at kind to worst₀ w₀ worst w = Fitting text at kind to worst w
+
+abbrev μ-loop : tie.MeasureT-loop
+μ-loop text at kind to worst₀ w₀ worst w = to - w
+
+pub attributes-fault-spec : {M : Type 1} → statement M
+attributes-fault-spec =
+    tie.close
+    (tie.spec
+    Inv-loop
+    μ-loop
+    (λ c κs. search fitting)
+    (λ c κs. search fitting)
+    (λ c. search fitting)
+    (λ c κs. search fitting)
+    (λ c κs. search fitting)
+    (λ c. search fitting)
+    (λ c. search fitting)
+    (λ c. search fitting)
+    (λ c. search fitting))

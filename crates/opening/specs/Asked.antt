@@ -1,0 +1,42 @@
+-- What the code's functions ask: an element stands at a place, and numbers are below the ends of their tables.
+use mathlib.Core.Path.{_≡_}
+use mathlib.Core.List.{List}
+use mathlib.Core.Bool.{false}
+use Prim.Native.Nat.{ℕ, _+_, _<_, _≤_}
+use lib.ListN.{getD}
+use Rattle.nodes.specs.Places.{Stands, the}
+use Rattle.cifti.specs.Conditions.{shapeWrong}
+use Rattle.opening.specs.Lines.{lineOf}
+
+pub record Named (text : List ℕ) (at w : ℕ) : Type 0 where
+  pub stands : Stands text at
+  pub known : w < 69
+
+pub record OfKind (text : List ℕ) (at k : ℕ) : Type 0 where
+  pub stands : Stands text at
+  pub known : k < 15
+
+pub record Attributed (text : List ℕ) (at w : ℕ) : Type 0 where
+  pub stands : Stands text at
+  pub known : w < 15
+
+pub record OfLine (text : List ℕ) (at i : ℕ) : Type 0 where
+  pub stands : Stands text at
+  pub known : i < 14
+
+pub record Lined (text : List ℕ) (at k i : ℕ) : Type 0 where
+  pub stands : Stands text at
+  pub known : k < 15
+  pub line : i ≡ lineOf k (the text at)
+
+pub record Choosing (text : List ℕ) (at w from to shift : ℕ) : Type 0 where
+  pub stands : Stands text at
+  pub known : w < 69
+  pub ahead : from ≤ to
+  pub inside : to ≤ 69
+  pub low : shift ≤ from
+  pub high : to ≤ shift + 15
+
+pub record Counting (counts : List ℕ) (p : ℕ) : Type 0 where
+  pub known : p < 4
+  pub room : getD counts p 0 < 18446744073709551615

@@ -1,0 +1,7 @@
+pub mod Words
+pub mod Table
+pub mod Faults
+pub mod Parts
+pub mod Lines
+pub mod Asked
+pub mod Opening

@@ -1,0 +1,412 @@
+-- CONDITIONS 1 TO 7, one after the other: the number of the first that applies, or that none does and where the matrix stands.
+use mathlib.Core.Path.{_≡_, refl, sym, ap, _∙_}
+use mathlib.Core.List.{List, [], _∷_, _++_, append-nil}
+use mathlib.Core.Option.{Option, some}
+use mathlib.Core.Option
+use mathlib.Core.Bool.{Bool, true, false, not, _||_, _&&_, cond, true≢false, false≢true}
+use Prim.Native.Nat.{ℕ, zero, suc, _+_, _-_, _≤_, _<_}
+use native.Mathlib.Omega.{arith}
+use native.Mathlib.Numerals.{add-one}
+use native.Mathlib.Decide.{ℕ-discrete}
+use lib.Dec.{eqb, leb, ltb}
+use lib.ListN.{length, getD, drop, drop-of-length-le}
+use lib.Seq.{drop-cons}
+use borrow.Author.Needs.{needs}
+use borrow.Author.Tests.{lt-ltb, le-ltb, le-leb, lt-leb, eq-eqb, ne-eqb, leb-true, not-false}
+use Rattle.lists.specs.Lists.{any, each, eachIn, those, there, isSome}
+use Rattle.grammar.specs.Bytes.{between}
+use Rattle.grammar.specs.Document.{Element}
+use Rattle.grammar.specs.Grammar.{Writes}
+use Rattle.grammar.specs.Look.{is, nameOf, contentsOf, elements, children}
+use Rattle.grammar.specs.Parser.{parse}
+use Rattle.grammar.specs.Theorems.{parse-iff}
+use Rattle.markup.specs.WellFormed.{WellFormed}
+use Rattle.nodes.specs.Places.{Stands, the}
+use Rattle.nodes.specs.Children.{first, next}
+use Rattle.nodes.specs.Root.{root, Rooted, root-law}
+use Rattle.nodes.specs.Walk.{kids, Walk, Turn, walk-children, kids-children, walk-none, turn-at, turn-splits}
+use Rattle.nodes.specs.declared.Kid.{Kid}
+use Rattle.nodes.specs.declared.Kid.the-variants.{Child, Done}
+use Rattle.schema.specs.Schema.{everywhere, shaped, numbered}
+use Rattle.cifti.specs.Rows.{cifti, matrix, rows}
+use Rattle.cifti.specs.Maps.{Map, mapOf, mapElements, mapsOf}
+use Rattle.cifti.specs.Conditions as C
+use Rattle.cifti.specs.Conditions.{_when_, lengthsWrong, textTooLong, noDocument, rootWrong, kindNotRead, shapeWrong, numberWrong, conditionsTo9}
+use Rattle.opening.specs.Faults as Faults
+use Rattle.maps.specs.Good.{Good}
+use Rattle.maps.specs.Kinds.{root-child}
+use Rattle.maps.specs.Ready.{mapsIn}
+use Rattle.opening.specs.declared.seven.Opening.{Opening}
+
+-- ---- Condition 1.
+
+wrongLength : ℕ → Bool
+wrongLength n = eqb n 0 || ltb 1048576 n
+
+pub record Measuring (l : List ℕ) (i : ℕ) : Type 0 where
+  pub two : 2 ≤ length l
+  pub three : length l ≤ 3
+  pub so-far : lengthsWrong l ≡ any (λ n. eqb n 0 || ltb 1048576 n) (drop i l)
+
+pub few-lengths : (l : List ℕ) → length l < 2 → true ≡ lengthsWrong l
+unfolding lengthsWrong
+few-lengths l h = rw (lt-leb 2 (length l) h)
+
+pub many-lengths : (l : List ℕ) → 3 < length l → true ≡ lengthsWrong l
+unfolding lengthsWrong
+many-lengths l h = let a : leb 2 (length l) ≡ true = le-leb 2 (length l) (omega arith) in rw (a, lt-leb (length l) 3 h)
+
+pub lengths-start : (l : List ℕ) → 2 ≤ length l → length l ≤ 3 → Measuring l 0
+unfolding lengthsWrong
+lengths-start l h k = record { two = h; three = k; so-far = rw (le-leb 2 (length l) h, le-leb (length l) 3 k) }
+
+module _ {l : List ℕ} {i : ℕ} (go : Measuring l i) where
+  pub lengths-done : length l ≤ i → false ≡ lengthsWrong l
+  unfolding any
+  lengths-done h = sym (go .so-far ∙ ap (any (λ n. eqb n 0 || ltb 1048576 n)) (drop-of-length-le l h))
+
+  module _ (u : i < length l) where
+    split : lengthsWrong l ≡ ((eqb (getD l i 0) 0 || ltb 1048576 (getD l i 0)) || any (λ n. eqb n 0 || ltb 1048576 n) (drop (i + 1) l))
+    unfolding any
+    split = go .so-far ∙ ap (any (λ n. eqb n 0 || ltb 1048576 n)) (drop-cons l i 0 u ∙ ap (λ n. getD l i 0 ∷ drop n l) (sym (add-one i)))
+
+    pub length-zero : getD l i 0 ≡ 0 → true ≡ lengthsWrong l
+    length-zero e = sym (rw (eq-eqb (getD l i 0) 0 e) at split)
+
+    pub length-large : (getD l i 0 ≡ 0 → ⊥) → 1048576 < getD l i 0 → true ≡ lengthsWrong l
+    length-large n h = sym (rw (ne-eqb (getD l i 0) 0 n, lt-ltb 1048576 (getD l i 0) h) at split)
+
+    pub length-fine : (getD l i 0 ≡ 0 → ⊥) → getD l i 0 ≤ 1048576 → Measuring l (i + 1)
+    length-fine n h = record { two = go .two; three = go .three; so-far = rw (ne-eqb (getD l i 0) 0 n, le-ltb 1048576 (getD l i 0) h) at split }
+
+pub ruleset measuring = (few-lengths, many-lengths, lengths-start, lengths-done, length-zero, length-large, length-fine, needs)
+
+pub lengths-three : (l : List ℕ) → lengthsWrong l ≡ false → length l ≤ 3
+unfolding lengthsWrong
+lengths-three l h = go (leb (length l) 3) refl (leb 2 (length l)) h
+  where
+    go : (b : Bool) → leb (length l) 3 ≡ b → (a : Bool) → (not (a && b) || any (λ n. eqb n 0 || ltb 1048576 n) l) ≡ false → length l ≤ 3
+    go true e a k = leb-true (length l) 3 e
+    go false e true k = absurd (true≢false k)
+    go false e false k = absurd (true≢false k)
+
+-- ---- The document.
+
+never : {A : Type 0} {e : A} → _≡_ {A = Option A} Option.none (some e) → ⊥
+never p = let z : _≡_ {A = ℕ} 0 1 = cc in omega arith
+
+pub not-written : {text : List ℕ} {b : Bool} → WellFormed text b → b ≡ false → parse text ≡ Option.none
+not-written {text} w f = go (parse text) refl
+  where
+    go : (d : Option Element) → parse text ≡ d → d ≡ Option.none
+    go Option.none p = refl
+    go (some e) p = absurd (w .refuses f e (parse-iff text e .0 p))
+
+pub is-written : {text : List ℕ} {b : Bool} → WellFormed text b → b ≡ true → (e : Element) × (parse text ≡ some e)
+is-written {text} w t = let (e, h) = w .accepts t in (e, parse-iff text e .1 h)
+
+-- ---- What the root of a document that passes 4 to 7 gives: a good matrix, its only child.
+
+good-root : (e : Element) → shapeWrong e ≡ false → numberWrong e ≡ false → Good cifti e
+unfolding shapeWrong numberWrong
+good-root e h k = record { shape = not-false _ h; number = not-false _ k }
+
+maps-one : (e m : Element) → elements (contentsOf e) ≡ m ∷ [] → is "Matrix" (nameOf m) ≡ true → mapsOf e ≡ mapsIn m
+unfolding mapsOf mapElements mapsIn children those eachIn
+maps-one e m h n = rw (h, n, append-nil (children "MatrixIndicesMap" m))
+
+matrix-one : (e m : Element) → elements (contentsOf e) ≡ m ∷ [] → is "Matrix" (nameOf m) ≡ true → children "Matrix" e ≡ m ∷ []
+unfolding children those
+matrix-one e m h n = rw (h, n)
+
+pub record Passed (text lengths : List ℕ) (m : ℕ) : Type 0 where
+  pub fine : lengthsWrong lengths ≡ false
+  pub short : length text ≤ 16777216
+  pub document : Element
+  pub parsed : parse text ≡ some document
+  pub right-root : rootWrong document ≡ false
+  pub read-kinds : kindNotRead document ≡ false
+  pub shape : shapeWrong document ≡ false
+  pub numbers : numberWrong document ≡ false
+  pub stands : Stands text m
+  pub good : Good matrix (the text m)
+  pub maps : mapsOf document ≡ mapsIn (the text m)
+  pub only : children "Matrix" document ≡ the text m ∷ []
+
+-- the first of the nine that applies
+abbrev pub number9 : (text lengths : List ℕ) → ℕ
+number9 text lengths = C.first (conditionsTo9 lengths (length text) (parse text))
+
+unfoldable pub placeOf : Kid → ℕ
+placeOf (Child k) = k
+placeOf Done = 0
+
+-- where the first child of the root begins
+unfoldable pub matrixPlace : List ℕ → ℕ
+matrixPlace text = placeOf (first text (placeOf (root text)))
+
+-- the number is that of the first of 1 to 7 that applies; where none does, the matrix is the root's only child
+pub record Opens (text lengths : List ℕ) (r : Opening) : Type 0 where
+  pub refused : (r .number ≡ 0 → ⊥) → r .number ≡ number9 text lengths
+  pub among : r .number ≤ 7
+  pub nowhere : (r .number ≡ 0 → ⊥) → r .matrix ≡ 0
+  pub passed : r .number ≡ 0 → Passed text lengths (r .matrix)
+  pub there-it-is : r .number ≡ 0 → r .matrix ≡ matrixPlace text
+
+-- ---- The table of nine, row by row.
+
+module _ (text lengths : List ℕ) where
+  pub nine-lengths : lengthsWrong lengths ≡ true → number9 text lengths ≡ 1
+  unfolding conditionsTo9 C.first
+  nine-lengths h = rw h
+
+  module _ (fine : lengthsWrong lengths ≡ false) where
+    pub nine-long : textTooLong (length text) ≡ true → number9 text lengths ≡ 2
+    unfolding conditionsTo9 C.first
+    nine-long h = rw (fine, h)
+
+    module _ (short : textTooLong (length text) ≡ false) where
+      pub nine-unwritten : parse text ≡ Option.none → number9 text lengths ≡ 3
+      unfolding conditionsTo9 C.first noDocument isSome
+      nine-unwritten h = rw (fine, short, h)
+
+      module _ (e : Element) (p : parse text ≡ some e) where
+        nine-from : (a b c d : Bool) → rootWrong e ≡ a → kindNotRead e ≡ b → shapeWrong e ≡ c → numberWrong e ≡ d
+            → C.first (conditionsTo9 lengths (length text) (some e))
+            ≡ cond a 4 (cond b 5 (cond c 6 (cond d 7 (C.first (8 when C.ofMaps (C.dimensionsWrong lengths) (some e) ∷ 9 when C.ofMaps (C.lengthWrong lengths) (some e) ∷ [])))))
+        unfolding conditionsTo9 C.first noDocument isSome there
+        nine-from true b c d x y z w = rw (fine, short, x)
+        nine-from false true c d x y z w = rw (fine, short, x, y)
+        nine-from false false true d x y z w = rw (fine, short, x, y, z)
+        nine-from false false false true x y z w = rw (fine, short, x, y, z, w)
+        nine-from false false false false x y z w = rw (fine, short, x, y, z, w)
+
+        pub nine-document : number9 text lengths
+            ≡ cond (rootWrong e) 4 (cond (kindNotRead e) 5 (cond (shapeWrong e) 6 (cond (numberWrong e) 7 (C.first (8 when C.ofMaps (C.dimensionsWrong lengths) (some e) ∷ 9 when C.ofMaps (C.lengthWrong lengths) (some e) ∷ [])))))
+        nine-document = ap (λ d. C.first (conditionsTo9 lengths (length text) d)) p ∙ nine-from (rootWrong e) (kindNotRead e) (shapeWrong e) (numberWrong e) refl refl refl refl
+
+-- ---- The root.
+
+-- what is found in the document e, whose root stands at r
+pub record Found (text : List ℕ) (r : ℕ) (e : Element) (o : Opening) : Type 0 where
+  pub among : o .number ≤ 7
+  pub nowhere : (o .number ≡ 0 → ⊥) → o .matrix ≡ 0
+  pub there-it-is : o .number ≡ 0 → o .matrix ≡ placeOf (first text r)
+  pub refused : (o .number ≡ 0 → ⊥) → (n : ℕ) → cond (rootWrong e) 4 (cond (kindNotRead e) 5 (cond (shapeWrong e) 6 (cond (numberWrong e) 7 n))) ≡ o .number
+  pub right-root : o .number ≡ 0 → rootWrong e ≡ false
+  pub read-kinds : o .number ≡ 0 → kindNotRead e ≡ false
+  pub shape : o .number ≡ 0 → shapeWrong e ≡ false
+  pub numbers : o .number ≡ 0 → numberWrong e ≡ false
+  pub stands : o .number ≡ 0 → Stands text (o .matrix)
+  pub good : o .number ≡ 0 → Good matrix (the text (o .matrix))
+  pub maps : o .number ≡ 0 → mapsOf e ≡ mapsIn (the text (o .matrix))
+  pub only : o .number ≡ 0 → children "Matrix" e ≡ the text (o .matrix) ∷ []
+
+refuses : {text : List ℕ} {r : ℕ} {e : Element} (o : Opening) → (o .number ≡ 0 → ⊥) → o .number ≤ 7 → o .matrix ≡ 0 → ((n : ℕ) → cond (rootWrong e) 4 (cond (kindNotRead e) 5 (cond (shapeWrong e) 6 (cond (numberWrong e) 7 n))) ≡ o .number) → Found text r e o
+refuses o k a m h = record {
+  among = a;
+  nowhere = λ _. m;
+  there-it-is = λ z. absurd (k z);
+  refused = λ _. h;
+  right-root = λ z. absurd (k z);
+  read-kinds = λ z. absurd (k z);
+  shape = λ z. absurd (k z);
+  numbers = λ z. absurd (k z);
+  stands = λ z. absurd (k z);
+  good = λ z. absurd (k z);
+  maps = λ z. absurd (k z);
+  only = λ z. absurd (k z);
+}
+
+module _ {text : List ℕ} {r : ℕ} (st : Stands text r) where
+  pub root-four : {b : Bool} → b ≡ rootWrong (the text r) → b ≡ true → (o : Opening) → o .number ≡ 4 → o .matrix ≡ 0 → Found text r (the text r) o
+  root-four p t o q m = refuses o (λ z. omega arith) (omega arith) m (λ n. rw (sym p ∙ t, q))
+
+  module _ {b : Bool} (p : b ≡ rootWrong (the text r)) (f : b ≡ false) where
+    pub root-five : {c : Bool} → c ≡ kindNotRead (the text r) → c ≡ true → (o : Opening) → o .number ≡ 5 → o .matrix ≡ 0 → Found text r (the text r) o
+    root-five q t o s m = refuses o (λ z. omega arith) (omega arith) m (λ n. rw (sym p ∙ f, sym q ∙ t, s))
+
+    module _ {c : Bool} (q : c ≡ kindNotRead (the text r)) (g : c ≡ false) {n : ℕ} (s : n ≡ Faults.refusal (the text r)) where
+      pub root-fault : (n ≡ 0 → ⊥) → (o : Opening) → o .number ≡ n → o .matrix ≡ 0 → Found text r (the text r) o
+      unfolding Faults.refusal
+      root-fault k o t z₀ = refuses o (λ z. k (sym t ∙ z)) (rw (t ∙ s) (few (shapeWrong (the text r)) (numberWrong (the text r)))) z₀ (λ m. rw (sym p ∙ f, sym q ∙ g) (go m (shapeWrong (the text r)) (numberWrong (the text r)) refl refl))
+        where
+          few : (x y : Bool) → cond x 6 (cond y 7 0) ≤ 7
+          few true y = omega arith
+          few false true = omega arith
+          few false false = omega arith
+
+          go : (m : ℕ) (x y : Bool) → shapeWrong (the text r) ≡ x → numberWrong (the text r) ≡ y → cond x 6 (cond y 7 m) ≡ o .number
+          go m true y a b = sym (t ∙ s ∙ rw a)
+          go m false true a b = sym (t ∙ s ∙ rw (a, b))
+          go m false false a b = absurd (k (s ∙ rw (a, b)))
+
+      module _ (z : n ≡ 0) where
+        both : (shapeWrong (the text r) ≡ false) × (numberWrong (the text r) ≡ false)
+        unfolding Faults.refusal
+        both = go (shapeWrong (the text r)) (numberWrong (the text r)) refl refl
+          where
+            go : (x y : Bool) → shapeWrong (the text r) ≡ x → numberWrong (the text r) ≡ y → (x ≡ false) × (y ≡ false)
+            go true y a b = absurd (let w : 0 ≡ 6 = sym z ∙ s ∙ rw a in omega arith)
+            go false true a b = absurd (let w : 0 ≡ 7 = sym z ∙ s ∙ rw (a, b) in omega arith)
+            go false false a b = (refl, refl)
+
+        good-here : Good cifti (the text r)
+        good-here = good-root (the text r) (both .0) (both .1)
+
+        pub root-passes : {m : ℕ} {kid : Kid} → kid ≡ first text r → kid ≡ Child m → (o : Opening) → o .number ≡ 0 → o .matrix ≡ m → Found text r (the text r) o
+        unfolding placeOf
+        root-passes {m} {kid} e h o u v =
+            let w : Walk text (first text r) = walk-children st in
+            let is-child : first text r ≡ Child m = sym e ∙ h in
+            let t = turn-at w is-child in
+            let only = root-child good-here in
+            let same : the text m ∷ kids text (next text m) ≡ only .one ∷ [] = sym (turn-splits w is-child) ∙ kids-children st ∙ only .alone in
+            let here : the text m ≡ only .one = cc in
+            let list : elements (contentsOf (the text r)) ≡ the text m ∷ [] = only .alone ∙ ap (λ x. x ∷ []) (sym here) in
+            record {
+              among = omega (arith, u);
+              nowhere = λ k. absurd (k u);
+              there-it-is = λ _. rw is-child v;
+              refused = λ k. absurd (k u);
+              right-root = λ _. sym p ∙ f;
+              read-kinds = λ _. sym q ∙ g;
+              shape = λ _. both .0;
+              numbers = λ _. both .1;
+              stands = λ _. rw v (t .stands);
+              good = λ _. rw (v, here) (only .good);
+              maps = λ _. rw v (maps-one (the text r) (the text m) list (rw here (only .name)));
+              only = λ _. rw v (matrix-one (the text r) (the text m) list (rw here (only .name)));
+            }
+
+        pub root-bare : {kid : Kid} → kid ≡ first text r → kid ≡ Done → (o : Opening) → Found text r (the text r) o
+        root-bare e h o =
+            let w : Walk text (first text r) = walk-children st in
+            let none : kids text (first text r) ≡ [] = walk-none w (sym e ∙ h) in
+            let only = root-child good-here in
+            let bad : [] ≡ only .one ∷ [] = sym none ∙ kids-children st ∙ only .alone in
+            absurd (let y : _≡_ {A = ℕ} 0 1 = cc in omega arith)
+
+pub ruleset rooted = (root-four, root-five, root-fault, root-passes, root-bare, needs)
+
+-- ---- The whole.
+
+-- what is found in the document of the text, if it has one
+abbrev pub FoundIn : List ℕ → Opening → Type 0
+FoundIn text o = (e : Element) → parse text ≡ some e → Found text (placeOf (root text)) e o
+
+pub root-there : {text : List ℕ} {kid : Kid} {r : ℕ} {o : Opening} → kid ≡ root text → kid ≡ Child r → Found text r (the text r) o → FoundIn text o
+unfolding placeOf
+root-there {text} {kid} {r} {o} e h f d p =
+    let t = root-law text d p in
+    let same : Child (t .place) ≡ Child r = sym (t .found) ∙ sym e ∙ h in
+    let q : t .place ≡ r = cc in
+    let is-it : the text r ≡ d = ap (the text) (sym q) ∙ t .is in
+    let root-place : placeOf (root text) ≡ r = ap placeOf (sym e ∙ h) in
+    rw (← is-it, root-place) f
+
+pub root-missing : {text : List ℕ} {kid : Kid} → kid ≡ root text → kid ≡ Done → (o : Opening) → FoundIn text o
+root-missing {text} e h o d p =
+    let t = root-law text d p in
+    let bad : Done ≡ Child (t .place) = sym h ∙ e ∙ t .found in
+    absurd (let y : _≡_ {A = ℕ} 0 1 = cc in omega arith)
+
+pub record Written (text : List ℕ) : Type 0 where
+  pub document : Element
+  pub parsed : parse text ≡ some document
+
+pub root-stands : {text : List ℕ} {kid : Kid} {r : ℕ} → Written text → kid ≡ root text → kid ≡ Child r → Stands text r
+root-stands {text} {kid} {r} w e h =
+    let t = root-law text (w .document) (w .parsed) in
+    let same : Child (t .place) ≡ Child r = sym (t .found) ∙ sym e ∙ h in
+    let q : t .place ≡ r = cc in
+    rw (← q) (t .stands)
+
+pub ruleset in-document = (root-there, root-missing, root-stands, needs)
+
+not-long : (text : List ℕ) → length text ≤ 16777216 → textTooLong (length text) ≡ false
+unfolding textTooLong
+not-long text h = le-ltb 16777216 (length text) h
+
+module _ {text : List ℕ} (lengths : List ℕ) {a : Bool} (p : a ≡ lengthsWrong lengths) where
+  pub open-lengths : a ≡ true → (o : Opening) → o .number ≡ 1 → o .matrix ≡ 0 → Opens text lengths o
+  open-lengths t o q m = record { among = omega (arith, q); nowhere = λ _. m; there-it-is = λ z. absurd (omega arith); refused = λ _. q ∙ sym (nine-lengths text lengths (sym p ∙ t)); passed = λ z. absurd (omega arith) }
+
+  module _ (f : a ≡ false) where
+    pub open-long : 16777216 < length text → (o : Opening) → o .number ≡ 2 → o .matrix ≡ 0 → Opens text lengths o
+    unfolding textTooLong
+    open-long h o q m = record { among = omega (arith, q); nowhere = λ _. m; there-it-is = λ z. absurd (omega arith); refused = λ _. q ∙ sym (nine-long text lengths (sym p ∙ f) (lt-ltb 16777216 (length text) h)); passed = λ z. absurd (omega arith) }
+
+    module _ (short : length text ≤ 16777216) {b : Bool} (w : WellFormed text b) where
+      pub open-unwritten : b ≡ false → (o : Opening) → o .number ≡ 3 → o .matrix ≡ 0 → Opens text lengths o
+      open-unwritten g o q m = record { among = omega (arith, q); nowhere = λ _. m; there-it-is = λ z. absurd (omega arith); refused = λ _. q ∙ sym (nine-unwritten text lengths (sym p ∙ f) (not-long text short) (not-written w g)); passed = λ z. absurd (omega arith) }
+
+      pub open-document : b ≡ true → {o : Opening} → FoundIn text o → Opens text lengths o
+      unfolding matrixPlace
+      open-document t {o} found =
+          let (e, h) = is-written w t in
+          let d = found e h in
+          record {
+            among = d .among;
+            nowhere = d .nowhere;
+            there-it-is = d .there-it-is;
+            refused = λ k. sym (nine-document text lengths (sym p ∙ f) (not-long text short) e h ∙ d .refused k _);
+            passed = λ z. record {
+              fine = sym p ∙ f;
+              short = short;
+              document = e;
+              parsed = h;
+              right-root = d .right-root z;
+              read-kinds = d .read-kinds z;
+              shape = d .shape z;
+              numbers = d .numbers z;
+              stands = d .stands z;
+              good = d .good z;
+              maps = d .maps z;
+              only = d .only z;
+            };
+          }
+
+pub open-written : {text : List ℕ} {b : Bool} → WellFormed text b → b ≡ true → Written text
+open-written w t = let (e, h) = is-written w t in record { document = e; parsed = h }
+
+pub ruleset opening = (open-lengths, open-long, open-unwritten, open-document, open-written, needs)
+
+-- ---- Only one answer.
+
+later-two : (x y : Bool) → C.first (8 when x ∷ 9 when y ∷ []) ≤ 7 → C.first (8 when x ∷ 9 when y ∷ []) ≡ 0
+unfolding C.first
+later-two true y h = absurd (omega arith)
+later-two false true h = absurd (omega arith)
+later-two false false h = refl
+
+-- where 1 to 7 do not apply, the first of 1 to 9 is none of them
+passed-none : {text lengths : List ℕ} {m : ℕ} → Passed text lengths m → number9 text lengths ≤ 7 → number9 text lengths ≡ 0
+passed-none {text} {lengths} p h =
+    let e = rw (p .right-root, p .read-kinds, p .shape, p .numbers) at (nine-document text lengths (p .fine) (not-long text (p .short)) (p .document) (p .parsed)) in
+    e ∙ later-two _ _ (rw e at h)
+
+abbrev opening-of : ℕ → ℕ → Opening
+opening-of n m = record { number = n; matrix = m }
+
+same-opening : (a b : Opening) → a .number ≡ b .number → a .matrix ≡ b .matrix → a ≡ b
+same-opening a b p q = ap (λ n. opening-of n (a .matrix)) p ∙ ap (opening-of (b .number)) q
+
+opens-number : {text lengths : List ℕ} {a b : Opening} → Opens text lengths a → Opens text lengths b → a .number ≡ b .number
+opens-number {text} {lengths} {a} {b} x y = go (ℕ-discrete (a .number) 0) (ℕ-discrete (b .number) 0)
+  where
+    go : Dec (a .number ≡ 0) → Dec (b .number ≡ 0) → a .number ≡ b .number
+    go (yes p) (yes q) = p ∙ sym q
+    go (no p) (no q) = x .refused p ∙ sym (y .refused q)
+    go (yes p) (no q) = absurd (q (y .refused q ∙ passed-none (x .passed p) (rw (y .refused q) at (y .among))))
+    go (no p) (yes q) = absurd (p (x .refused p ∙ passed-none (y .passed q) (rw (x .refused p) at (x .among))))
+
+pub opens-unique : {text lengths : List ℕ} {a b : Opening} → Opens text lengths a → Opens text lengths b → a ≡ b
+opens-unique {text} {lengths} {a} {b} x y = same-opening a b n (go (ℕ-discrete (a .number) 0))
+  where
+    n : a .number ≡ b .number
+    n = opens-number x y
+
+    go : Dec (a .number ≡ 0) → a .matrix ≡ b .matrix
+    go (yes p) = x .there-it-is p ∙ sym (y .there-it-is (sym n ∙ p))
+    go (no p) = x .nowhere p ∙ sym (y .nowhere (λ z. p (n ∙ z)))

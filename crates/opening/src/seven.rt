@@ -1,0 +1,122 @@
+// Conditions 1 to 7, in the paper's order.
+use super::root::root_wrong;
+use super::unread::kind_not_read;
+use markup::well_formed;
+use nodes::Kid;
+use nodes::children::first_child;
+use nodes::children::root_of;
+ghost use mathlib.Core.Path.{_≡_};
+ghost use Rattle.cifti.specs.Conditions.{lengthsWrong};
+ghost use Rattle.opening.specs.Opening.{Opens, Found, FoundIn, Written};
+ghost use Rattle.opening.specs.Faults.{refusal};
+ghost use Rattle.nodes.specs.Places.{Stands, the};
+
+// The number of the first that applies; where it is 0, the matrix begins at `matrix`.
+pub struct Opening {
+    pub number: u64,
+    pub matrix: usize,
+}
+
+// Condition 1.
+fn lengths_wrong(lengths: &[u64]) -> bool
+    ensures { λ r. ⌜ r ≡ lengthsWrong (now (lengths .entry)) ⌝ }
+{
+    if lengths.len() < 2 {
+        return true;
+    }
+    if 3 < lengths.len() {
+        return true;
+    }
+    let mut i = 0;
+    while i < lengths.len() {
+        if lengths[i] == 0 {
+            return true;
+        }
+        if 1_048_576 < lengths[i] {
+            return true;
+        }
+        i += 1;
+    }
+    false
+}
+
+// Conditions 4 to 7, at the root.
+fn of_root(text: &[u8], root: usize) -> Opening
+    requires { ⌜ Stands (now text) root ⌝ }
+    ensures { λ r. ⌜ Found (now (text .entry)) root (the (now (text .entry)) root) r ⌝ }
+{
+    if root_wrong(text, root) {
+        return Opening {
+            number: 4,
+            matrix: 0,
+        };
+    }
+    if kind_not_read(text, root) {
+        return Opening {
+            number: 5,
+            matrix: 0,
+        };
+    }
+    let fault = fault_number(text, root);
+    if fault != 0 {
+        return Opening {
+            number: fault,
+            matrix: 0,
+        };
+    }
+    match first_child(text, root) {
+        Kid::Child(m) => Opening {
+            number: 0,
+            matrix: m,
+        },
+        Kid::Done => Opening {
+            number: 0,
+            matrix: 0,
+        },
+    }
+}
+
+// The first of 6 and 7 that applies, or 0.
+fn fault_number(text: &[u8], root: usize) -> u64
+    requires { ⌜ Stands (now text) root ⌝ }
+    ensures { λ r. ⌜ r ≡ refusal (the (now (text .entry)) root) ⌝ }
+{
+    super::fault(text, root) as u64
+}
+
+fn in_document(text: &[u8]) -> Opening
+    requires { ⌜ Written (now text) ⌝ }
+    ensures { λ r. ⌜ FoundIn (now (text .entry)) r ⌝ }
+{
+    match root_of(text) {
+        Kid::Child(r) => of_root(text, r),
+        Kid::Done => Opening {
+            number: 3,
+            matrix: 0,
+        },
+    }
+}
+
+pub fn opened(text: &[u8], lengths: &[u64]) -> Opening
+    ensures { λ r. ⌜ Opens (now (text .entry)) (now (lengths .entry)) r ⌝ }
+{
+    if lengths_wrong(lengths) {
+        return Opening {
+            number: 1,
+            matrix: 0,
+        };
+    }
+    if 16_777_216 < text.len() {
+        return Opening {
+            number: 2,
+            matrix: 0,
+        };
+    }
+    if well_formed(text) {
+        return in_document(text);
+    }
+    Opening {
+        number: 3,
+        matrix: 0,
+    }
+}

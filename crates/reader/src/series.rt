@@ -1,0 +1,98 @@
+// What a series map says.
+use super::fields::attribute_is;
+use cifti::Decimal;
+use cifti::Series;
+use nodes::Found;
+use numbers::Decimals;
+use numbers::Exponent;
+use numbers::Scaled;
+use numbers::decimal_value;
+use numbers::exponent_value;
+ghost use mathlib.Core.Path.{_≡_};
+ghost use Rattle.grammar.specs.Look.{attr};
+ghost use Rattle.nodes.specs.Places.{Stands, the};
+ghost use Rattle.cifti.specs.Words.{units, numberIn};
+ghost use Rattle.maps.specs.Fields.{wordAt};
+ghost use Rattle.describe.specs.Series.{asWritten, noDecimal, decimalSeen, exponentSeen, seriesSaid, SeriesAt};
+
+fn as_written(d: Scaled) -> Decimal
+    ensures { λ r. ⌜ r ≡ asWritten d ⌝ }
+{
+    Decimal {
+        amount: d.amount,
+        places: d.places,
+    }
+}
+
+fn no_decimal() -> Decimal
+    ensures { λ r. ⌜ r ≡ noDecimal ⌝ }
+{
+    Decimal {
+        amount: 0,
+        places: 0,
+    }
+}
+
+// The attribute's decimal, zero where there is none.
+fn decimal_seen(text: &[u8], at: usize, name: &[u8]) -> Decimal
+    requires { ⌜ Stands (now text) at ⌝ }
+    ensures { λ r. ⌜ r ≡ decimalSeen (wordAt (now (name .entry)) (the (now (text .entry)) at)) ⌝ }
+{
+    match nodes::attributes::attribute(text, at, name) {
+        Found::At(v) => match decimal_value(text, v) {
+            Decimals::Is(d) => as_written(d),
+            Decimals::No => no_decimal(),
+        },
+        Found::Nothing => no_decimal(),
+    }
+}
+
+// The attribute's exponent from -30 to 30, zero where there is none.
+fn exponent_seen(text: &[u8], at: usize, name: &[u8]) -> i64
+    requires { ⌜ Stands (now text) at ⌝ }
+    ensures { λ r. ⌜ r ≡ exponentSeen (wordAt (now (name .entry)) (the (now (text .entry)) at)) ⌝ }
+{
+    match nodes::attributes::attribute(text, at, name) {
+        Found::At(v) => match exponent_value(text, v, 30) {
+            Exponent::Is(n) => n,
+            Exponent::No => 0,
+        },
+        Found::Nothing => 0,
+    }
+}
+
+// The number of the map's unit; 4 where it names none.
+fn unit_number(text: &[u8], at: usize) -> u64
+    requires { ⌜ Stands (now text) at ⌝ }
+    ensures { λ r. ⌜ r ≡ numberIn units (attr "SeriesUnit" (the (now (text .entry)) at)) ⌝ }
+{
+    if attribute_is(text, at, b"SeriesUnit", b"SECOND") {
+        return 0;
+    }
+    if attribute_is(text, at, b"SeriesUnit", b"HERTZ") {
+        return 1;
+    }
+    if attribute_is(text, at, b"SeriesUnit", b"METER") {
+        return 2;
+    }
+    if attribute_is(text, at, b"SeriesUnit", b"RADIAN") {
+        return 3;
+    }
+    4
+}
+
+pub(crate) fn series_at(text: &[u8], at: usize) -> Series
+    requires { ⌜ SeriesAt (now text) at ⌝ }
+    ensures { λ r. ⌜ r ≡ seriesSaid (the (now (text .entry)) at) ⌝ }
+{
+    let start = decimal_seen(text, at, b"SeriesStart");
+    let step = decimal_seen(text, at, b"SeriesStep");
+    let exponent = exponent_seen(text, at, b"SeriesExponent");
+    let unit = unit_number(text, at);
+    Series {
+        start: start,
+        step: step,
+        exponent: exponent,
+        unit: unit,
+    }
+}

@@ -1,0 +1,55 @@
+// The volume of a brain map.
+use models::volume::Sizes;
+use nodes::Found;
+use nodes::Kid;
+use nodes::attributes::attribute;
+use nodes::children::first_child;
+use nodes::children::next_child;
+use nodes::names::name_is;
+use numbers::Three;
+use numbers::three_lengths;
+ghost use mathlib.Core.Path.{_≡_};
+ghost use Rattle.nodes.specs.Places.{the};
+ghost use Rattle.cifti.specs.Maps.{mapOf, volumeOf, sizesBy};
+ghost use Rattle.models.specs.Brain.{BrainAt};
+ghost use Rattle.models.specs.Sizes.{VolumeAt, sizesAt};
+ghost use Rattle.models.specs.Verdicts.{volumeFrom};
+
+// The sizes of the Volume at `at`.
+fn sizes_at(text: &[u8], at: usize) -> Sizes
+    requires { ⌜ VolumeAt (now text) at ⌝ }
+    ensures { λ r. ⌜ volumeFrom r ≡ sizesBy (sizesAt (the (now (text .entry)) at)) ⌝ }
+{
+    match attribute(text, at, b"VolumeDimensions") {
+        Found::At(v) => match three_lengths(text, v, 2048, 2048, 4096) {
+            Three::Are(l) => Sizes {
+                i: l.i,
+                j: l.j,
+                k: l.k,
+            },
+            Three::No => Sizes { i: 0, j: 0, k: 0 },
+        },
+        Found::Nothing => Sizes { i: 0, j: 0, k: 0 },
+    }
+}
+
+// The sizes of the map's volume, 0 where it has none.
+pub(crate) fn volume_of(text: &[u8], map: usize) -> Sizes
+    requires { ⌜ BrainAt (now text) map ⌝ }
+    ensures { λ r. ⌜ volumeFrom r ≡ volumeOf (mapOf (the (now (text .entry)) map)) ⌝ }
+{
+    let mut kid = first_child(text, map);
+    loop {
+        match kid {
+            Kid::Child(k) => {
+                if name_is(text, k, b"Volume") {
+                    return sizes_at(text, k);
+                }
+                kid = next_child(text, k);
+            }
+            Kid::Done => {
+                return Sizes { i: 0, j: 0, k: 0 };
+            }
+        }
+    }
+}

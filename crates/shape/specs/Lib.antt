@@ -1,6 +1,0 @@
-pub mod Words
-pub mod Table
-pub mod Faults
-pub mod Parts
-pub mod Lines
-pub mod Asked
