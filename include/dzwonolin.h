@@ -80,7 +80,8 @@ uint64_t dz_read(const uint8_t *text, size_t text_len,
 /* The name of map `index` (from 0) along `dimension` (from 0): the part of the caller's text between its MapName
    tags, as written. Refusals 1 to 9, then 18.
 
-   part            [0], [1] = where the part starts in the text, and its length. Refused: 0, 0. */
+   part            [0], [1] = where the part starts in the text, and its length; the part of <MapName/> is empty and
+                   starts behind that tag. Refused: 0, 0. */
 uint64_t dz_map_name(const uint8_t *text, size_t text_len,
                      const uint64_t *lengths, size_t lengths_len,
                      uint64_t dimension, uint64_t index,

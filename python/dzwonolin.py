@@ -14,7 +14,8 @@ On a terminal, with the text of a header in a file and the lengths of its matrix
         model START TYPE STRUCTURE NAME COUNT FIRST          stretch start, S or V, count, first index
 
 Standard library only. The shared library is looked for in DZWONOLIN_LIBRARY (a path), beside this file, in the
-folders lib, build and target above it, and then where the system keeps its own.
+folders lib, build, target/native and target above it, and then where the system keeps its own. The library is for x86-64 Linux; on
+another processor bench/native makes one to try.
 """
 import collections
 import ctypes
@@ -55,7 +56,7 @@ def _places():
     name = "libdzwonolin.so"
     here = pathlib.Path(__file__).resolve().parent
     yield here / name
-    for folder in ("lib", "build", "target"):
+    for folder in ("lib", "build", "target/native", "target"):
         yield here.parent / folder / name
 
 

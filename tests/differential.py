@@ -6,7 +6,8 @@
     python3 tests/differential.py --module oracle --count 500      tries this comparison itself
 
 Compared: the number, the whole answer, the records, what is left as it was (past the stretches, past the answer, on
-refusal, around every lent slice), and that the work space is zero. The last line is 'N compared, M differ'.
+refusal, around every lent slice), and that the work space is zero. The last line is 'N compared, M differ'. Where the machine is
+not x86-64 the library runs under the kit's emulator.
 """
 import argparse
 import collections
@@ -21,6 +22,7 @@ HERE = pathlib.Path(__file__).resolve().parent
 sys.path[:0] = [str(HERE), str(HERE.parent / "python")]
 
 import dzwonolin  # noqa: E402
+import emulation  # noqa: E402
 import oracle  # noqa: E402
 import paper  # noqa: E402
 import real  # noqa: E402
@@ -162,13 +164,8 @@ class Comparison:
             self.numbers[0] += 1
         self.check(f"seed {seed} card {number}: {got[:40]!r}, wanted {wanted[:40]!r}", got == wanted)
 
-    def real(self):
-        try:
-            found = real.headers()
-        except OSError as reason:
-            print("real headers SKIPPED:", reason)
-            return
-        for name, text, lengths in found:
+    def real(self, headers):
+        for name, text, lengths in headers:
             rng = random.Random(name)
             wanted = self.read(rng, name, text, lengths, sum(lengths), max(lengths))
             self.map_names(rng, name, text, lengths)
@@ -192,13 +189,15 @@ def main():
     given = options.parse_args()
     if given.module == "oracle":
         standin.install(dzwonolin)
+    elif not given.lister:
+        emulation.ready(dzwonolin)
     count = given.count if given.count is not None else 5000 if given.seconds is None else 1 << 40
     end = time.monotonic() + given.seconds if given.seconds is not None else float("inf")
     run = Comparison(given.show)
     if not given.lister:
         run.paper()
     if given.real and not given.lister:
-        run.real()
+        run.real(real.headers_or_skipped())
     for number in range(given.first, given.first + count):
         if time.monotonic() > end:
             break

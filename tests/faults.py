@@ -141,6 +141,8 @@ def name_past_nine(o):
 FAULTS = [only_refuses, no_records, fills_in_text_order, counts_by_sum, decodes_twice, voxels_by_structure,
           first_model_only, first_map_only, room_last, signs_in_wholes, seven_before_six, depth_seventeen, long_names,
           overlong_utf8, comment_parts_numbers, places_dropped, limit_off_by_one, name_past_nine]
+# Shown by few texts: tried where there are so many.
+RARE = {limit_off_by_one: 3000}
 
 
 def found(fault, seed, count):
@@ -161,12 +163,15 @@ def main():
     options.add_argument("--count", type=int, default=6000)
     options.add_argument("--seed", type=int, default=1)
     given = options.parse_args()
-    missed = 0
+    missed, tried = 0, [fault for fault in FAULTS if given.count >= RARE.get(fault, 0)]
     for fault in FAULTS:
+        if fault not in tried:
+            print(f"{fault.__name__}: not tried with under {RARE[fault]} texts")
+            continue
         at = found(fault, given.seed, given.count)
         missed += at is None
         print(f"{fault.__name__}: " + ("MISSED" if at is None else f"found at text {at}"))
-    print(f"{len(FAULTS) - missed} found, {missed} missed")
+    print(f"{len(tried) - missed} found, {missed} missed")
     return 1 if missed else 0
 
 

@@ -1,8 +1,17 @@
 """The paper's own examples: Case A, its sheet, the table P1 to P11 and the run-only cases.
 
-    python3 tests/paper.py            held by the oracle
+    python3 tests/paper.py            held to by the library, and by the oracle
 `rows()` gives each as (name, text, lengths, records room, work room, number).
 """
+import contextlib
+import io
+import pathlib
+import sys
+import tempfile
+
+HERE = pathlib.Path(__file__).resolve().parent
+sys.path[:0] = [str(HERE), str(HERE.parent / "python")]
+
 CASE_A = (
     b'<CIFTI Version="2"><Matrix><MatrixIndicesMap AppliesToMatrixDimension="1" '
     b'IndicesMapToDataType="CIFTI_INDEX_TYPE_BRAIN_MODELS"><Volume VolumeDimensions="8,8,8">'
@@ -15,6 +24,7 @@ CASE_A = (
     b'<MatrixIndicesMap AppliesToMatrixDimension="0" IndicesMapToDataType="CIFTI_INDEX_TYPE_SCALARS">'
     b'<NamedMap><MapName>a</MapName></NamedMap><NamedMap><MapName>b</MapName></NamedMap>'
     b'</MatrixIndicesMap></Matrix></CIFTI>')
+MODELS_A = b"model 0 S 18 CORTEX_RIGHT 2 0\nmodel 0 V 6 BRAIN_STEM 1 2\n"
 CARD_A = b"ok\n0 scalars 2\n1 brain 3 0\n0 S 18 4\n1 S 18 1\n2 V 6 2 3 5\n"
 SHEET_A = bytes.fromhex("05 00 00 03 48 00 00 00 04 48 00 00 00 01 98 01 00 30 05")
 RECORDS_A = [18 << 34 | 4, 18 << 34 | 1, 1 << 39 | 6 << 34 | 2 << 23 | 3 << 12 | 5]
@@ -45,19 +55,56 @@ def rows():
     ]
 
 
-def main():
+def by_oracle():
+    """What the oracle has wrong."""
     import oracle
-    wrong = 0
     for name, text, lengths, records, work, number in rows():
         got = oracle.read(text, lengths, records, work).number
         if got != number:
-            print(f"{name}: wanted {number}, got {got}")
-            wrong += 1
-    wrong += oracle.lister(b"2,3\n" + CASE_A) != CARD_A
-    wrong += oracle.read(CASE_A, [2, 3], 3, 3).records != RECORDS_A
-    wrong += oracle.pack(RECORDS_A) != (0, SHEET_A) or oracle.unpack(SHEET_A) != (0, RECORDS_A)
-    wrong += oracle.markup.document(b"<a>&amp;lt;</a>").text() != b"&lt;"
-    print("the paper's examples hold" if not wrong else f"{wrong} wrong")
+            yield f"oracle, {name}: wanted {number}, got {got}"
+    if oracle.lister(b"2,3\n" + CASE_A) != CARD_A:
+        yield "oracle, card of A"
+    if oracle.read(CASE_A, [2, 3], 3, 3).records != RECORDS_A:
+        yield "oracle, records of A"
+    if oracle.pack(RECORDS_A) != (0, SHEET_A) or oracle.unpack(SHEET_A) != (0, RECORDS_A):
+        yield "oracle, P2"
+    if oracle.markup.document(b"<a>&amp;lt;</a>").text() != b"&lt;":
+        yield "oracle, P5"
+
+
+def typed(module, word):
+    """What the module prints of case A on the command line."""
+    with tempfile.NamedTemporaryFile() as file, contextlib.redirect_stdout(io.StringIO()) as printed:
+        file.write(CASE_A)
+        file.flush()
+        module.main([word, file.name, "2,3"])
+    return printed.getvalue().encode()
+
+
+def by_library():
+    """What the library has wrong."""
+    import dzwonolin
+    import emulation
+    emulation.ready(dzwonolin)
+    for name, text, lengths, records, work, number in rows():
+        got = dzwonolin.read(text, lengths, records, work).number
+        if got != number:
+            yield f"library, {name}: wanted {number}, got {got}"
+    for word, wanted in (("list", CARD_A), ("card", CARD_A + MODELS_A)):
+        if typed(dzwonolin, word) != wanted:
+            yield f"library, {word} of A"
+    if dzwonolin.read(CASE_A, [2, 3]).records != RECORDS_A:
+        yield "library, records of A"
+    if dzwonolin.pack(RECORDS_A) != (0, SHEET_A) or dzwonolin.unpack(SHEET_A) != (0, RECORDS_A):
+        yield "library, P2"
+    names = [dzwonolin.map_name(CASE_A, [2, 3], 0, n) for n in range(3)]
+    if names != [(0, b"a"), (0, b"b"), (18, b"")]:
+        yield f"library, names of A: {names}"
+
+
+def main():
+    wrong = list(by_oracle()) + list(by_library())
+    print("\n".join(wrong) or f"the paper's {len(rows())} examples, sheet, card and names hold")
     return 1 if wrong else 0
 
 

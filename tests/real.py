@@ -1,6 +1,6 @@
 """Real headers: the five files that Debian's libcifti-doc carries, fetched into a temporary folder.
 
-    python3 tests/real.py [DIR]      what the oracle says of each; the texts are kept in DIR
+    python3 tests/real.py [DIR]      the library against the oracle on each; the texts are kept in DIR
 """
 import pathlib
 import struct
@@ -40,14 +40,28 @@ def headers():
         return [(f.name, *header(f.read_bytes())) for f in files]
 
 
+def headers_or_skipped():
+    """The same, none where they cannot be had, which is said."""
+    try:
+        return headers()
+    except OSError as reason:
+        print("real headers SKIPPED:", reason)
+        return []
+
+
 def main():
-    import oracle
-    for name, text, lengths in headers():
-        answer = oracle.read(text, lengths, sum(lengths), max(lengths))
-        print(f"{name}: {len(text)} bytes, lengths {lengths}, number {answer.number}, {len(answer.records)} records")
-        if len(sys.argv) > 1:
+    import differential
+    import dzwonolin
+    import emulation
+    emulation.ready(dzwonolin)
+    found, run = headers_or_skipped(), differential.Comparison(20)
+    run.real(found)
+    print(f"{len(found)} real headers: {run.compared} compared, {run.differ} differ")
+    if len(sys.argv) > 1:
+        for name, text, _ in found:
             (pathlib.Path(sys.argv[1]) / (name + ".xml")).write_bytes(text)
+    return 1 if run.differ else 0
 
 
 if __name__ == "__main__":
-    main()
+    sys.exit(main())

@@ -38,7 +38,7 @@ def spoil_document(rng, doc):
             aim, damage = rng.choice(damages.ON_DOCUMENTS)
             try:
                 done = damage(rng, doc)
-            except (ValueError, IndexError, TypeError, AttributeError):
+            except (ValueError, IndexError, TypeError, AttributeError, StopIteration):
                 done = False    # a damage before this one took away what it needs
             if done:
                 aims.append(aim)

@@ -12,8 +12,8 @@ use borrow.Author.Tests.{eqb-true, eq-eqb, leb-true, le-leb, ltb-true, lt-ltb}
 use Rattle.lists.specs.Lists.{any, count, twoOf, allBelow, each, eachIn}
 use Rattle.lists.specs.Quantifiers.{EveryPlace, OnePlace, any-iff, twoOf-iff, count-one-iff, allBelow-iff}
 use Rattle.records.specs.Record.{Location, onSurface, recordOf, recordWords}
-use Rattle.cifti.specs.Maps.{Voxel, voxel, Listed, vertices, voxels, Model, Map, models, brainMaps, lengthOf, covers, locations, vertexNumbers, voxelsOf, sameVoxel}
-use Rattle.cifti.specs.Conditions.{listedDimensions, dimensionsWrong, sameType, alike, modelsShare, listsCount, uneven, rangesWrong, repeats, locationTwice}
+use Rattle.cifti.specs.Maps.{Voxel, voxel, Listed, vertices, voxels, Model, Map, models, brainMaps, lengthOf, volumeOf, covers, locations, vertexNumbers, voxelsOf, sameVoxel}
+use Rattle.cifti.specs.Conditions.{listedDimensions, dimensionsWrong, sameType, alike, modelsShare, listsCount, uneven, rangesWrong, repeats, locationTwice, beyond, numbersOutside}
 use Rattle.cifti.specs.Answer.{recordAt}
 
 -- ---- Small steps on Bools.
@@ -147,6 +147,31 @@ module _ (m₀ : Map) (b₀ : Model) where
         s .map,
         s .is-map,
         twoOf-iff b₀ alike (models (getD l (s .map) m₀)) .1 (s .one, s .two, s .apart, s .is-model, alike-iff (getD (models (getD l (s .map) m₀)) (s .one) b₀) (getD (models (getD l (s .map) m₀)) (s .two) b₀) .1 (s .type, s .structure)),
+      )
+
+  -- ---- CONDITION 12: some model of some map lists a number outside its surface, or the map's volume.
+  pub record Outlying (l : List Map) : Type 0 where
+    pub map : ℕ
+    pub is-map : map < length l
+    pub model : ℕ
+    pub is-model : model < length (models (getD l map m₀))
+    pub out : beyond (volumeOf (getD l map m₀)) ((getD (models (getD l map m₀)) model b₀) .listed) ≡ true
+
+  pub outside-iff : (l : List Map) → (numbersOutside l ≡ true) ↔ Outlying l
+  unfolding numbersOutside
+  outside-iff l = (to, from)
+    where
+      to : any (λ m. any (λ b. beyond (volumeOf m) (b .listed)) (models m)) l ≡ true → Outlying l
+      to h =
+          let (i, u, v) = any-iff m₀ (λ m. any (λ b. beyond (volumeOf m) (b .listed)) (models m)) l .0 h in
+          let (j, s, t) = any-iff b₀ (λ b. beyond (volumeOf (getD l i m₀)) (b .listed)) (models (getD l i m₀)) .0 v in
+          record { map = i; is-map = u; model = j; is-model = s; out = t }
+
+      from : Outlying l → any (λ m. any (λ b. beyond (volumeOf m) (b .listed)) (models m)) l ≡ true
+      from o = any-iff m₀ (λ m. any (λ b. beyond (volumeOf m) (b .listed)) (models m)) l .1 (
+        o .map,
+        o .is-map,
+        any-iff b₀ (λ b. beyond (volumeOf (getD l (o .map) m₀)) (b .listed)) (models (getD l (o .map) m₀)) .1 (o .model, o .is-model, o .out),
       )
 
 -- ---- CONDITION 11 does not apply: every model lists as many as it counts, and every index of the map is in exactly one model's range.

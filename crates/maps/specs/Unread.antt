@@ -14,7 +14,11 @@ use Rattle.grammar.specs.Look.{is, nameOf, attr, has, contentsOf, elements, chi
 use Rattle.nodes.specs.Places.{Stands, the}
 use Rattle.nodes.specs.Children.{first, next, left}
 use Rattle.nodes.specs.Names.{named, name-is-law}
-use Rattle.nodes.specs.Found.{value-at-name, has-law}
+use Rattle.nodes.specs.Found.{value-at-name, has-law, attr-law, value-found, value-missing}
+use Rattle.nodes.specs.Values.{value-there}
+use Rattle.nodes.specs.Attributes.{place}
+use Rattle.nodes.specs.declared.Found.{Found}
+use Rattle.nodes.specs.declared.Found.the-variants.{At, Nothing}
 use Rattle.nodes.specs.Walk.{kids, Walk, Turn, walk-children, kids-children, walk-none, turn-at, turn-splits, turn-falls}
 use Rattle.nodes.specs.declared.Kid.{Kid}
 use Rattle.nodes.specs.declared.Kid.the-variants.{Child, Done}
@@ -51,19 +55,34 @@ notRead m = has "IndicesMapToDataType" "CIFTI_INDEX_TYPE_PARCELS" m || has "Indi
 unfoldable pub anyNotRead : Element → Bool
 anyNotRead e = any notRead (children "MatrixIndicesMap" e)
 
-module _ {text : List ℕ} {at : ℕ} (st : Stands text at) {b : Bool} (p : b ≡ same (value-at-name text at (ascii "IndicesMapToDataType")) (ascii "CIFTI_INDEX_TYPE_PARCELS")) where
-  parcels : b ≡ has "IndicesMapToDataType" "CIFTI_INDEX_TYPE_PARCELS" (the text at)
-  parcels = p ∙ has-law "IndicesMapToDataType" "CIFTI_INDEX_TYPE_PARCELS" st
+-- the word is one of the two
+unfoldable pub unreadWord : List ℕ → Bool
+unreadWord w = same w (ascii "CIFTI_INDEX_TYPE_PARCELS") || same w (ascii "CIFTI_INDEX_TYPE_LABELS")
 
-  pub unread-parcels : b ≡ true → true ≡ notRead (the text at)
-  unfolding notRead
-  unread-parcels t = rw (sym parcels ∙ t)
+module _ (w : List ℕ) {b : Bool} (p : b ≡ same w (ascii "CIFTI_INDEX_TYPE_PARCELS")) where
+  pub unread-parcels : b ≡ true → true ≡ unreadWord w
+  unfolding unreadWord
+  unread-parcels t = rw (sym p ∙ t)
 
-  pub unread-labels : b ≡ false → {c : Bool} → c ≡ same (value-at-name text at (ascii "IndicesMapToDataType")) (ascii "CIFTI_INDEX_TYPE_LABELS") → c ≡ notRead (the text at)
-  unfolding notRead
-  unread-labels f q = rw (sym parcels ∙ f) (q ∙ has-law "IndicesMapToDataType" "CIFTI_INDEX_TYPE_LABELS" st)
+  pub unread-labels : b ≡ false → {c : Bool} → c ≡ same w (ascii "CIFTI_INDEX_TYPE_LABELS") → c ≡ unreadWord w
+  unfolding unreadWord
+  unread-labels f q = rw (sym p ∙ f) q
 
-pub ruleset unread-one = (unread-parcels, unread-labels, needs)
+pub ruleset unread-words = (unread-parcels, unread-labels, needs)
+
+module _ {text : List ℕ} {at : ℕ} (st : Stands text at) {f : Found} (e : f ≡ place text at (ascii "IndicesMapToDataType")) where
+  not-read-so : notRead (the text at) ≡ unreadWord (value-at-name text at (ascii "IndicesMapToDataType"))
+  unfolding notRead unreadWord has is
+  not-read-so = rw (attr-law "IndicesMapToDataType" st)
+
+  pub unread-found : {v : ℕ} → f ≡ At v → {b : Bool} → b ≡ unreadWord (value-there text v) → b ≡ notRead (the text at)
+  unread-found h p = sym (not-read-so ∙ ap unreadWord (value-found text at (ascii "IndicesMapToDataType") e h) ∙ sym p)
+
+  pub unread-missing : f ≡ Nothing → false ≡ notRead (the text at)
+  unfolding unreadWord same
+  unread-missing h = sym (not-read-so ∙ ap unreadWord (value-missing text at (ascii "IndicesMapToDataType") e h))
+
+pub ruleset unread-one = (unread-found, unread-missing, needs)
 
 -- ---- Some child of a name passes: a loop over children that is left at the first.
 

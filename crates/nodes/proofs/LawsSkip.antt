@@ -14,7 +14,7 @@ use Rattle.tokens.specs.declared.Step.{Step}
 use Rattle.tokens.specs.declared.Step.the-variants.{To, No}
 use Rattle.nodes.specs.Places.{Tail, tail-of, tail-more}
 use Rattle.nodes.specs.Deeper.{comment-eats}
-use Rattle.nodes.specs.Scan.{to-tag, to-tag-tail, to-tag-short, past-tag, past-tag-less, tag-at, tag-less, scan, skip-at, passed, scan-tails, Less, less-tails, less-falls}
+use Rattle.nodes.specs.Scan.{to-tag, to-tag-tail, to-tag-short, past-tag, past-tag-less, tag-at, tag-less, scan, skip-at, passed, leave-at, scan-tails, Less, less-tails, less-falls}
 use Rattle.nodes.specs.Signs.{tagged, Mark, closes, opens, flat, none, flat-of, mark-of, sign-by, sign, signed, go-on, scan-on}
 use Rattle.markup.specs.Pieces.{front}
 use Rattle.markup.specs.declared.pieces.Front.{Front}
@@ -336,22 +336,24 @@ module _ (text : List ℕ) (at : ℕ) {x : Tag} (k : x ≡ tagged (length text) 
   skip-none z = refuses (length text) (skip-at (drop at text)) (rw (no-tag z))
 
   pub skip-bare : {j : ℕ} → x ≡ tag-is.Bare j → To j ≡ stepped (length text) (skip-at (drop at text))
-  unfolding skip-at bind passed
+  unfolding skip-at bind passed leave-at
   skip-bare {j} z = let o = bare-at z in let q : skip-at (drop at text) ≡ got tt (drop j text) = rw (o .reads) in arrives text (skip-at (drop at text)) j (o .inside) q
 
-  module _ {i : ℕ} (z : x ≡ tag-is.Open i) {c : Step} (e : c ≡ stepped (length text) (scan 0 (drop i text))) where
-    wide-so : skip-at (drop at text) ≡ bind (scan 0 (drop i text)) (λ _ r. past-tag r)
-    unfolding skip-at bind passed
-    wide-so = rw (opens-at z .reads)
+  pub skip-open : {i : ℕ} → x ≡ tag-is.Open i → {r : Step} → r ≡ stepped (length text) (leave-at (drop i text)) → r ≡ stepped (length text) (skip-at (drop at text))
+  unfolding skip-at bind passed leave-at
+  skip-open z q = q ∙ sym (rw (opens-at z .reads))
 
-    pub skip-stuck : c ≡ No → No ≡ stepped (length text) (skip-at (drop at text))
-    unfolding bind
-    skip-stuck w = refuses (length text) (skip-at (drop at text)) (wide-so ∙ rw (fell (length text) (scan 0 (drop i text)) (sym w ∙ e)))
+pub ruleset skipping = (skip-none, skip-bare, skip-open, needs)
 
-    pub skip-past : {j : ℕ} → c ≡ To j → {r : Step} → r ≡ stepped (length text) (past-tag (drop j text)) → r ≡ stepped (length text) (skip-at (drop at text))
-    unfolding bind
-    skip-past {j} w q =
-        let g : Went (scan 0) text i j = went (scan 0) text i j (scan-tails 0 (drop i text)) (sym w ∙ e) in
-        q ∙ sym (ap (stepped (length text)) (wide-so ∙ rw (g .reads)))
+module _ (text : List ℕ) (at : ℕ) {c : Step} (e : c ≡ stepped (length text) (scan 0 (drop at text))) where
+  pub leave-stuck : c ≡ No → No ≡ stepped (length text) (leave-at (drop at text))
+  unfolding leave-at bind
+  leave-stuck w = refuses (length text) (leave-at (drop at text)) (rw (fell (length text) (scan 0 (drop at text)) (sym w ∙ e)))
 
-pub ruleset skipping = (skip-none, skip-bare, skip-stuck, skip-past, needs)
+  pub leave-past : {j : ℕ} → c ≡ To j → {r : Step} → r ≡ stepped (length text) (past-tag (drop j text)) → r ≡ stepped (length text) (leave-at (drop at text))
+  unfolding leave-at bind
+  leave-past {j} w q =
+      let g : Went (scan 0) text at j = went (scan 0) text at j (scan-tails 0 (drop at text)) (sym w ∙ e) in
+      q ∙ sym (ap (stepped (length text)) (rw (g .reads)))
+
+pub ruleset leaving = (leave-stuck, leave-past, needs)

@@ -6,6 +6,7 @@ pub mod Signs
 pub mod Passing
 pub mod Skip
 pub mod Children
+pub mod Leaving
 pub mod Walk
 pub mod Names
 pub mod Attributes

@@ -1,11 +1,11 @@
 -- Passing over what is known to be well formed: only tags matter. Total on any bytes.
 use mathlib.Core.Path.{_≡_, refl, ap, sym, _∙_}
 use mathlib.Core.List.{List, [], _∷_, _++_, append-assoc}
-use Prim.Native.Nat.{ℕ, zero, suc, _+_, _≤_, _<_}
+use Prim.Native.Nat.{ℕ, zero, suc, _+_, _-_, _≤_, _<_}
 use native.Mathlib.Omega.{arith}
-use mathlib.Core.Bool.{Bool, true, false, _&&_}
+use mathlib.Core.Bool.{Bool, true, false, not, _&&_}
 use lib.Dec.{eqb}
-use lib.ListN.{length, length-append}
+use lib.ListN.{length, drop, length-append}
 use Rattle.grammar.specs.Bytes.{ascii, quote}
 use Rattle.grammar.specs.Read.{Read, fail, got, Reader, bind, mark, Ok, failed, good, ok-map, bind-ok, mark-sound}
 use Rattle.grammar.specs.Parser.{closing, comment-at, Look, at-close, at-comment, at-element, at-text, look}
@@ -19,6 +19,17 @@ use Rattle.nodes.specs.Deeper.{comment-eats}
 unfoldable pub to-tag : List ℕ → List ℕ
 to-tag [] = []
 to-tag (a ∷ s) = pick (eqb a 60) (a ∷ s) (to-tag s)
+
+-- the byte is none of the first, so many
+unfoldable pub lacks : (b n : ℕ) → List ℕ → Bool
+lacks b zero s = true
+lacks b (suc n) [] = true
+lacks b (suc n) (a ∷ s) = not (eqb a b) && lacks b n s
+
+pub record Lacking (text : List ℕ) (b at i : ℕ) : Type 0 where
+  pub ahead : at ≤ i
+  pub inside : at < i → i ≤ length text
+  pub free : lacks b (i - at) (drop at text) ≡ true
 
 -- up to the first `>`, and it
 unfoldable pub past-tag : Reader (Unit {0})
@@ -41,6 +52,11 @@ unfoldable pub tag-from : ℕ → Reader Bool
 tag-from q [] = fail
 tag-from q (a ∷ s) = pick (finishes q a) (finish a s) (tag-from (quoting q a) s)
 
+-- from `at` to `to` the tag goes on in the quote
+pub record Quoted (text : List ℕ) (q at to : ℕ) : Type 0 where
+  pub ahead : at ≤ to
+  pub same : tag-from q (drop at text) ≡ tag-from q (drop to text)
+
 -- a whole start tag
 unfoldable pub tag-at : Reader Bool
 tag-at [] = fail
@@ -61,9 +77,13 @@ scan-within (suc n) d s = scan-by (look (to-tag s)) (scan-within n) d (to-tag s)
 unfoldable pub scan : ℕ → Reader (Unit {0})
 scan d s = scan-within (suc (length s)) d s
 
+-- the rest of an element's contents, and its end tag
+unfoldable pub leave-at : Reader (Unit {0})
+leave-at s = bind (scan 0 s) (λ _ r. past-tag r)
+
 -- an element, from its `<` on
 unfoldable pub passed : Bool → Reader (Unit {0})
-passed true s = bind (scan 0 s) (λ _ r. past-tag r)
+passed true s = leave-at s
 passed false s = got tt s
 
 unfoldable pub skip-at : Reader (Unit {0})
@@ -183,7 +203,7 @@ unfolding scan
 scan-tails d s = within-tails (suc (length s)) d s
 
 passed-less : (wide : Bool) (s : List ℕ) → Ok (Tails s) (passed wide s)
-unfolding passed
+unfolding passed leave-at
 passed-less true s = bind-ok (scan-tails 0 s) λ _ r k. joined-tails (k .0) (k .1) (ok-map (past-tag-less r) λ _ r₁ j. (j .front, j .whole))
 passed-less false s = good ([], refl)
 

@@ -16,7 +16,7 @@ use Rattle.grammar.specs.Unfuelled.{contents}
 use Rattle.markup.specs.Tags.{close-at}
 use Rattle.nodes.specs.Places.{element₁₆, unbind, pick}
 use Rattle.nodes.specs.Views.{Ending, bare, filled, Spelled, spelled, eats-child, Induction, induction}
-use Rattle.nodes.specs.Scan.{to-tag, past-tag, finishes, finish, tag-from, tag-at, scan-by, scan, scan-step, passed, skip-at}
+use Rattle.nodes.specs.Scan.{to-tag, past-tag, finishes, finish, tag-from, tag-at, scan-by, scan, scan-step, passed, skip-at, leave-at}
 use Rattle.nodes.specs.Passing.{to-tag-free, text-free, past-free, past-end, name-free, blanks-free, tag-name, tag-blanks, tag-attributes}
 
 -- a `<`, or nothing, is where the scan looks next
@@ -141,9 +141,13 @@ scanning = record {
 pub scan-contents : (s : List ℕ) (c : Contents) (t : List ℕ) → contents 16 s ≡ got c t → (d : ℕ) → scan d s ≡ scan d t
 scan-contents s c t e d = induction Scans scanning s c t e .same-end d
 
+-- an element in contents is passed over
+pub scan-element : (d : ℕ) (s : List ℕ) (x : Element) (r : List ℕ) → look s ≡ at-element → element₁₆ s ≡ got x r → scan d s ≡ scan d r
+scan-element d s x r q e = scan-child s r x q e (λ s₁ c₁ t₁ l h. record { same-end = λ n. scan-contents s₁ c₁ t₁ h n }) d
+
 -- an element
 skip-ending : (n : List ℕ) → Name n → {l : List Attribute} {s : List ℕ} {e : Element} {r : List ℕ} → Ending n l s e r → bind (tag-from 0 s) (λ wide r. passed wide r) ≡ got tt r
-unfolding bind passed
+unfolding bind passed leave-at
 skip-ending n h {r = r} (bare k _) = rw (k, tag-bare r)
 skip-ending n h (filled {t} {behind} {c} k e z _) =
     let w = closes n behind _ h z in

@@ -5,10 +5,10 @@ use tokens::Step;
 use tokens::classes::is_quote;
 use tokens::comments::comment_end;
 ghost use mathlib.Core.Path.{_≡_};
-ghost use Prim.Native.Nat.{_+_, _-_, _<_};
+ghost use Prim.Native.Nat.{_+_, _-_, _<_, _≤_};
 ghost use lib.ListN.{length, drop, getD};
 ghost use Rattle.tokens.specs.Step.{stepped};
-ghost use Rattle.nodes.specs.Scan.{to-tag, past-tag, quoting, finishes, finish, tag-at, scan, skip-at};
+ghost use Rattle.nodes.specs.Scan.{to-tag, lacks, Lacking, Quoted, past-tag, quoting, finishes, finish, tag-at, scan, leave-at, skip-at};
 ghost use Rattle.nodes.specs.Signs.{tagged, signed, sign};
 
 // A start tag that leaves its element open, one that does not, or none; and the place behind it.
@@ -26,11 +26,42 @@ pub enum Sign {
     No,
 }
 
+// Whether the byte is none of the sixteen from `at` on. All sixteen are looked at, so that one instruction can do it.
+fn block_lacks(text: &[u8], at: usize, sign: u8) -> bool
+    requires { ⌜ at + 16 ≤ length (now text) ⌝ }
+    ensures { λ r. ⌜ r ≡ lacks sign 16 (drop at (now (text .entry))) ⌝ }
+{
+    let mut free = true;
+    let mut k = 0;
+    while k < 16 {
+        free = free & (text[at + k] != sign);
+        k += 1;
+    }
+    free
+}
+
+// A place up to which the byte does not stand, reached by blocks.
+fn past_blocks(text: &[u8], at: usize, sign: u8) -> usize
+    ensures { λ r. ⌜ Lacking (now (text .entry)) sign at r ⌝ }
+{
+    let mut i = at;
+    while i < text.len() {
+        if text.len() - i < 16 {
+            return i;
+        }
+        if !block_lacks(text, i, sign) {
+            return i;
+        }
+        i += 16;
+    }
+    i
+}
+
 // The first `<` from `at` on, or the end of the text.
 pub fn to_tag(text: &[u8], at: usize) -> usize
     ensures { λ r. ⌜ r ≡ length (now (text .entry)) - length (to-tag (drop at (now (text .entry)))) ⌝ }
 {
-    let mut i = at;
+    let mut i = past_blocks(text, at, 60);
     while i < text.len() {
         if text[i] == 60 {
             return i;
@@ -93,6 +124,31 @@ fn finish_at(text: &[u8], at: usize) -> Tag
     Tag::No
 }
 
+// Where the quote stands that ends the value at `at`, or the end of the text.
+fn to_quote(text: &[u8], at: usize, q: u8) -> usize
+    requires { ⌜ (q ≡ 0 → ⊥) ⌝ }
+    ensures { λ r. ⌜ Quoted (now (text .entry)) q at r ⌝ }
+{
+    let mut i = past_blocks(text, at, q);
+    while i < text.len() {
+        if text[i] == q {
+            return i;
+        }
+        i += 1;
+    }
+    i
+}
+
+// A value is passed over; outside of quotes, nothing.
+fn past_value(text: &[u8], at: usize, q: u8) -> usize
+    ensures { λ r. ⌜ Quoted (now (text .entry)) q at r ⌝ }
+{
+    if q == 0 {
+        return at;
+    }
+    to_quote(text, at, q)
+}
+
 // The start tag at `at`.
 pub fn tag_end(text: &[u8], at: usize) -> Tag
     ensures { λ r. ⌜ r ≡ tagged (length (now (text .entry))) (tag-at (drop at (now (text .entry)))) ⌝ }
@@ -108,7 +164,7 @@ pub fn tag_end(text: &[u8], at: usize) -> Tag
             return finish_at(text, i);
         }
         q = quoted(q, b);
-        i += 1;
+        i = past_value(text, i + 1, q);
     }
     Tag::No
 }
@@ -177,15 +233,22 @@ pub fn contents_end(text: &[u8], at: usize) -> Step
     }
 }
 
+// Behind the end tag of an element whose contents go on at `at`.
+pub fn leave(text: &[u8], at: usize) -> Step
+    ensures { λ r. ⌜ r ≡ stepped (length (now (text .entry))) (leave-at (drop at (now (text .entry)))) ⌝ }
+{
+    match contents_end(text, at) {
+        Step::To(j) => past_tag(text, j),
+        Step::No => Step::No,
+    }
+}
+
 // Behind the element at `at`.
 pub fn skip(text: &[u8], at: usize) -> Step
     ensures { λ r. ⌜ r ≡ stepped (length (now (text .entry))) (skip-at (drop at (now (text .entry)))) ⌝ }
 {
     match tag_end(text, at) {
-        Tag::Open(i) => match contents_end(text, i) {
-            Step::To(j) => past_tag(text, j),
-            Step::No => Step::No,
-        },
+        Tag::Open(i) => leave(text, i),
         Tag::Bare(i) => Step::To(i),
         Tag::No => Step::No,
     }

@@ -1,12 +1,12 @@
 -- The next number of a list: plain bytes first, whatever else then.
 use mathlib.Core.Path.{_≡_, refl, sym, ap, _∙_}
 use mathlib.Core.List.{List, [], _∷_, _++_}
-use mathlib.Core.Bool.{Bool, true, false, _&&_, _||_, cond, not}
+use mathlib.Core.Bool.{Bool, true, false, _&&_, _||_, cond, not, false≢true}
 use Prim.Native.Nat.{ℕ, zero, suc, _+_, _*_, _-_, _^_, _≤_, _<_}
 use native.Mathlib.Omega.{arith}
 use borrow.Author.Needs.{needs}
-use borrow.Author.Tests.{ne-eqb, not-true, not-false}
-use lib.Dec.{eqb}
+use borrow.Author.Tests.{eq-eqb, ne-eqb, eqb-false, lt-ltb, le-ltb, ltb-true, not-true, not-false}
+use lib.Dec.{eqb, ltb}
 use lib.ListN.{length, getD}
 use Rattle.grammar.specs.Bytes.{blank, special}
 use Rattle.grammar.specs.Facts.{blank-in}
@@ -16,7 +16,7 @@ use Rattle.nodes.specs.declared.Char.the-variants.{Byte}
 use Rattle.nodes.specs.declared.Char.the-variants as chars
 use Rattle.numbers.specs.Numbers.{digit}
 use Rattle.numbers.specs.Cuts.{grown, powers}
-use Rattle.numbers.specs.Stream.{letterAt, charAt, stream, behind, leading, wordEnds, digitsBy, digitsAt, Plain}
+use Rattle.numbers.specs.Stream.{letterAt, charAt, stream, behind, leading, wordEnds, digitsBy, digitsAt, Plain, Stops, runOf, endsPlain}
 use Rattle.numbers.specs.StreamLaws.{char-byte, char-end, run-suc, Ran, digits-law, Blanked, blanked}
 use Rattle.numbers.specs.Listed.{plain-char, next-blank, next-over, next-end, next-number, next-bad}
 use Rattle.numbers.specs.Answers.{nextNumber}
@@ -86,7 +86,71 @@ module _ {text : List ℕ} {at n k i : ℕ} (go : Digging text at n k i) where
             same = go .same ∙ rw (m, run-suc Contents text (7 - (k + 1)) n k i, c, sym is, digit-yes b lo hi, ed) refl;
           }
 
-pub ruleset digging = (digging-start, digging-done, digging-times, digging-room, digging-on, needs)
+-- how far the digits may go
+pub stop-none : {text : List ℕ} {at : ℕ} → length text ≤ at → Stops text at at
+stop-none h = record { near = omega arith; inside = λ z. absurd (omega arith) }
+
+pub stop-end : {text : List ℕ} {at : ℕ} → at < length text → length text - at < 7 → Stops text at (length text)
+stop-end u h = record { near = omega arith; inside = λ _. omega arith }
+
+pub stop-seven : {text : List ℕ} {at : ℕ} → at < length text → 7 ≤ length text - at → Stops text at (at + 7)
+stop-seven u h = record { near = omega arith; inside = λ _. omega arith }
+
+pub ruleset stopping = (stop-none, stop-end, stop-seven, needs)
+
+pub record Walking (text : List ℕ) (at stop n i : ℕ) : Type 0 where
+  pub from : at ≤ i
+  pub stops : Stops text at stop
+  pub digs : Digging text at n (i - at) i
+
+pub walking-start : {text : List ℕ} {at stop : ℕ} → Stops text at stop → Walking text at stop 0 at
+walking-start {text} {at} s = let z : at - at ≡ 0 = omega arith in record { from = omega arith; stops = s; digs = rw z digging-start }
+
+module _ {text : List ℕ} {at stop n i : ℕ} (go : Walking text at stop n i) where
+  pub walking-from : at ≤ i
+  walking-from = go .from
+
+  pub walking-done : {r : Run} → r ≡ runOf n at i → Plain text at r
+  walking-done e = rw e (digging-done (go .digs))
+
+  module _ (u : i < stop) where
+    pub walking-inside : i < length text
+    walking-inside = let f = go .from in let k = go .stops .inside (omega arith) in omega arith
+
+    left : i - at < 7
+    left = let f = go .from in let k = go .stops .near in omega arith
+
+    pub walking-times : n * 10 < 2 ^ 64
+    walking-times = digging-times (go .digs) left
+
+    module _ {b : ℕ} (is : b ≡ getD text i 0) (lo : 48 ≤ b) (hi : b ≤ 57) {d : ℕ} (ed : d ≡ b - 48) where
+      pub walking-room : n * 10 + d < 2 ^ 64
+      walking-room = digging-room (go .digs) left walking-inside is lo hi ed
+
+      pub walking-on : Walking text at stop (n * 10 + d) (i + 1)
+      walking-on =
+          let f = go .from in
+          let e : i + 1 - at ≡ i - at + 1 = omega arith in
+          record { from = omega arith; stops = go .stops; digs = rw e (digging-on (go .digs) left walking-inside is lo hi ed) }
+
+pub ruleset walking = (walking-start, walking-from, walking-done, walking-inside, walking-times, walking-room, walking-on, needs)
+
+-- a blank behind the digits
+module _ (text : List ℕ) (run : Run) where
+  pub ends-none : run .count ≡ 0 → false ≡ endsPlain text run
+  unfolding endsPlain
+  ends-none e = rw (eq-eqb (run .count) 0 e)
+
+  module _ (n : run .count ≡ 0 → ⊥) where
+    pub ends-past : length text ≤ run .next → false ≡ endsPlain text run
+    unfolding endsPlain
+    ends-past h = rw (ne-eqb (run .count) 0 n, le-ltb (run .next) (length text) h)
+
+    pub ends-by : run .next < length text → {t : Bool} → t ≡ blank (getD text (run .next) 0) → t ≡ endsPlain text run
+    unfolding endsPlain
+    ends-by h e = rw (ne-eqb (run .count) 0 n, lt-ltb (run .next) (length text) h) e
+
+pub ruleset endings = (ends-none, ends-past, ends-by, needs)
 
 -- plain digits with a blank behind them are all the digits there
 module _ {text : List ℕ} {i : ℕ} {run : Run} (p : Plain text i run) (in-text : run .next < length text) (b : blank (getD text (run .next) 0) ≡ true) where
@@ -108,8 +172,14 @@ module _ {text : List ℕ} {i : ℕ} {run : Run} (p : Plain text i run) (in-text
   pub quick-number : (at : ℕ) → nextNumber text at ≡ nextNumber text i → (run .count ≡ 0 → ⊥) → Number (run .value) (run .next) ≡ nextNumber text at
   quick-number at e n = sym (e ∙ next-number text i all-of-it n ends-here)
 
-pub quick : (text : List ℕ) (at i : ℕ) {run : Run} → nextNumber text at ≡ nextNumber text i → Plain text i run → (run .count ≡ 0 → ⊥) → run .next < length text → {t : Bool} → t ≡ blank (getD text (run .next) 0) → t ≡ true → Number (run .value) (run .next) ≡ nextNumber text at
-quick text at i e p n h q t = quick-number p h (sym q ∙ t) at e n
+pub quick : (text : List ℕ) (at i : ℕ) {run : Run} → nextNumber text at ≡ nextNumber text i → Plain text i run → {t : Bool} → t ≡ endsPlain text run → t ≡ true → Number (run .value) (run .next) ≡ nextNumber text at
+unfolding endsPlain
+quick text at i {run} e p {t} q h = go (eqb (run .count) 0) refl (ltb (run .next) (length text)) refl (sym q ∙ h)
+  where
+    go : (a : Bool) → eqb (run .count) 0 ≡ a → (b : Bool) → ltb (run .next) (length text) ≡ b → (not a && (b && blank (getD text (run .next) 0))) ≡ true → Number (run .value) (run .next) ≡ nextNumber text at
+    go true x b y z = absurd (false≢true z)
+    go false x false y z = absurd (false≢true z)
+    go false x true y z = quick-number p (ltb-true (run .next) (length text) y) z at e (eqb-false (run .count) 0 x)
 
 pub slow : (text : List ℕ) (at i : ℕ) {r : Next} → nextNumber text at ≡ nextNumber text i → r ≡ nextNumber text i → r ≡ nextNumber text at
 slow text at i e q = q ∙ sym e

@@ -1,10 +1,11 @@
 -- Decoded bytes, one after another, from a value or from a text: what stands at a place, all that is ahead, the place behind some of it.
 use mathlib.Core.Path.{_≡_, refl, sym, ap, _∙_}
 use mathlib.Core.List.{List, [], _∷_, _++_}
-use mathlib.Core.Bool.{Bool, true, false, cond, not}
+use mathlib.Core.Bool.{Bool, true, false, cond, not, _&&_}
 use Prim.Native.Nat.{ℕ, zero, suc, _+_, _*_, _-_, _≤_, _<_}
 use native.Mathlib.Omega.{arith}
-use lib.ListN.{length, drop}
+use lib.Dec.{eqb, ltb}
+use lib.ListN.{length, drop, getD}
 use Rattle.grammar.specs.Bytes.{blank}
 use Rattle.grammar.specs.Look.{Word}
 use Rattle.nodes.specs.Values.{tells, decoded-at, Decodes, decoded-byte, decoded-end}
@@ -69,6 +70,19 @@ unfoldable pub digitsAt : Source → List ℕ → (most n k i : ℕ) → Run
 digitsAt source text zero n k i = record { value = n; count = k; next = i }
 digitsAt source text (suc m) n k i =
     digitsBy (charAt source text i) (record { value = n; count = k; next = i }) λ b j. digitsAt source text m (n * 10 + (b - 48)) (k + 1) j
+
+-- a place up to which seven bytes, or those to the end of the text, are looked at
+pub record Stops (text : List ℕ) (at stop : ℕ) : Type 0 where
+  pub near : stop ≤ at + 7
+  pub inside : at < stop → stop ≤ length text
+
+-- digits from one place to another
+abbrev pub runOf : (n at next : ℕ) → Run
+runOf n at next = record { value = n; count = next - at; next = next }
+
+-- there are digits, and a plain blank stands behind them
+unfoldable pub endsPlain : List ℕ → Run → Bool
+endsPlain text run = not (eqb (run .count) 0) && (ltb (run .next) (length text) && blank (getD text (run .next) 0))
 
 -- digits that were read from a place of a text: reading goes on behind them
 pub record Plain (text : List ℕ) (at : ℕ) (run : Run) : Type 0 where

@@ -21,7 +21,7 @@ ghost use Rattle.nodes.specs.Says.{says};
 ghost use Rattle.nodes.specs.Texts.{text-step};
 ghost use Rattle.numbers.specs.Numbers.{sixteen, withSign, isWhole};
 ghost use Rattle.numbers.specs.Sixteen.{rightAt};
-ghost use Rattle.numbers.specs.Stream.{letterAt, charAt, stream, wordEnds, digitsAt, Plain, behind, leading};
+ghost use Rattle.numbers.specs.Stream.{letterAt, charAt, stream, wordEnds, digitsAt, Plain, Stops, runOf, endsPlain, behind, leading};
 ghost use Rattle.numbers.specs.declared.Source.the-variants.{Contents};
 ghost use Rattle.grammar.specs.Bytes.{blank, between};
 ghost use Rattle.numbers.specs.Answers.{wholeIn, listedIn, betweenIn, entryIn, threeIn, exponentIn, exponentFrom, decimalIn, nextNumber, signIf};
@@ -292,45 +292,63 @@ fn plain_blanks(text: &[u8], at: usize) -> usize
     i
 }
 
+// The place behind seven bytes from `at` on, nearer where the text ends.
+fn seven_on(text: &[u8], at: usize) -> usize
+    ensures { λ r. ⌜ Stops (now (text .entry)) at r ⌝ }
+{
+    if text.len() <= at {
+        return at;
+    }
+    if text.len() - at < 7 {
+        return text.len();
+    }
+    at + 7
+}
+
 // The plain digits at `at`, at most 7.
 fn plain_digits(text: &[u8], at: usize) -> Run
     ensures { λ r. ⌜ Plain (now (text .entry)) at r ⌝ }
 {
+    let stop = seven_on(text, at);
     let mut n: u64 = 0;
-    let mut k: u64 = 0;
     let mut i = at;
-    while k < 7 {
-        if text.len() <= i {
-            return Run {
-                value: n,
-                count: k,
-                next: i,
-            };
-        }
+    while i < stop {
         let b = text[i];
         if b < 48 {
-            return Run {
-                value: n,
-                count: k,
-                next: i,
-            };
+            return run_of(n, at, i);
         }
         if 57 < b {
-            return Run {
-                value: n,
-                count: k,
-                next: i,
-            };
+            return run_of(n, at, i);
         }
         n = n * 10 + wide(b - 48);
-        k += 1;
         i += 1;
     }
+    run_of(n, at, i)
+}
+
+fn run_of(n: u64, at: usize, next: usize) -> Run
+    requires { ⌜ at ≤ next ⌝ }
+    ensures { λ r. ⌜ r ≡ runOf n at next ⌝ }
+{
     Run {
         value: n,
-        count: k,
-        next: i,
+        count: (next - at) as u64,
+        next: next,
     }
+}
+
+// There are digits, and a plain blank stands behind them.
+fn ends_plain(text: &[u8], run: Run) -> bool
+    ensures { λ r. ⌜ r ≡ endsPlain (now (text .entry)) run ⌝ }
+{
+    let j = run.next;
+    if run.count == 0 {
+        return false;
+    }
+    if text.len() <= j {
+        return false;
+    }
+    tokens::classes::is_blank(text[j])
 }
 
 // The next number, whatever stands between the digits.
@@ -361,15 +379,8 @@ pub fn next_number(text: &[u8], at: usize) -> Next
 {
     let i = plain_blanks(text, at);
     let run = plain_digits(text, i);
-    let j = run.next;
-    if run.count == 0 {
-        return number_at(text, i);
-    }
-    if text.len() <= j {
-        return number_at(text, i);
-    }
-    if tokens::classes::is_blank(text[j]) {
-        return Next::Number(run.value, j);
+    if ends_plain(text, run) {
+        return Next::Number(run.value, run.next);
     }
     number_at(text, i)
 }

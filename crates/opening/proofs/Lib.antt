@@ -9,3 +9,5 @@ pub mod LawsLines
 pub mod LawsTimes
 pub mod LawsWalk
 pub mod LawsRoot
+pub mod LawsTables
+pub mod LawsWritten

@@ -4,4 +4,5 @@ pub mod Faults
 pub mod Parts
 pub mod Lines
 pub mod Asked
+pub mod Walked
 pub mod Opening

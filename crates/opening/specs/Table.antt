@@ -1,7 +1,7 @@
 -- THE CODE'S TABLES, and the rows that they stand for.
 use mathlib.Core.Path.{_≡_, refl, subst}
 use mathlib.Core.List.{List, [], _∷_}
-use Prim.Native.Nat.{ℕ, zero, suc, _+_, _-_, _<_}
+use Prim.Native.Nat.{ℕ, zero, suc, _+_, _-_, _<_, _*_, _^_, _/_, _%_}
 use native.Mathlib.Omega.{arith}
 use lib.ListN.{getD}
 use Rattle.lists.specs.Lists.{countUp}
@@ -19,6 +19,10 @@ unfoldable pub kindAt : ℕ → ElementKind
 kindAt k = getD kinds k words
 
 -- ATTRIBUTES: those of a kind are words in a row, each of one form
+-- sixteen small numbers in one, the first lowest
+unfoldable pub entryAt : (packed i : ℕ) → ℕ
+entryAt packed i = packed / 2 ^ (4 * i) % 16
+
 unfoldable pub attributesFrom : List ℕ
 attributesFrom = 0 ∷ 0 ∷ 0 ∷ 0 ∷ 0 ∷ 1 ∷ 1 ∷ 1 ∷ 0 ∷ 13 ∷ 14 ∷ 8 ∷ 8 ∷ 0 ∷ 0 ∷ []
 

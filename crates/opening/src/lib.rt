@@ -20,5 +20,6 @@ pub(crate) fn fault(text: &[u8], at: usize) -> u8
     requires { ⌜ Stands (now text) at ⌝ }
     ensures { λ r. ⌜ r ≡ refusal (the (now (text .entry)) at) ⌝ }
 {
-    walk::fault(text, at, 0)
+    let walked = walk::fault(text, at, 0);
+    walked.fault
 }

@@ -3,7 +3,7 @@ ghost use mathlib.Core.Path.{_≡_};
 ghost use Prim.Native.Nat.{_<_};
 ghost use lib.ListN.{getD};
 ghost use Rattle.opening.specs.Words.{bound};
-ghost use Rattle.opening.specs.Table.{attributesFrom, attributesTo, attributeForms, linesFrom, linesTo, lineNames, lineTimes, lineKinds, texts};
+ghost use Rattle.opening.specs.Table.{entryAt, attributesFrom, attributesTo, attributeForms, linesFrom, linesTo, lineNames, lineTimes, lineKinds, texts};
 
 const BOUNDS: [usize; 70] = [
     0,
@@ -78,24 +78,6 @@ const BOUNDS: [usize; 70] = [
     1514,
 ];
 
-const ATTRIBUTES_FROM: [usize; 15] = [0, 0, 0, 0, 0, 1, 1, 1, 0, 13, 14, 8, 8, 0, 0];
-
-const ATTRIBUTES_TO: [usize; 15] = [1, 0, 0, 0, 0, 3, 8, 3, 0, 14, 15, 13, 12, 0, 0];
-
-const FORMS: [u8; 15] = [0, 1, 0, 3, 4, 4, 5, 7, 2, 3, 0, 8, 3, 6, 5];
-
-const LINES_FROM: [usize; 15] = [0, 1, 3, 4, 0, 6, 0, 8, 9, 11, 0, 12, 13, 0, 0];
-
-const LINES_TO: [usize; 15] = [1, 3, 4, 6, 0, 8, 0, 9, 11, 12, 0, 13, 14, 0, 0];
-
-const LINE_NAMES: [usize; 14] = [15, 16, 17, 18, 19, 20, 21, 22, 23, 24, 16, 25, 26, 27];
-
-const LINE_TIMES: [u8; 14] = [0, 1, 3, 2, 0, 0, 3, 4, 2, 0, 1, 0, 0, 0];
-
-const LINE_KINDS: [usize; 14] = [1, 2, 15, 3, 4, 4, 16, 9, 8, 4, 2, 10, 13, 14];
-
-const TEXTS: [u8; 15] = [0, 0, 0, 0, 1, 0, 0, 0, 0, 0, 2, 0, 0, 3, 4];
-
 // Where a word begins.
 pub(crate) fn word_bound(w: usize) -> usize
     requires { ⌜ w < 70 ⌝ }
@@ -104,12 +86,20 @@ pub(crate) fn word_bound(w: usize) -> usize
     BOUNDS[w]
 }
 
+// Sixteen small numbers in one, the first lowest: so a table needs no memory.
+fn entry(packed: u64, i: usize) -> u64
+    requires { ⌜ i < 16 ⌝ }
+    ensures { λ r. ⌜ (r ≡ entryAt packed i) × (r < 16) ⌝ }
+{
+    (packed >> (4 * i)) % 16
+}
+
 // The attributes of a kind are the words from here ..
 pub(crate) fn attributes_from(kind: usize) -> usize
     requires { ⌜ kind < 15 ⌝ }
     ensures { λ r. ⌜ r ≡ getD attributesFrom kind 0 ⌝ }
 {
-    ATTRIBUTES_FROM[kind]
+    entry(0x88ed011100000, kind) as usize
 }
 
 // .. up to here.
@@ -117,7 +107,7 @@ pub(crate) fn attributes_to(kind: usize) -> usize
     requires { ⌜ kind < 15 ⌝ }
     ensures { λ r. ⌜ r ≡ getD attributesTo kind 0 ⌝ }
 {
-    ATTRIBUTES_TO[kind]
+    entry(0xcdfe038300001, kind) as usize
 }
 
 // The form of an attribute.
@@ -125,7 +115,7 @@ pub(crate) fn form(w: usize) -> u8
     requires { ⌜ w < 15 ⌝ }
     ensures { λ r. ⌜ r ≡ getD attributeForms w 0 ⌝ }
 {
-    FORMS[w]
+    entry(0x563803275443010, w) as u8
 }
 
 // The children of a kind are the lines from here ..
@@ -133,7 +123,7 @@ pub(crate) fn lines_from(kind: usize) -> usize
     requires { ⌜ kind < 15 ⌝ }
     ensures { λ r. ⌜ r ≡ getD linesFrom kind 0 ⌝ }
 {
-    LINES_FROM[kind]
+    entry(0xdc0b980604310, kind) as usize
 }
 
 // .. up to here.
@@ -141,7 +131,7 @@ pub(crate) fn lines_to(kind: usize) -> usize
     requires { ⌜ kind < 15 ⌝ }
     ensures { λ r. ⌜ r ≡ getD linesTo kind 0 ⌝ }
 {
-    LINES_TO[kind]
+    entry(0xed0cb90806431, kind) as usize
 }
 
 // The word that names a line's child.
@@ -149,7 +139,7 @@ pub(crate) fn line_name(i: usize) -> usize
     requires { ⌜ i < 14 ⌝ }
     ensures { λ r. ⌜ r ≡ getD lineNames i 0 ⌝ }
 {
-    LINE_NAMES[i]
+    (entry(0xfed4cba9876543, i) + 12) as usize
 }
 
 // How often a line's child stands.
@@ -157,7 +147,7 @@ pub(crate) fn line_times(i: usize) -> u8
     requires { ⌜ i < 14 ⌝ }
     ensures { λ r. ⌜ r ≡ getD lineTimes i 0 ⌝ }
 {
-    LINE_TIMES[i]
+    entry(0x10243002310, i) as u8
 }
 
 // The kind of a line's child, or the choice that gives it.
@@ -165,7 +155,7 @@ pub(crate) fn line_kind(i: usize) -> usize
     requires { ⌜ i < 14 ⌝ }
     ensures { λ r. ⌜ r ≡ getD lineKinds i 0 ⌝ }
 {
-    LINE_KINDS[i]
+    (entry(0xdc91378f332e10, i) + 1) as usize
 }
 
 // The text of a kind.
@@ -173,5 +163,5 @@ pub(crate) fn text_form(kind: usize) -> u8
     requires { ⌜ kind < 15 ⌝ }
     ensures { λ r. ⌜ r ≡ getD texts kind 0 ⌝ }
 {
-    TEXTS[kind]
+    entry(0x430020000010000, kind) as u8
 }

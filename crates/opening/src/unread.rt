@@ -1,32 +1,34 @@
 // Condition 5: a MatrixIndicesMap in a Matrix in the root is of kind PARCELS or LABELS.
+use nodes::Found;
 use nodes::Kid;
+use nodes::attributes::attribute;
 use nodes::children::first_child;
 use nodes::children::next_child;
 use nodes::names::name_is;
-use nodes::values::attribute_is;
+use nodes::values::value_is;
 ghost use mathlib.Core.Path.{_≡_};
 ghost use Rattle.nodes.specs.Places.{Stands, the};
 ghost use Rattle.cifti.specs.Conditions.{kindNotRead};
-ghost use Rattle.maps.specs.Unread.{notRead, anyNotRead};
+ghost use Rattle.maps.specs.Unread.{unreadWord, notRead, anyNotRead};
+ghost use Rattle.nodes.specs.Values.{value-there};
+
+fn kind_unread(text: &[u8], v: usize) -> bool
+    ensures { λ r. ⌜ r ≡ unreadWord (value-there (now (text .entry)) v) ⌝ }
+{
+    if value_is(text, v, b"CIFTI_INDEX_TYPE_PARCELS") {
+        return true;
+    }
+    value_is(text, v, b"CIFTI_INDEX_TYPE_LABELS")
+}
 
 fn map_not_read(text: &[u8], at: usize) -> bool
     requires { ⌜ Stands (now text) at ⌝ }
     ensures { λ r. ⌜ r ≡ notRead (the (now (text .entry)) at) ⌝ }
 {
-    if attribute_is(
-        text,
-        at,
-        b"IndicesMapToDataType",
-        b"CIFTI_INDEX_TYPE_PARCELS",
-    ) {
-        return true;
+    match attribute(text, at, b"IndicesMapToDataType") {
+        Found::At(v) => kind_unread(text, v),
+        Found::Nothing => false,
     }
-    attribute_is(
-        text,
-        at,
-        b"IndicesMapToDataType",
-        b"CIFTI_INDEX_TYPE_LABELS",
-    )
 }
 
 fn matrix_not_read(text: &[u8], at: usize) -> bool

@@ -4,6 +4,7 @@ use crate::values;
 use crate::words;
 use nodes::Found;
 use nodes::Kid;
+use tokens::Step;
 ghost use mathlib.Core.Path.{_≡_};
 ghost use Prim.Native.Nat.{_-_, _<_};
 ghost use lib.ListN.{getD};
@@ -14,13 +15,20 @@ ghost use Rattle.nodes.specs.Places.{the};
 ghost use Rattle.opening.specs.Words.{wordAt};
 ghost use Rattle.opening.specs.Table.{linesOfKind, whichAt, lineKinds};
 ghost use Rattle.opening.specs.Lines.{KindIs, kindOrNone, lineOf, caseAt, standsBy, countedOf, timesBy};
-ghost use Rattle.opening.specs.Faults.{faultOf};
+ghost use Rattle.nodes.specs.Leaving.{Behind};
+ghost use Rattle.opening.specs.Walked.{Walks, Ending, refusedWalk, placeOf};
 ghost use Rattle.opening.specs.Asked.{OfKind, Choosing, Lined, OfLine, Counting};
 
 // How often each line of a kind was met so far, and whether a voxel model was.
 pub struct Tally {
     counts: [u64; 4],
     met: bool,
+}
+
+// The fault of an element and, where it is not 6, the place behind the element.
+pub(crate) struct Walked {
+    pub fault: u8,
+    pub behind: usize,
 }
 
 // The line of the child at `at`, in a parent of this kind, or the end of its lines.
@@ -132,41 +140,77 @@ fn times_right(kind: usize, tally: Tally) -> bool
     true
 }
 
-// The fault of the element at `at`, of this kind, and of all that is in it.
-pub(crate) fn fault(text: &[u8], at: usize, kind: usize) -> u8
+fn refused() -> Walked
+    ensures { λ r. ⌜ r ≡ refusedWalk ⌝ }
+{
+    Walked {
+        fault: 6,
+        behind: 0,
+    }
+}
+
+fn place_of(step: Step) -> usize
+    ensures { λ r. ⌜ r ≡ placeOf step ⌝ }
+{
+    match step {
+        Step::To(j) => j,
+        Step::No => 0,
+    }
+}
+
+// The place behind the element at `at`, whose last child ends before `last`; 0: it has none.
+fn end_of(text: &[u8], at: usize, last: usize) -> usize
+    requires { ⌜ Ending (now text) at last ⌝ }
+    ensures { λ r. ⌜ Behind (now (text .entry)) at r ⌝ }
+{
+    if last == 0 {
+        return place_of(nodes::scan::skip(text, at));
+    }
+    place_of(nodes::scan::leave(text, last))
+}
+
+// The fault of the element at `at`, of this kind, and of all that is in it; and where it ends, so that nobody passes over it again.
+pub(crate) fn fault(text: &[u8], at: usize, kind: usize) -> Walked
     requires { ⌜ OfKind (now text) at kind ⌝ }
-    ensures { λ r. ⌜ r ≡ faultOf kind (the (now (text .entry)) at) ⌝ }
+    ensures { λ r. ⌜ Walks (now (text .entry)) at kind r ⌝ }
 {
     let mut worst = values::own_fault(text, at, kind);
     if worst == 6 {
-        return 6;
+        return refused();
     }
     let from = table::lines_from(kind);
     let mut tally = Tally {
         counts: [0; 4],
         met: false,
     };
+    let mut last = 0;
     let mut kid = nodes::children::first_child(text, at);
     loop {
         match kid {
             Kid::Child(k) => {
-                kid = nodes::children::next_child(text, k);
                 let line = child_line(text, k, kind);
                 let inner = child_kind(text, k, kind, line);
                 if 15 <= inner {
-                    return 6;
+                    return refused();
                 }
                 tally = counted(tally, line - from, inner);
-                worst = values::sooner(worst, fault(text, k, inner));
+                let walked = fault(text, k, inner);
+                worst = values::sooner(worst, walked.fault);
                 if worst == 6 {
-                    return 6;
+                    return refused();
                 }
+                last = walked.behind;
+                kid = nodes::children::kid_from(text, last);
             }
             Kid::Done => {
                 if times_right(kind, tally) {
-                    return worst;
+                    let behind = end_of(text, at, last);
+                    return Walked {
+                        fault: worst,
+                        behind: behind,
+                    };
                 }
-                return 6;
+                return refused();
             }
         }
     }

@@ -14,8 +14,81 @@ ghost use Rattle.opening.specs.Asked.{Named};
 const WORDS: [u8; 1514] =
     *b"VersionAppliesToMatrixDimensionIndicesMapToDataTypeNumberOfSeriesPointsSeriesStartSeriesStepSeriesExponentSeriesUnitIndexOffsetIndexCountModelTypeBrainStructureSurfaceNumberOfVerticesVolumeDimensionsMeterExponentMatrixMetaDataMatrixIndicesMapMDNameValueBrainModelVolumeNamedMapMapNameTransformationMatrixVoxelIndicesIJKtoXYZVertexIndicesVoxelIndicesIJKCIFTI_INDEX_TYPE_BRAIN_MODELSCIFTI_INDEX_TYPE_SERIESCIFTI_INDEX_TYPE_SCALARSCIFTI_MODEL_TYPE_SURFACECIFTI_MODEL_TYPE_VOXELSSECONDHERTZMETERRADIANCIFTI_STRUCTURE_ACCUMBENS_LEFTCIFTI_STRUCTURE_ACCUMBENS_RIGHTCIFTI_STRUCTURE_ALL_WHITE_MATTERCIFTI_STRUCTURE_ALL_GREY_MATTERCIFTI_STRUCTURE_AMYGDALA_LEFTCIFTI_STRUCTURE_AMYGDALA_RIGHTCIFTI_STRUCTURE_BRAIN_STEMCIFTI_STRUCTURE_CAUDATE_LEFTCIFTI_STRUCTURE_CAUDATE_RIGHTCIFTI_STRUCTURE_CEREBELLAR_WHITE_MATTER_LEFTCIFTI_STRUCTURE_CEREBELLAR_WHITE_MATTER_RIGHTCIFTI_STRUCTURE_CEREBELLUMCIFTI_STRUCTURE_CEREBELLUM_LEFTCIFTI_STRUCTURE_CEREBELLUM_RIGHTCIFTI_STRUCTURE_CEREBRAL_WHITE_MATTER_LEFTCIFTI_STRUCTURE_CEREBRAL_WHITE_MATTER_RIGHTCIFTI_STRUCTURE_CORTEXCIFTI_STRUCTURE_CORTEX_LEFTCIFTI_STRUCTURE_CORTEX_RIGHTCIFTI_STRUCTURE_DIENCEPHALON_VENTRAL_LEFTCIFTI_STRUCTURE_DIENCEPHALON_VENTRAL_RIGHTCIFTI_STRUCTURE_HIPPOCAMPUS_LEFTCIFTI_STRUCTURE_HIPPOCAMPUS_RIGHTCIFTI_STRUCTURE_OTHERCIFTI_STRUCTURE_OTHER_GREY_MATTERCIFTI_STRUCTURE_OTHER_WHITE_MATTERCIFTI_STRUCTURE_PALLIDUM_LEFTCIFTI_STRUCTURE_PALLIDUM_RIGHTCIFTI_STRUCTURE_PUTAMEN_LEFTCIFTI_STRUCTURE_PUTAMEN_RIGHTCIFTI_STRUCTURE_THALAMUS_LEFTCIFTI_STRUCTURE_THALAMUS_RIGHT";
 
-// The element at `at` has the word for its name.
+// The element at `at` has the word for its name. Names of children are written out here, so that the long constant is not laid out anew for each.
 pub(crate) fn name_is(text: &[u8], at: usize, w: usize) -> bool
+    requires { ⌜ Named (now text) at w ⌝ }
+    ensures { λ r. ⌜ r ≡ is (wordAt w) (nameOf (the (now (text .entry)) at)) ⌝ }
+{
+    if w < 20 {
+        return name_below_20(text, at, w);
+    }
+    if w < 25 {
+        return name_below_25(text, at, w);
+    }
+    name_of_text(text, at, w)
+}
+
+fn name_below_20(text: &[u8], at: usize, w: usize) -> bool
+    requires { ⌜ Named (now text) at w ⌝ }
+    ensures { λ r. ⌜ r ≡ is (wordAt w) (nameOf (the (now (text .entry)) at)) ⌝ }
+{
+    if w == 15 {
+        return nodes::names::name_is(text, at, b"Matrix");
+    }
+    if w == 16 {
+        return nodes::names::name_is(text, at, b"MetaData");
+    }
+    if w == 17 {
+        return nodes::names::name_is(text, at, b"MatrixIndicesMap");
+    }
+    if w == 18 {
+        return nodes::names::name_is(text, at, b"MD");
+    }
+    if w == 19 {
+        return nodes::names::name_is(text, at, b"Name");
+    }
+    listed_name(text, at, w)
+}
+
+fn name_below_25(text: &[u8], at: usize, w: usize) -> bool
+    requires { ⌜ Named (now text) at w ⌝ }
+    ensures { λ r. ⌜ r ≡ is (wordAt w) (nameOf (the (now (text .entry)) at)) ⌝ }
+{
+    if w == 20 {
+        return nodes::names::name_is(text, at, b"Value");
+    }
+    if w == 21 {
+        return nodes::names::name_is(text, at, b"BrainModel");
+    }
+    if w == 22 {
+        return nodes::names::name_is(text, at, b"Volume");
+    }
+    if w == 23 {
+        return nodes::names::name_is(text, at, b"NamedMap");
+    }
+    if w == 24 {
+        return nodes::names::name_is(text, at, b"MapName");
+    }
+    listed_name(text, at, w)
+}
+
+fn name_of_text(text: &[u8], at: usize, w: usize) -> bool
+    requires { ⌜ Named (now text) at w ⌝ }
+    ensures { λ r. ⌜ r ≡ is (wordAt w) (nameOf (the (now (text .entry)) at)) ⌝ }
+{
+    if w == 25 {
+        return nodes::names::name_is(text, at, b"TransformationMatrixVoxelIndicesIJKtoXYZ");
+    }
+    if w == 26 {
+        return nodes::names::name_is(text, at, b"VertexIndices");
+    }
+    if w == 27 {
+        return nodes::names::name_is(text, at, b"VoxelIndicesIJK");
+    }
+    listed_name(text, at, w)
+}
+
+fn listed_name(text: &[u8], at: usize, w: usize) -> bool
     requires { ⌜ Named (now text) at w ⌝ }
     ensures { λ r. ⌜ r ≡ is (wordAt w) (nameOf (the (now (text .entry)) at)) ⌝ }
 {
@@ -36,6 +109,85 @@ pub(crate) fn value_is(text: &[u8], v: usize, w: usize) -> bool
 
 // Where the value of the attribute of this name begins.
 pub(crate) fn attribute(text: &[u8], at: usize, w: usize) -> Found
+    requires { ⌜ w < 69 ⌝ }
+    ensures { λ r. ⌜ r ≡ place (now (text .entry)) at (ascii (wordAt w)) ⌝ }
+{
+    if w < 5 {
+        return attribute_below_5(text, at, w);
+    }
+    if w < 10 {
+        return attribute_below_10(text, at, w);
+    }
+    attribute_of_model(text, at, w)
+}
+
+fn attribute_below_5(text: &[u8], at: usize, w: usize) -> Found
+    requires { ⌜ w < 69 ⌝ }
+    ensures { λ r. ⌜ r ≡ place (now (text .entry)) at (ascii (wordAt w)) ⌝ }
+{
+    if w == 0 {
+        return nodes::attributes::attribute(text, at, b"Version");
+    }
+    if w == 1 {
+        return nodes::attributes::attribute(text, at, b"AppliesToMatrixDimension");
+    }
+    if w == 2 {
+        return nodes::attributes::attribute(text, at, b"IndicesMapToDataType");
+    }
+    if w == 3 {
+        return nodes::attributes::attribute(text, at, b"NumberOfSeriesPoints");
+    }
+    if w == 4 {
+        return nodes::attributes::attribute(text, at, b"SeriesStart");
+    }
+    listed_attribute(text, at, w)
+}
+
+fn attribute_below_10(text: &[u8], at: usize, w: usize) -> Found
+    requires { ⌜ w < 69 ⌝ }
+    ensures { λ r. ⌜ r ≡ place (now (text .entry)) at (ascii (wordAt w)) ⌝ }
+{
+    if w == 5 {
+        return nodes::attributes::attribute(text, at, b"SeriesStep");
+    }
+    if w == 6 {
+        return nodes::attributes::attribute(text, at, b"SeriesExponent");
+    }
+    if w == 7 {
+        return nodes::attributes::attribute(text, at, b"SeriesUnit");
+    }
+    if w == 8 {
+        return nodes::attributes::attribute(text, at, b"IndexOffset");
+    }
+    if w == 9 {
+        return nodes::attributes::attribute(text, at, b"IndexCount");
+    }
+    listed_attribute(text, at, w)
+}
+
+fn attribute_of_model(text: &[u8], at: usize, w: usize) -> Found
+    requires { ⌜ w < 69 ⌝ }
+    ensures { λ r. ⌜ r ≡ place (now (text .entry)) at (ascii (wordAt w)) ⌝ }
+{
+    if w == 10 {
+        return nodes::attributes::attribute(text, at, b"ModelType");
+    }
+    if w == 11 {
+        return nodes::attributes::attribute(text, at, b"BrainStructure");
+    }
+    if w == 12 {
+        return nodes::attributes::attribute(text, at, b"SurfaceNumberOfVertices");
+    }
+    if w == 13 {
+        return nodes::attributes::attribute(text, at, b"VolumeDimensions");
+    }
+    if w == 14 {
+        return nodes::attributes::attribute(text, at, b"MeterExponent");
+    }
+    listed_attribute(text, at, w)
+}
+
+fn listed_attribute(text: &[u8], at: usize, w: usize) -> Found
     requires { ⌜ w < 69 ⌝ }
     ensures { λ r. ⌜ r ≡ place (now (text .entry)) at (ascii (wordAt w)) ⌝ }
 {

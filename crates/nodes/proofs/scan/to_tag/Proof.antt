@@ -16,6 +16,7 @@ to-tag-spec =
     (tie.spec
     Inv-loop
     μ-loop
+    (λ c κs. search seeking)
     (λ c. search seeking)
     (λ c. search seeking)
     (λ c. search seeking)

@@ -1,12 +1,8 @@
-use mathlib.Core.Path.{refl}
+use native.Mathlib.Omega.{arith}
 use borrow.Author.Needs.{needs}
-use Rattle.opening.specs.Table.{attributeForms}
+use Rattle.opening.proofs.LawsTables.{tables}
 use Rattle.opening.proofs.table.form.Statement.{statement}
 use Rattle.opening.proofs.table.form.Tie as tie
 
-returns : tie.Need-returns
-unfolding attributeForms
-returns c = refl
-
 pub form-spec : {M : Type 1} → statement M
-form-spec = tie.close (tie.spec (λ c. search needs) returns)
+form-spec = tie.close (tie.spec (λ c κs. search needs) (λ c. omega arith) (λ c. search tables))

@@ -1,12 +1,7 @@
-use mathlib.Core.Path.{refl}
 use borrow.Author.Needs.{needs}
-use Rattle.opening.specs.Table.{linesFrom}
+use Rattle.opening.proofs.LawsTables.{tables}
 use Rattle.opening.proofs.table.lines_from.Statement.{statement}
 use Rattle.opening.proofs.table.lines_from.Tie as tie
 
-returns : tie.Need-returns
-unfolding linesFrom
-returns c = refl
-
 pub lines-from-spec : {M : Type 1} → statement M
-lines-from-spec = tie.close (tie.spec (λ c. search needs) (λ c. search needs) returns)
+lines-from-spec = tie.close (tie.spec (λ c κs. search needs) (λ c. search tables))

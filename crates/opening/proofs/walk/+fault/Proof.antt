@@ -10,13 +10,15 @@ use Rattle.opening.proofs.walk.fault.Reads as fault
 use Rattle.opening.proofs.walk.fault.Kinds as fault-kinds
 use Rattle.opening.proofs.walk.+fault.Lts-fault as fault-lts
 use Rattle.nodes.proofs.children.first_child.Reads as first-child-reads
-use Rattle.nodes.proofs.children.next_child.Reads as next-child-reads
+use Rattle.nodes.proofs.children.kid_from.Reads as kid-from-reads
 use Rattle.opening.proofs.table.lines_from.Reads as lines-from-reads
 use Rattle.opening.proofs.values.own_fault.Reads as own-fault-reads
 use Rattle.opening.proofs.values.sooner.Reads as sooner-reads
 use Rattle.opening.proofs.walk.child_kind.Reads as child-kind-reads
 use Rattle.opening.proofs.walk.child_line.Reads as child-line-reads
 use Rattle.opening.proofs.walk.counted.Reads as counted-reads
+use Rattle.opening.proofs.walk.end_of.Reads as end-of-reads
+use Rattle.opening.proofs.walk.refused.Reads as refused-reads
 use Rattle.opening.proofs.walk.times_right.Reads as times-right-reads
 use Rattle.opening.proofs.walk.+fault.{statement}
 use Rattle.opening.proofs.walk.+fault.Tie.{close}
@@ -31,21 +33,21 @@ abbrev fault-below : ℕ → In 1 fault-kinds.ps
 fault-below t = and 1 fault-kinds.ps (falls 1 fault-kinds.ps _<_ μ-fault t) fault.Pre
 
 abbrev fault-Inv-loop : fault-lts.InvT-loop
-fault-Inv-loop text at kind worst₀ from tally₀ kid₀ worst tally kid = Walking text at kind from worst tally kid
+fault-Inv-loop text at kind worst₀ from tally₀ last₀ kid₀ worst tally last kid = Walking text at kind from worst tally last kid
 
 abbrev fault-μ-loop : fault-lts.MeasureT-loop
-fault-μ-loop text at kind worst₀ from tally₀ kid₀ worst tally kid = left text kid
+fault-μ-loop text at kind worst₀ from tally₀ last₀ kid₀ worst tally last kid = left text kid
 
 pub +fault-spec : {M : Type 1} → statement M
 +fault-spec = close μ-fault λ t. fault-lts.spec (
   own-fault-reads.Asked,
   own-fault-reads.Learnt,
+  refused-reads.Asked,
+  refused-reads.Learnt,
   lines-from-reads.Asked,
   lines-from-reads.Learnt,
   first-child-reads.Asked,
   first-child-reads.Learnt,
-  next-child-reads.Asked,
-  next-child-reads.Learnt,
   child-line-reads.Asked,
   child-line-reads.Learnt,
   child-kind-reads.Asked,
@@ -56,14 +58,19 @@ pub +fault-spec : {M : Type 1} → statement M
   fault.Post,
   sooner-reads.Asked,
   sooner-reads.Learnt,
+  kid-from-reads.Asked,
+  kid-from-reads.Learnt,
   times-right-reads.Asked,
   times-right-reads.Learnt,
+  end-of-reads.Asked,
+  end-of-reads.Learnt,
 )
     (fault-at t)
     fault.Post
     fault-Inv-loop
     fault-μ-loop
     (λ c κs. search walking)
+    (λ c κs. search walking)
     (λ c. search walking)
     (λ c κs. search walking)
     (λ c κs. search walking)
@@ -75,16 +82,20 @@ pub +fault-spec : {M : Type 1} → statement M
     (λ c. search walking)
     (λ c. search walking)
     (λ c κs.
-    let r = walking-room (c .before .before .before .before .before .before .before .loop .inv) (c .before .before .before .before .before .kid .given .1) (c .before .child-kind .ensures) (c .if2 .left) (c .before .before .child-line .ensures) in
+    let r = walking-room (c .before .before .before .before .before .before .loop .inv) (c .before .before .before .before .kid .given .1) (c .before .child-kind .ensures) (c .if2 .left) (c .before .before .child-line .ensures) in
     record { known = search walking; room = omega arith })
     (λ c κs.
-    let d = walking-deeper (c .before .before .before .before .before .before .before .before .loop .inv) (c .before .before .before .before .before .before .kid .given .1) in
-    (omega (arith, c .before .before .before .before .before .before .before .before .before .before .before .before .before .before .pre .0), search walking))
+    let d = walking-deeper (c .before .before .before .before .before .before .before .loop .inv) (c .before .before .before .before .before .kid .given .1) in
+    (omega (arith, c .before .before .before .before .before .before .before .before .before .before .before .before .before .pre .0), search walking))
+    (λ c κs. search walking)
+    (λ c κs. search walking)
+    (λ c. search walking)
     (λ c κs. search walking)
     (λ c. search walking)
     (λ c. search walking)
     (λ c. search walking)
-    (λ c. search walking)
+    (λ c κs. search walking)
     (λ c κs. search walking)
     (λ c. search walking)
+    (λ c κs. search walking)
     (λ c. search walking)

@@ -1,0 +1,124 @@
+-- The lines of the card, as the code meets them: a record's, a dimension's, and which stretch a place is in.
+use mathlib.Core.Path.{_≡_, refl, sym, ap, _∙_}
+use mathlib.Core.List.{[], _∷_}
+use mathlib.Core.Bool.{Bool, true, false, cond}
+use Prim.Native.Nat.{ℕ, zero, suc, _+_, _-_, _≤_, _<_}
+use native.Mathlib.Omega.{arith}
+use native.Mathlib.Numerals.{add-one}
+use borrow.Author.Needs.{needs}
+use lib.Dec.{eqb}
+use lib.ListN.{length, getD, drop, drop-of-length-le}
+use lib.Seq.{drop-cons}
+use Rattle.records.specs.Record.{isVoxel, structureOf, payloadOf, iOf, jOf, kOf, locationOf}
+use Rattle.records.specs.declared.counters.Index.{Index}
+use Rattle.records.specs.declared.counters.Vertex.{Vertex}
+use Rattle.cifti.specs.Said.{said, saidBy}
+use Rattle.cifti.specs.declared.answer.Kind.the-variants.{None, Brain, Series, Scalars}
+use Rattle.cifti.specs.Answer.{unused}
+use Rattle.cifti.specs.declared.answer.Dimension.{Dimension}
+use Rattle.cifti.specs.declared.answer.Answer.{Answer}
+use Rattle.card.specs.declared.line.Line.the-variants as lines
+use Rattle.card.specs.Card.{locationLine, recordLine, dimensionLine, beginsAt, lengthFrom, dimensionsOf}
+
+-- ---- A record's line, from its parts.
+
+module _ {index : Index} (r : ℕ) {b : Bool} (asked : b ≡ isVoxel r) where
+  pub voxel-line : b ≡ true → {s i j k : ℕ} → s ≡ structureOf r → i ≡ iOf r → j ≡ jOf r → k ≡ kOf r → lines.Voxel index s i j k ≡ recordLine (index .0) r
+  unfolding recordLine locationLine locationOf
+  voxel-line e s i j k = rw (s, i, j, k, sym asked ∙ e) refl
+
+  pub surface-line : b ≡ false → {s : ℕ} {v : Vertex} → s ≡ structureOf r → v .0 ≡ payloadOf r → lines.Surface index s v ≡ recordLine (index .0) r
+  unfolding recordLine locationLine locationOf
+  surface-line e s v = rw (sym asked ∙ e, s, sym v) refl
+
+pub ruleset recordSteps = (voxel-line, surface-line, needs)
+
+-- ---- A dimension's lines, by its kind.
+
+module _ (d : Dimension) where
+  pub begins-none : (at : ℕ) → d .kind ≡ None → false ≡ beginsAt at (said d)
+  unfolding beginsAt said saidBy
+  begins-none at e = rw e refl
+
+  pub begins-brain : (at : ℕ) → d .kind ≡ Brain → eqb (d .start .0) at ≡ beginsAt at (said d)
+  unfolding beginsAt said saidBy
+  begins-brain at e = rw e refl
+
+  pub begins-series : (at : ℕ) → d .kind ≡ Series → false ≡ beginsAt at (said d)
+  unfolding beginsAt said saidBy
+  begins-series at e = rw e refl
+
+  pub begins-scalars : (at : ℕ) → d .kind ≡ Scalars → false ≡ beginsAt at (said d)
+  unfolding beginsAt said saidBy
+  begins-scalars at e = rw e refl
+
+  pub lines-none : d .kind ≡ None → 0 ≡ length (dimensionLine 0 (said d))
+  unfolding dimensionLine said saidBy
+  lines-none e = rw e refl
+
+  pub lines-brain : d .kind ≡ Brain → 1 ≡ length (dimensionLine 0 (said d))
+  unfolding dimensionLine said saidBy
+  lines-brain e = rw e refl
+
+  pub lines-series : d .kind ≡ Series → 1 ≡ length (dimensionLine 0 (said d))
+  unfolding dimensionLine said saidBy
+  lines-series e = rw e refl
+
+  pub lines-scalars : d .kind ≡ Scalars → 1 ≡ length (dimensionLine 0 (said d))
+  unfolding dimensionLine said saidBy
+  lines-scalars e = rw e refl
+
+  pub line-none : (n : ℕ) → d .kind ≡ None → lines.End ≡ getD (dimensionLine n (said d)) 0 lines.End
+  unfolding dimensionLine said saidBy
+  line-none n e = rw e refl
+
+  pub line-brain : (n : ℕ) → d .kind ≡ Brain → lines.Brain n (d .length) (d .start) ≡ getD (dimensionLine n (said d)) 0 lines.End
+  unfolding dimensionLine said saidBy
+  line-brain n e = rw e refl
+
+  pub line-series : (n : ℕ) → d .kind ≡ Series → lines.Series n (d .length) ≡ getD (dimensionLine n (said d)) 0 lines.End
+  unfolding dimensionLine said saidBy
+  line-series n e = rw e refl
+
+  pub line-scalars : (n : ℕ) → d .kind ≡ Scalars → lines.Scalars n (d .length) ≡ getD (dimensionLine n (said d)) 0 lines.End
+  unfolding dimensionLine said saidBy
+  line-scalars n e = rw e refl
+
+pub ruleset kindSteps = (begins-none, begins-brain, begins-series, begins-scalars, lines-none, lines-brain, lines-series, lines-scalars, line-none, line-brain, line-series, line-scalars, needs)
+
+-- ---- The three dimensions.
+
+module _ (a : Answer) where
+  pub each-of : (d : ℕ) → d < 3 → getD (dimensionsOf a) d unused ≡ getD (a .dimensions) d unused
+  unfolding dimensionsOf
+  each-of zero h = refl
+  each-of (suc zero) h = refl
+  each-of (suc (suc zero)) h = refl
+  each-of (suc (suc (suc d))) h = absurd (omega arith)
+
+  pub from-each : (d : ℕ) → d < 3 → drop d (dimensionsOf a) ≡ getD (a .dimensions) d unused ∷ drop (d + 1) (dimensionsOf a)
+  unfolding dimensionsOf
+  from-each d h = drop-cons (dimensionsOf a) d unused h ∙ rw (each-of d h, add-one d) refl
+
+  pub none-left : (d : ℕ) → 3 ≤ d → drop d (dimensionsOf a) ≡ []
+  unfolding dimensionsOf
+  none-left d h = drop-of-length-le (dimensionsOf a) h
+
+  -- ---- The stretch that begins at a place.
+
+  pub from-past : (at d : ℕ) → 3 ≤ d → lengthFrom at (dimensionsOf a) ≡ lengthFrom at (drop d (dimensionsOf a)) → 0 ≡ lengthFrom at (dimensionsOf a)
+  unfolding lengthFrom
+  from-past at d h same = sym (same ∙ ap (lengthFrom at) (none-left d h))
+
+  module _ (at d : ℕ) (there : d < 3) (same : lengthFrom at (dimensionsOf a) ≡ lengthFrom at (drop d (dimensionsOf a))) {b : Bool} (asked : b ≡ beginsAt at (said (getD (a .dimensions) d unused))) where
+    opened : lengthFrom at (dimensionsOf a) ≡ cond b (getD (a .dimensions) d unused .length) (lengthFrom at (drop (d + 1) (dimensionsOf a)))
+    unfolding lengthFrom
+    opened = same ∙ ap (lengthFrom at) (from-each d there) ∙ rw (sym asked) refl
+
+    pub from-here : b ≡ true → getD (a .dimensions) d unused .length ≡ lengthFrom at (dimensionsOf a)
+    from-here e = sym (opened ∙ rw e refl)
+
+    pub from-later : b ≡ false → lengthFrom at (dimensionsOf a) ≡ lengthFrom at (drop (d + 1) (dimensionsOf a))
+    from-later e = opened ∙ rw e refl
+
+pub ruleset lengthSteps = (from-past, from-here, from-later, needs)

@@ -1,0 +1,3 @@
+pub mod LawsLine
+pub mod LawsRecords
+pub mod LawsCard

@@ -1,0 +1,189 @@
+// The lines of the card, each by its number.
+use cifti::Answer;
+use cifti::Dimension;
+use cifti::Kind;
+use records::Index;
+use records::Place;
+use records::Vertex;
+ghost use mathlib.Core.Path.{_≡_};
+ghost use mathlib.Core.List.{_++_};
+ghost use Prim.Native.Nat.{min};
+ghost use lib.ListN.{length, getD};
+ghost use Rattle.cifti.specs.Said.{said};
+ghost use Rattle.card.specs.Card.{recordLine, dimensionLine, dimensionLines, beginsAt, lengthFrom, recordLines, dimensionsOf, card};
+
+pub enum Line {
+    Accepted,
+    Refused(u64),
+    Scalars {
+        dimension: u64,
+        length: u64,
+    },
+    Series {
+        dimension: u64,
+        length: u64,
+    },
+    Brain {
+        dimension: u64,
+        length: u64,
+        start: Place,
+    },
+    Surface {
+        index: Index,
+        structure: u64,
+        vertex: Vertex,
+    },
+    Voxel {
+        index: Index,
+        structure: u64,
+        i: u64,
+        j: u64,
+        k: u64,
+    },
+    // Past the last line.
+    End,
+}
+
+fn record_line(index: Index, r: u64) -> Line
+    ensures { λ l. ⌜ l ≡ recordLine (index .0) r ⌝ }
+{
+    if records::is_voxel(r) {
+        return Line::Voxel {
+            index: index,
+            structure: records::structure_of(r),
+            i: records::i_of(r),
+            j: records::j_of(r),
+            k: records::k_of(r),
+        };
+    }
+    Line::Surface {
+        index: index,
+        structure: records::structure_of(r),
+        vertex: records::vertex_of(r),
+    }
+}
+
+// The line of a dimension; End where there is no such dimension.
+fn dimension_line(d: u64, dimension: Dimension) -> Line
+    ensures { λ l. ⌜ l ≡ getD (dimensionLine d (said dimension)) 0 Line.End ⌝ }
+{
+    let kind = dimension.kind;
+    let start = dimension.start;
+    match kind {
+        Kind::None => Line::End,
+        Kind::Brain => Line::Brain {
+            dimension: d,
+            length: dimension.length,
+            start: start,
+        },
+        Kind::Series => Line::Series {
+            dimension: d,
+            length: dimension.length,
+        },
+        Kind::Scalars => Line::Scalars {
+            dimension: d,
+            length: dimension.length,
+        },
+    }
+}
+
+// How many lines a dimension has: one, or none where there is no such dimension.
+fn lines_of(dimension: Dimension) -> usize
+    ensures { λ n. ⌜ n ≡ length (dimensionLine 0 (said dimension)) ⌝ }
+{
+    let kind = dimension.kind;
+    match kind {
+        Kind::None => 0,
+        Kind::Brain => 1,
+        Kind::Series => 1,
+        Kind::Scalars => 1,
+    }
+}
+
+fn begins_at(dimension: Dimension, at: usize) -> bool
+    ensures { λ b. ⌜ b ≡ beginsAt at (said dimension) ⌝ }
+{
+    let kind = dimension.kind;
+    let start = dimension.start;
+    match kind {
+        Kind::None => false,
+        Kind::Brain => start.0 == at,
+        Kind::Series => false,
+        Kind::Scalars => false,
+    }
+}
+
+// How long the stretch is that begins at `at`; 0 where none begins.
+fn length_from(answer: Answer, at: usize) -> u64
+    ensures { λ n. ⌜ n ≡ lengthFrom at (dimensionsOf answer) ⌝ }
+{
+    let mut d = 0;
+    while d < 3 {
+        let dimension = answer.dimensions[d];
+        if begins_at(dimension, at) {
+            return dimension.length;
+        }
+        d += 1;
+    }
+    0
+}
+
+fn least(a: usize, b: usize) -> usize
+    ensures { λ r. ⌜ r ≡ min a b ⌝ }
+{
+    if a < b { a } else { b }
+}
+
+// The n-th of the lines of records: stretches are passed over whole.
+fn record_line_at(answer: Answer, records: &[u64], n: usize) -> Line
+    ensures { λ l. ⌜ l ≡ getD (recordLines 3 0 (dimensionsOf answer) (now (records .entry))) n Line.End ⌝ }
+{
+    let mut left = n;
+    let mut at = 0;
+    let mut round: u64 = 0;
+    while round < 3 {
+        let reach = least(length_from(answer, at) as usize, records.len() - at);
+        if left < reach {
+            return record_line(Index(left as u64), records[at + left]);
+        }
+        left -= reach;
+        at += reach;
+        round += 1;
+    }
+    Line::End
+}
+
+// The n-th of the lines of dimensions and then of records.
+fn accepted_line(answer: Answer, records: &[u64], n: usize) -> Line
+    ensures { λ l. ⌜ l ≡ getD (dimensionLines 0 (dimensionsOf answer) ++ recordLines 3 0 (dimensionsOf answer) (now (records .entry))) n Line.End ⌝ }
+{
+    let mut left = n;
+    let mut d = 0;
+    while d < 3 {
+        let dimension = answer.dimensions[d];
+        let lines = lines_of(dimension);
+        if left < lines {
+            return dimension_line(d as u64, dimension);
+        }
+        left -= lines;
+        d += 1;
+    }
+    record_line_at(answer, records, left)
+}
+
+// The n-th line of the card, from 0; End past the last.
+pub fn line_at(answer: Answer, records: &[u64], n: usize) -> Line
+    ensures { λ l. ⌜ l ≡ getD (card answer (now (records .entry))) n Line.End ⌝ }
+{
+    let number = answer.number;
+    if number != 0 {
+        if n == 0 {
+            return Line::Refused(number);
+        }
+        return Line::End;
+    }
+    if n == 0 {
+        return Line::Accepted;
+    }
+    accepted_line(answer, records, n - 1)
+}

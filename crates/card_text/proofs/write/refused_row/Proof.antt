@@ -1,0 +1,9 @@
+use Rattle.card_text.proofs.LawsWrite.{rowSteps}
+use borrow.Author.Needs.{needs}
+use Rattle.card_text.proofs.write.refused_row.Statement.{statement}
+use Rattle.card_text.proofs.write.refused_row.Tie as tie
+
+pub refused-row-spec : {M : Type 1} → statement M
+refused-row-spec =
+    tie.close
+    (tie.spec (λ c. search needs) (λ c κs. search needs) (λ c κs. search needs) (λ c. search needs) (λ c. search rowSteps))

@@ -1,0 +1,4 @@
+pub mod Written
+pub mod Unique
+pub mod Theorems
+pub mod CaseA

@@ -1,0 +1,3 @@
+pub mod LawsLengths
+pub mod LawsFirst
+pub mod LawsDecision

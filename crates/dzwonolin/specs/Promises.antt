@@ -1,0 +1,45 @@
+-- THE PROMISES OF THE FUNCTIONS FOR C: each is the promise of the function below it for some answer, the number returned is that
+-- answer's, and the slice lent for the rest of the answer holds its values.
+use mathlib.Core.Path.{_≡_}
+use mathlib.Core.List.{List, [], _∷_}
+use Prim.Native.Nat.{ℕ}
+use Rattle.records.specs.Find.{Finds, findNumber, findValue}
+use Rattle.records.specs.Sheet.{Packs, packNumber, packValue, Unpacks, unpackNumber, unpackValue}
+use Rattle.records.specs.declared.search.Found.{Found}
+use Rattle.records.specs.declared.sheet.Packed.{Packed}
+use Rattle.records.specs.declared.sheet.Unpacked.{Unpacked}
+use Rattle.cifti.specs.Answer.{Reads}
+use Rattle.cifti.specs.declared.answer.Answer.{Answer}
+use Rattle.name_place.specs.Placed.{NamePlaced}
+use Rattle.name_place.specs.declared.NamePlace.{NamePlace}
+use Rattle.flat.specs.Flat.{answerNumbers, told}
+
+pub record ReadsFlat (text lengths records work slice : List ℕ) (number : ℕ) (recordsAfter workAfter sliceAfter : List ℕ) : Type 0 where
+  pub answer : Answer
+  pub reads : Reads text lengths records work answer recordsAfter workAfter
+  pub numbered : number ≡ answer .number
+  pub flat : sliceAfter ≡ told (answerNumbers answer) slice
+
+pub record NamesFlat (text lengths : List ℕ) (dimension index : ℕ) (slice : List ℕ) (number : ℕ) (sliceAfter : List ℕ) : Type 0 where
+  pub answer : NamePlace
+  pub places : NamePlaced text lengths dimension index answer
+  pub numbered : number ≡ answer .number
+  pub flat : sliceAfter ≡ told (answer .start ∷ answer .length ∷ []) slice
+
+pub record FindsFlat (records : List ℕ) (x : ℕ) (slice : List ℕ) (number : ℕ) (sliceAfter : List ℕ) : Type 0 where
+  pub answer : Found
+  pub finds : Finds records x answer
+  pub numbered : number ≡ findNumber answer
+  pub flat : sliceAfter ≡ told (findValue answer ∷ []) slice
+
+pub record PacksFlat (records sheet slice : List ℕ) (number : ℕ) (sheetAfter sliceAfter : List ℕ) : Type 0 where
+  pub answer : Packed
+  pub packs : Packs records sheet answer sheetAfter
+  pub numbered : number ≡ packNumber answer
+  pub flat : sliceAfter ≡ told (packValue answer ∷ []) slice
+
+pub record UnpacksFlat (sheet records slice : List ℕ) (number : ℕ) (recordsAfter sliceAfter : List ℕ) : Type 0 where
+  pub answer : Unpacked
+  pub unpacks : Unpacks sheet records answer recordsAfter
+  pub numbered : number ≡ unpackNumber answer
+  pub flat : sliceAfter ≡ told (unpackValue answer ∷ []) slice

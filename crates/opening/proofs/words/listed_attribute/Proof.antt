@@ -1,0 +1,25 @@
+use mathlib.Core.Path.{ap, _∙_}
+use borrow.Author.Needs.{needs}
+use Rattle.lists.specs.Lists.{each}
+use Rattle.nodes.specs.Attributes.{place}
+use Rattle.opening.specs.Words.{dictionary, letters}
+use Rattle.opening.proofs.LawsWords.{from-to, to-end, part-is}
+use Rattle.opening.proofs.words.listed_attribute.Statement.{statement}
+use Rattle.opening.proofs.words.listed_attribute.Tie as tie
+
+returns : tie.Need-returns
+unfolding letters dictionary each
+returns c = c .attribute .ensures ∙ ap (place _ _) (part-is (c .before .before .before .before .before .before .args .w) (c .before .before .before .before .before .before .pre) (c .before .before .before .before .word-bound .ensures) (c .before .before .before .word-bound2 .ensures))
+
+pub listed-attribute-spec : {M : Type 1} → statement M
+listed-attribute-spec =
+    tie.close
+    (tie.spec
+    (λ c κs. search needs)
+    (λ c. search needs)
+    (λ c κs. search needs)
+    (λ c. from-to (c .before .before .before .args .w) (c .before .before .before .pre) (c .before .word-bound .ensures) (c .word-bound2 .ensures))
+    (λ c. from-to (c .before .before .before .before .args .w) (c .before .before .before .before .pre) (c .before .before .word-bound .ensures) (c .before .word-bound2 .ensures))
+    (λ c. to-end (c .before .before .before .before .args .w) (c .before .before .before .before .pre) (c .before .before .word-bound .ensures) (c .before .word-bound2 .ensures))
+    (λ c κs. search needs)
+    returns)
