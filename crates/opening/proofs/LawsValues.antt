@@ -17,7 +17,7 @@ use Rattle.schema.specs.Schema.{isWord, isNumber, isText}
 use Rattle.nodes.specs.Places.{Stands, the}
 use Rattle.nodes.specs.Texts.{text-of, text-law}
 use Rattle.cifti.specs.Words.{structures, units}
-use Rattle.opening.specs.Words.{dictionary, wordAt, firstWord}
+use Rattle.opening.specs.Words.{dictionary, wordAt, firstWord, letters, bounds}
 use Rattle.opening.specs.Table.{formAt, forms, texts, textForms}
 use Rattle.opening.specs.Faults.{fault}
 use Rattle.opening.specs.Parts.{textShaped, textNumbered, textFault}
@@ -70,6 +70,12 @@ module _ {x : Word} {from to i : ℕ} (go : Placing x from to i) where
     place-on t = record { inside = omega arith; same-place = go .same-place ∙ first-more x i to h ∙ rw (sym e ∙ t) }
 
 pub ruleset placing = (place-start, place-end, place-hit, place-on, needs)
+
+-- the same, with the letters and the bounds of all words laid out
+pub record PlacingIn (x : Word) (from to : ℕ) (l b : List ℕ) (i : ℕ) : Type 0 where
+  pub placing-so : Placing x from to i
+  pub letters-are : l ≡ letters
+  pub bounds-are : b ≡ bounds
 
 -- FORMS
 module _ (x : Word) (f : ℕ) where

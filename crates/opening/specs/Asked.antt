@@ -7,9 +7,16 @@ use lib.ListN.{getD}
 use Rattle.nodes.specs.Places.{Stands, the}
 use Rattle.cifti.specs.Conditions.{shapeWrong}
 use Rattle.opening.specs.Lines.{lineOf}
+use Rattle.opening.specs.Words.{letters, bounds}
 
 pub record Named (text : List ℕ) (at w : ℕ) : Type 0 where
   pub stands : Stands text at
+  pub known : w < 69
+
+-- the letters and the bounds of all words
+pub record Worded (l b : List ℕ) (w : ℕ) : Type 0 where
+  pub letters-are : l ≡ letters
+  pub bounds-are : b ≡ bounds
   pub known : w < 69
 
 pub record OfKind (text : List ℕ) (at k : ℕ) : Type 0 where

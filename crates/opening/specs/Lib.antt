@@ -6,3 +6,4 @@ pub mod Lines
 pub mod Asked
 pub mod Walked
 pub mod Opening
+pub mod Unique

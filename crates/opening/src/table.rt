@@ -5,7 +5,7 @@ ghost use lib.ListN.{getD};
 ghost use Rattle.opening.specs.Words.{bound};
 ghost use Rattle.opening.specs.Table.{entryAt, attributesFrom, attributesTo, attributeForms, linesFrom, linesTo, lineNames, lineTimes, lineKinds, texts};
 
-const BOUNDS: [usize; 70] = [
+pub(crate) const BOUNDS: [usize; 70] = [
     0,
     7,
     31,

@@ -20,9 +20,11 @@ pub(crate) fn word_place(text: &[u8], v: usize, from: usize, to: usize) -> usize
     requires { ⌜ (from ≤ to) × (to ≤ 69) ⌝ }
     ensures { λ r. ⌜ r ≡ firstWord (value-there (now (text .entry)) v) from (to - from) ⌝ }
 {
+    let letters = words::WORDS;
+    let bounds = table::BOUNDS;
     let mut i = from;
     while i < to {
-        if words::value_is(text, v, i) {
+        if words::value_is(text, v, &letters, &bounds, i) {
             return i;
         }
         i += 1;

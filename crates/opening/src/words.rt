@@ -9,9 +9,9 @@ ghost use Rattle.nodes.specs.Places.{the};
 ghost use Rattle.nodes.specs.Attributes.{place};
 ghost use Rattle.nodes.specs.Values.{value-there};
 ghost use Rattle.opening.specs.Words.{wordAt};
-ghost use Rattle.opening.specs.Asked.{Named};
+ghost use Rattle.opening.specs.Asked.{Named, Worded};
 
-const WORDS: [u8; 1514] =
+pub(crate) const WORDS: [u8; 1514] =
     *b"VersionAppliesToMatrixDimensionIndicesMapToDataTypeNumberOfSeriesPointsSeriesStartSeriesStepSeriesExponentSeriesUnitIndexOffsetIndexCountModelTypeBrainStructureSurfaceNumberOfVerticesVolumeDimensionsMeterExponentMatrixMetaDataMatrixIndicesMapMDNameValueBrainModelVolumeNamedMapMapNameTransformationMatrixVoxelIndicesIJKtoXYZVertexIndicesVoxelIndicesIJKCIFTI_INDEX_TYPE_BRAIN_MODELSCIFTI_INDEX_TYPE_SERIESCIFTI_INDEX_TYPE_SCALARSCIFTI_MODEL_TYPE_SURFACECIFTI_MODEL_TYPE_VOXELSSECONDHERTZMETERRADIANCIFTI_STRUCTURE_ACCUMBENS_LEFTCIFTI_STRUCTURE_ACCUMBENS_RIGHTCIFTI_STRUCTURE_ALL_WHITE_MATTERCIFTI_STRUCTURE_ALL_GREY_MATTERCIFTI_STRUCTURE_AMYGDALA_LEFTCIFTI_STRUCTURE_AMYGDALA_RIGHTCIFTI_STRUCTURE_BRAIN_STEMCIFTI_STRUCTURE_CAUDATE_LEFTCIFTI_STRUCTURE_CAUDATE_RIGHTCIFTI_STRUCTURE_CEREBELLAR_WHITE_MATTER_LEFTCIFTI_STRUCTURE_CEREBELLAR_WHITE_MATTER_RIGHTCIFTI_STRUCTURE_CEREBELLUMCIFTI_STRUCTURE_CEREBELLUM_LEFTCIFTI_STRUCTURE_CEREBELLUM_RIGHTCIFTI_STRUCTURE_CEREBRAL_WHITE_MATTER_LEFTCIFTI_STRUCTURE_CEREBRAL_WHITE_MATTER_RIGHTCIFTI_STRUCTURE_CORTEXCIFTI_STRUCTURE_CORTEX_LEFTCIFTI_STRUCTURE_CORTEX_RIGHTCIFTI_STRUCTURE_DIENCEPHALON_VENTRAL_LEFTCIFTI_STRUCTURE_DIENCEPHALON_VENTRAL_RIGHTCIFTI_STRUCTURE_HIPPOCAMPUS_LEFTCIFTI_STRUCTURE_HIPPOCAMPUS_RIGHTCIFTI_STRUCTURE_OTHERCIFTI_STRUCTURE_OTHER_GREY_MATTERCIFTI_STRUCTURE_OTHER_WHITE_MATTERCIFTI_STRUCTURE_PALLIDUM_LEFTCIFTI_STRUCTURE_PALLIDUM_RIGHTCIFTI_STRUCTURE_PUTAMEN_LEFTCIFTI_STRUCTURE_PUTAMEN_RIGHTCIFTI_STRUCTURE_THALAMUS_LEFTCIFTI_STRUCTURE_THALAMUS_RIGHT";
 
 // The element at `at` has the word for its name. Names of children are written out here, so that the long constant is not laid out anew for each.
@@ -97,14 +97,14 @@ fn listed_name(text: &[u8], at: usize, w: usize) -> bool
     nodes::names::name_is(text, at, &WORDS[from..to])
 }
 
-// The value at `v` is the word.
-pub(crate) fn value_is(text: &[u8], v: usize, w: usize) -> bool
-    requires { ⌜ w < 69 ⌝ }
+// The value at `v` is the word, in the letters and the bounds of all words: whoever asks for many lays these out once.
+pub(crate) fn value_is(text: &[u8], v: usize, letters: &[u8], bounds: &[usize], w: usize) -> bool
+    requires { ⌜ Worded (now letters) (now bounds) w ⌝ }
     ensures { λ r. ⌜ r ≡ is (wordAt w) (value-there (now (text .entry)) v) ⌝ }
 {
-    let from = table::word_bound(w);
-    let to = table::word_bound(w + 1);
-    nodes::values::value_is(text, v, &WORDS[from..to])
+    let from = bounds[w];
+    let to = bounds[w + 1];
+    nodes::values::value_is(text, v, &letters[from..to])
 }
 
 // Where the value of the attribute of this name begins.
