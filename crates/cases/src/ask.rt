@@ -1,24 +1,21 @@
-// One question of each kind, printed with its answer: 'what was asked: what was answered'.
-use super::text::put_case_a;
-use super::text::put_changed;
+// A question to each function, printed with its answer: 'what was asked: what was answered'.
 use cifti::Answer;
 use libc::STDOUT_FILENO;
 use records::Found;
-use records::Index;
 use records::Packed;
 use records::Unpacked;
 ghost use Prim.Native.Nat.{_≤_};
 
-fn say(words: &[u8]) {
+pub fn say(words: &[u8]) {
     io::write_all(STDOUT_FILENO, words);
 }
 
-fn ask(words: &[u8]) {
+pub fn ask(words: &[u8]) {
     say(words);
     say(b": ");
 }
 
-fn refused(number: u64) {
+pub fn refused(number: u64) {
     say(b"refused ");
     io::print_decimal(STDOUT_FILENO, number);
     say(b"\n");
@@ -30,7 +27,7 @@ fn least(a: usize, b: usize) -> usize
     if a < b { a } else { b }
 }
 
-fn show_card(answer: Answer, records: &[u64]) {
+pub fn show_card(answer: Answer, records: &[u64]) {
     let mut n = 0;
     while n < 12 {
         let mut bytes = [0u8; 128];
@@ -59,33 +56,6 @@ pub fn read(asked: &[u8], text: &[u8], lengths: &[u64], room: usize, space: usiz
         &mut records[..lent],
         &mut work[..free],
     );
-}
-
-pub fn case_a(asked: &[u8], lengths: &[u64], room: usize, space: usize) {
-    let mut text = [0u8; 1024];
-    let size = put_case_a(&mut text);
-    read(asked, &text[..size], lengths, room, space);
-}
-
-// Case A with the first `from` made `to`.
-pub fn changed(asked: &[u8], from: &[u8], to: &[u8]) {
-    let mut text = [0u8; 1024];
-    let mut other = [0u8; 1280];
-    let lengths = [2u64, 3u64];
-    let size = put_case_a(&mut text);
-    let end = put_changed(&mut other, &text[..size], from, to);
-    read(asked, &other[..end], &lengths, 3, 3);
-}
-
-// The lister's answer to a first line and case A, and whether more text came than it has room for.
-pub fn decided(asked: &[u8], line: &[u8], more: bool) {
-    let mut text = [0u8; 1024];
-    let mut records = [0u64; 8];
-    let mut work = [0u64; 8];
-    let size = put_case_a(&mut text);
-    let answer = decision::decide(line, &text[..size], more, &mut records, &mut work);
-    ask(asked);
-    show_card(answer, &records);
 }
 
 pub fn pack(asked: &[u8], records: &[u64], room: usize) {
@@ -118,23 +88,6 @@ pub fn unpack(asked: &[u8], sheet: &[u8], room: usize) {
         Unpacked::Illegal => refused(16),
         Unpacked::NoRoom => refused(17),
     }
-}
-
-// A map's name in case A with the first `from` made `to`.
-pub fn name(asked: &[u8], from: &[u8], to: &[u8], lengths: &[u64], dimension: u64, index: u64) {
-    let mut text = [0u8; 1024];
-    let mut other = [0u8; 1280];
-    let size = put_case_a(&mut text);
-    let end = put_changed(&mut other, &text[..size], from, to);
-    let number = reader::map_name_number(&other[..end], lengths, dimension, Index(index));
-    ask(asked);
-    if number != 0 {
-        refused(number);
-        return;
-    }
-    say(b"'");
-    say(reader::map_name(&other[..end], lengths, dimension, Index(index)));
-    say(b"'\n");
 }
 
 pub fn find(asked: &[u8], records: &[u64], number: u64) {

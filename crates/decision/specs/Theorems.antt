@@ -1,4 +1,4 @@
--- Which first lines have the form, computed; and that one of more than 24 bytes is refused.
+-- Which first lines have the form, computed; that one of more than 24 bytes is refused; and the reader's own limit, for a text longer than a program here can hold.
 use mathlib.Core.Path.{_≡_, refl, sym, ap, _∙_}
 use mathlib.Core.List.{List, [], _∷_, _++_}
 use mathlib.Core.Option.{Option, some}
@@ -17,7 +17,7 @@ use Rattle.grammar.specs.Facts.{and-left, and-right, within}
 use Rattle.grammar.specs.Look.{Word}
 use Rattle.numbers.specs.Numbers.{numbers, digit, digits, value, parts, onFirst, comma}
 use Rattle.numbers.specs.Cuts.{Parts, parts-some}
-use Rattle.cifti.specs.Conditions.{lengthsWrong}
+use Rattle.cifti.specs.Conditions.{lengthsWrong, refusal, conditionWords}
 use Rattle.decision.specs.Lengths.{wholesOf, lengthsIn, lengthWords}
 
 pub two-lengths : lengthsIn (ascii "2,3" ++ (10 ∷ [])) ≡ some (2 ∷ 3 ∷ [])
@@ -94,3 +94,9 @@ long-line line lengths h e = go (eqb (getD line (length line - 1) 0) 10) (all (d
         wrong-count lengths (omega (arith, parts-length (take (length line - 1) line), seven-most (parts comma (take (length line - 1) line)) q))
     go true false q p = let z : _≡_ {A = ℕ} 0 1 = cc in absurd (omega arith)
     go false c q p = let z : _≡_ {A = ℕ} 0 1 = cc in absurd (omega arith)
+
+-- ---- A text of 16,777,217 bytes is refused with 2, before 3; one of 16,777,216 is not.
+
+pub reader-limit : (refusal (2 ∷ 3 ∷ []) 16777217 3 3 Option.none ≡ 2) × (refusal (2 ∷ 3 ∷ []) 16777216 3 3 Option.none ≡ 3)
+unfolding conditionWords lists
+reader-limit = (refl, refl)

@@ -6,7 +6,7 @@ use libc::STDOUT_FILENO;
 ghost use Prim.Native.Nat.{_≤_};
 ghost use lib.ListN.{length};
 
-// One line or the word of a refusal, three dimensions, 2,048 records.
+// A card has no more: `ok`, three dimensions, 2,048 records (`lines-most`).
 const MOST_LINES: usize = 2052;
 
 // How many bytes came, or that a read failed.
@@ -15,7 +15,7 @@ struct Came {
     failed: bool,
 }
 
-// Up to the first line feed. Three lengths take at most 24 bytes with it: more are refused, whatever they are.
+// Up to the first line feed. Three lengths take at most 24 bytes with it, and a longer line is refused whatever it says (`long-line`).
 fn read_line(line: &mut [u8]) -> Came
     ensures { λ r. ⌜ r .count ≤ length (now (line .exit)) ⌝ }
 {

@@ -1,8 +1,8 @@
 use Prim.Native.Nat.{_≤_, _-_}
 use lib.ListN.{length}
 use native.Mathlib.Omega.{arith}
-use Rattle.cases.proofs.text.place_of.Statement.{statement}
-use Rattle.cases.proofs.text.place_of.Tie as tie
+use Rattle.cases.proofs.table.place_of.Statement.{statement}
+use Rattle.cases.proofs.table.place_of.Tie as tie
 
 abbrev Inv-loop : tie.InvT-loop
 Inv-loop text word i₀ i = i ≤ length text

@@ -1,7 +1,7 @@
 use Rattle.io.proofs.Counting.{counts}
 use borrow.Author.Needs.{needs}
-use Rattle.cases.proofs.text.put.Statement.{statement}
-use Rattle.cases.proofs.text.put.Tie as tie
+use Rattle.cases.proofs.table.put.Statement.{statement}
+use Rattle.cases.proofs.table.put.Tie as tie
 
 pub put-spec : {M : Type 1} → statement M
 put-spec =
