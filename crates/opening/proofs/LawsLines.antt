@@ -49,9 +49,13 @@ range k h =
     let u = and-right (leb (getD linesFrom k 0) (getD linesTo k 0)) _ t in
     record { ahead = leb-true _ _ (and-left _ _ t); inside = leb-true _ _ (and-left _ _ u); few = leb-true _ _ (and-right (leb (getD linesTo k 0) 14) _ u) }
 
-pub name-known : (i : ℕ) → i < 14 → getD lineNames i 0 < 69
+pub name-least : (i : ℕ) → i < 14 → 15 ≤ getD lineNames i 0
 unfolding lineNames
-name-known i h = leb-true _ _ (each-below (λ i. leb (suc (getD lineNames i 0)) 69 ≡ true) 14 (refl, (refl, (refl, (refl, (refl, (refl, (refl, (refl, (refl, (refl, (refl, (refl, (refl, (refl, tt)))))))))))))) i h)
+name-least i h = leb-true _ _ (each-below (λ i. leb 15 (getD lineNames i 0) ≡ true) 14 (refl, (refl, (refl, (refl, (refl, (refl, (refl, (refl, (refl, (refl, (refl, (refl, (refl, (refl, tt)))))))))))))) i h)
+
+pub name-known : (i : ℕ) → i < 14 → getD lineNames i 0 < 28
+unfolding lineNames
+name-known i h = leb-true _ _ (each-below (λ i. leb (suc (getD lineNames i 0)) 28 ≡ true) 14 (refl, (refl, (refl, (refl, (refl, (refl, (refl, (refl, (refl, (refl, (refl, (refl, (refl, (refl, tt)))))))))))))) i h)
 
 kind-known : (i : ℕ) → i < 14 → getD lineKinds i 0 ≤ 16
 unfolding lineKinds
@@ -84,8 +88,8 @@ module _ {text : List ℕ} {at kind to i : ℕ} (go : Lining text at kind to i) 
     pub lining-known : i < 14
     lining-known = omega (arith, go .end)
 
-    pub lining-named : {w : ℕ} → w ≡ getD lineNames i 0 → Named text at w
-    lining-named e = rw e (record { stands = go .of-kind .stands; known = name-known i lining-known })
+    pub lining-named : {w : ℕ} → w ≡ getD lineNames i 0 → Named 15 28 text at w
+    lining-named e = rw e (record { stands = go .of-kind .stands; least = name-least i lining-known; known = name-known i lining-known })
 
     module _ {w : ℕ} (e : w ≡ getD lineNames i 0) {b : Bool} (n : b ≡ is (wordAt w) (nameOf (the text at))) where
       named : b ≡ is (lineName i) (nameOf (the text at))
@@ -124,7 +128,7 @@ among x shift (suc n) from = go (is (wordAt from) x) (among x shift n (suc from)
     go false h = let e : from + suc n ≡ suc from + n = omega arith in rw e h
 
 module _ {text : List ℕ} {at w from to shift : ℕ} (p : Choosing text at w from to shift) where
-  pub choosing-word : w < 69
+  pub choosing-word : w < 15
   choosing-word = p .known
 
   pub choosing-range : (from ≤ to) × (to ≤ 69)

@@ -41,17 +41,6 @@ module _ (w : ℕ) (h : w < 69) where
   unfolding fits
   bound-in = leb-true (bound (w + 1)) 1514 (and-right (leb (bound w) (bound (w + 1))) _ (and-right (same (lettersOf w) (ascii (wordAt w))) _ fit))
 
-  module _ {from to : ℕ} (e : from ≡ bound w) (f : to ≡ bound (w + 1)) where
-    pub from-to : from ≤ to
-    from-to = rw (e, f) bound-up
-
-    pub to-end : to ≤ 1514
-    to-end = rw f bound-in
-
-    pub part-is : take (to - from) (drop from letters) ≡ ascii (wordAt w)
-    unfolding lettersOf
-    part-is = rw (e, f) letters-are
-
 bounds-long : length bounds ≡ 70
 unfolding bounds
 bounds-long = refl

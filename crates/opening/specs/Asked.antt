@@ -9,9 +9,11 @@ use Rattle.cifti.specs.Conditions.{shapeWrong}
 use Rattle.opening.specs.Lines.{lineOf}
 use Rattle.opening.specs.Words.{letters, bounds}
 
-pub record Named (text : List ℕ) (at w : ℕ) : Type 0 where
+-- a name among the words from `lo` up to `hi`
+pub record Named (lo hi : ℕ) (text : List ℕ) (at w : ℕ) : Type 0 where
   pub stands : Stands text at
-  pub known : w < 69
+  pub least : lo ≤ w
+  pub known : w < hi
 
 -- the letters and the bounds of all words
 pub record Worded (l b : List ℕ) (w : ℕ) : Type 0 where
@@ -38,7 +40,7 @@ pub record Lined (text : List ℕ) (at k i : ℕ) : Type 0 where
 
 pub record Choosing (text : List ℕ) (at w from to shift : ℕ) : Type 0 where
   pub stands : Stands text at
-  pub known : w < 69
+  pub known : w < 15
   pub ahead : from ≤ to
   pub inside : to ≤ 69
   pub low : shift ≤ from

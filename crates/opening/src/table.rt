@@ -2,9 +2,9 @@
 ghost use mathlib.Core.Path.{_≡_};
 ghost use Prim.Native.Nat.{_<_};
 ghost use lib.ListN.{getD};
-ghost use Rattle.opening.specs.Words.{bound};
 ghost use Rattle.opening.specs.Table.{entryAt, attributesFrom, attributesTo, attributeForms, linesFrom, linesTo, lineNames, lineTimes, lineKinds, texts};
 
+// Where each word begins.
 pub(crate) const BOUNDS: [usize; 70] = [
     0,
     7,
@@ -77,14 +77,6 @@ pub(crate) const BOUNDS: [usize; 70] = [
     1484,
     1514,
 ];
-
-// Where a word begins.
-pub(crate) fn word_bound(w: usize) -> usize
-    requires { ⌜ w < 70 ⌝ }
-    ensures { λ r. ⌜ r ≡ bound w ⌝ }
-{
-    BOUNDS[w]
-}
 
 // Sixteen small numbers in one, the first lowest: so a table needs no memory.
 fn entry(packed: u64, i: usize) -> u64

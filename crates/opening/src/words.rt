@@ -1,8 +1,7 @@
 // The words of the table: names of attributes and of children, and named words.
-use crate::table;
 use nodes::Found;
 ghost use mathlib.Core.Path.{_≡_};
-ghost use Prim.Native.Nat.{_<_};
+ghost use Prim.Native.Nat.{_<_, _≤_};
 ghost use Rattle.grammar.specs.Bytes.{ascii};
 ghost use Rattle.grammar.specs.Look.{is, nameOf};
 ghost use Rattle.nodes.specs.Places.{the};
@@ -16,7 +15,7 @@ pub(crate) const WORDS: [u8; 1514] =
 
 // The element at `at` has the word for its name. Names of children are written out here, so that the long constant is not laid out anew for each.
 pub(crate) fn name_is(text: &[u8], at: usize, w: usize) -> bool
-    requires { ⌜ Named (now text) at w ⌝ }
+    requires { ⌜ Named 15 28 (now text) at w ⌝ }
     ensures { λ r. ⌜ r ≡ is (wordAt w) (nameOf (the (now (text .entry)) at)) ⌝ }
 {
     if w < 20 {
@@ -29,7 +28,7 @@ pub(crate) fn name_is(text: &[u8], at: usize, w: usize) -> bool
 }
 
 fn name_below_20(text: &[u8], at: usize, w: usize) -> bool
-    requires { ⌜ Named (now text) at w ⌝ }
+    requires { ⌜ Named 15 20 (now text) at w ⌝ }
     ensures { λ r. ⌜ r ≡ is (wordAt w) (nameOf (the (now (text .entry)) at)) ⌝ }
 {
     if w == 15 {
@@ -44,14 +43,11 @@ fn name_below_20(text: &[u8], at: usize, w: usize) -> bool
     if w == 18 {
         return nodes::names::name_is(text, at, b"MD");
     }
-    if w == 19 {
-        return nodes::names::name_is(text, at, b"Name");
-    }
-    listed_name(text, at, w)
+    nodes::names::name_is(text, at, b"Name")
 }
 
 fn name_below_25(text: &[u8], at: usize, w: usize) -> bool
-    requires { ⌜ Named (now text) at w ⌝ }
+    requires { ⌜ Named 20 25 (now text) at w ⌝ }
     ensures { λ r. ⌜ r ≡ is (wordAt w) (nameOf (the (now (text .entry)) at)) ⌝ }
 {
     if w == 20 {
@@ -66,14 +62,11 @@ fn name_below_25(text: &[u8], at: usize, w: usize) -> bool
     if w == 23 {
         return nodes::names::name_is(text, at, b"NamedMap");
     }
-    if w == 24 {
-        return nodes::names::name_is(text, at, b"MapName");
-    }
-    listed_name(text, at, w)
+    nodes::names::name_is(text, at, b"MapName")
 }
 
 fn name_of_text(text: &[u8], at: usize, w: usize) -> bool
-    requires { ⌜ Named (now text) at w ⌝ }
+    requires { ⌜ Named 25 28 (now text) at w ⌝ }
     ensures { λ r. ⌜ r ≡ is (wordAt w) (nameOf (the (now (text .entry)) at)) ⌝ }
 {
     if w == 25 {
@@ -82,19 +75,7 @@ fn name_of_text(text: &[u8], at: usize, w: usize) -> bool
     if w == 26 {
         return nodes::names::name_is(text, at, b"VertexIndices");
     }
-    if w == 27 {
-        return nodes::names::name_is(text, at, b"VoxelIndicesIJK");
-    }
-    listed_name(text, at, w)
-}
-
-fn listed_name(text: &[u8], at: usize, w: usize) -> bool
-    requires { ⌜ Named (now text) at w ⌝ }
-    ensures { λ r. ⌜ r ≡ is (wordAt w) (nameOf (the (now (text .entry)) at)) ⌝ }
-{
-    let from = table::word_bound(w);
-    let to = table::word_bound(w + 1);
-    nodes::names::name_is(text, at, &WORDS[from..to])
+    nodes::names::name_is(text, at, b"VoxelIndicesIJK")
 }
 
 // The value at `v` is the word, in the letters and the bounds of all words: whoever asks for many lays these out once.
@@ -109,7 +90,7 @@ pub(crate) fn value_is(text: &[u8], v: usize, letters: &[u8], bounds: &[usize], 
 
 // Where the value of the attribute of this name begins.
 pub(crate) fn attribute(text: &[u8], at: usize, w: usize) -> Found
-    requires { ⌜ w < 69 ⌝ }
+    requires { ⌜ w < 15 ⌝ }
     ensures { λ r. ⌜ r ≡ place (now (text .entry)) at (ascii (wordAt w)) ⌝ }
 {
     if w < 5 {
@@ -122,7 +103,7 @@ pub(crate) fn attribute(text: &[u8], at: usize, w: usize) -> Found
 }
 
 fn attribute_below_5(text: &[u8], at: usize, w: usize) -> Found
-    requires { ⌜ w < 69 ⌝ }
+    requires { ⌜ w < 5 ⌝ }
     ensures { λ r. ⌜ r ≡ place (now (text .entry)) at (ascii (wordAt w)) ⌝ }
 {
     if w == 0 {
@@ -137,14 +118,11 @@ fn attribute_below_5(text: &[u8], at: usize, w: usize) -> Found
     if w == 3 {
         return nodes::attributes::attribute(text, at, b"NumberOfSeriesPoints");
     }
-    if w == 4 {
-        return nodes::attributes::attribute(text, at, b"SeriesStart");
-    }
-    listed_attribute(text, at, w)
+    nodes::attributes::attribute(text, at, b"SeriesStart")
 }
 
 fn attribute_below_10(text: &[u8], at: usize, w: usize) -> Found
-    requires { ⌜ w < 69 ⌝ }
+    requires { ⌜ (5 ≤ w) × (w < 10) ⌝ }
     ensures { λ r. ⌜ r ≡ place (now (text .entry)) at (ascii (wordAt w)) ⌝ }
 {
     if w == 5 {
@@ -159,14 +137,11 @@ fn attribute_below_10(text: &[u8], at: usize, w: usize) -> Found
     if w == 8 {
         return nodes::attributes::attribute(text, at, b"IndexOffset");
     }
-    if w == 9 {
-        return nodes::attributes::attribute(text, at, b"IndexCount");
-    }
-    listed_attribute(text, at, w)
+    nodes::attributes::attribute(text, at, b"IndexCount")
 }
 
 fn attribute_of_model(text: &[u8], at: usize, w: usize) -> Found
-    requires { ⌜ w < 69 ⌝ }
+    requires { ⌜ (10 ≤ w) × (w < 15) ⌝ }
     ensures { λ r. ⌜ r ≡ place (now (text .entry)) at (ascii (wordAt w)) ⌝ }
 {
     if w == 10 {
@@ -181,17 +156,5 @@ fn attribute_of_model(text: &[u8], at: usize, w: usize) -> Found
     if w == 13 {
         return nodes::attributes::attribute(text, at, b"VolumeDimensions");
     }
-    if w == 14 {
-        return nodes::attributes::attribute(text, at, b"MeterExponent");
-    }
-    listed_attribute(text, at, w)
-}
-
-fn listed_attribute(text: &[u8], at: usize, w: usize) -> Found
-    requires { ⌜ w < 69 ⌝ }
-    ensures { λ r. ⌜ r ≡ place (now (text .entry)) at (ascii (wordAt w)) ⌝ }
-{
-    let from = table::word_bound(w);
-    let to = table::word_bound(w + 1);
-    nodes::attributes::attribute(text, at, &WORDS[from..to])
+    nodes::attributes::attribute(text, at, b"MeterExponent")
 }

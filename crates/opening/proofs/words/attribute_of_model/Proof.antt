@@ -20,6 +20,4 @@ attribute-of-model-spec =
     (λ c. search attributesWritten)
     (λ c. search attributesWritten)
     (λ c κs. search attributesWritten)
-    (λ c. search attributesWritten)
-    (λ c κs. search attributesWritten)
     (λ c. search attributesWritten))

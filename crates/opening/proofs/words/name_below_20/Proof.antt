@@ -20,6 +20,4 @@ name-below-20-spec =
     (λ c. search namesWritten)
     (λ c. search namesWritten)
     (λ c κs. search namesWritten)
-    (λ c. search namesWritten)
-    (λ c κs. search namesWritten)
     (λ c. search namesWritten))

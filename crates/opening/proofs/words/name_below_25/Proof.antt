@@ -20,6 +20,4 @@ name-below-25-spec =
     (λ c. search namesWritten)
     (λ c. search namesWritten)
     (λ c κs. search namesWritten)
-    (λ c. search namesWritten)
-    (λ c κs. search namesWritten)
     (λ c. search namesWritten))

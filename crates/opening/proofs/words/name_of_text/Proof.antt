@@ -14,6 +14,4 @@ name-of-text-spec =
     (λ c. search namesWritten)
     (λ c. search namesWritten)
     (λ c κs. search namesWritten)
-    (λ c. search namesWritten)
-    (λ c κs. search namesWritten)
     (λ c. search namesWritten))
