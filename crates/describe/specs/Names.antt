@@ -25,7 +25,7 @@ use Rattle.nodes.specs.declared.Found.{Found}
 use Rattle.nodes.specs.declared.Found.the-variants.{At, Nothing}
 use Rattle.schema.specs.Schema.{branch, anyOrder, kindOf, kindBy, childShaped, standsSo}
 use Rattle.cifti.specs.Rows.{ElementKind, rows, namedMap, scalars}
-use Rattle.maps.specs.Good.{Good, GoodAs, good-as, AllGood, none-left, one-good, row-met}
+use Rattle.maps.specs.Good.{Good, GoodAs, good-as, AllGood, none-left, one-good, good-tail, row-met}
 use Rattle.maps.specs.Kinds.{namedRows, scalarRows, scalars-children}
 
 -- the names of a map, each as it is written
@@ -148,12 +148,9 @@ scalars-named : {e : Element} → Good scalars e → children "NamedMap" e ≡ e
 unfolding children
 scalars-named {e} g = all-named (elements (contentsOf e)) (scalars-children g)
 
--- the first of several, and the others
+-- the first of several
 first-good : {e : Element} {l : List Element} → AllGood scalarRows (e ∷ l) → Good namedMap e
 first-good {e} (one-good h m) = named-kind e h .1
-
-others-good : {e : Element} {l : List Element} → AllGood scalarRows (e ∷ l) → AllGood scalarRows l
-others-good (one-good h m) = m
 
 names-one : (e x : Element) (l : List Element) → children "MapName" e ≡ x ∷ [] → namesIn (e ∷ l) ≡ withinOf x ∷ namesIn l
 unfolding namesIn eachIn each
@@ -232,7 +229,7 @@ module _ {text : List ℕ} {at index more : ℕ} {kid : Kid} (go : Counting text
             ∙ ap (λ i. getD (withinOf (the text (n .found)) ∷ namesIn (kids text (next text k))) i []) z)
 
     pub counting-more : (more ≡ 0 → ⊥) → {kid₁ : Kid} → kid₁ ≡ next text k → Counting text at index (more - 1) kid₁
-    counting-more z {kid₁} e = rw e (record { walk = met .then; named-maps = go .named-maps; named-long = go .named-long; good = others-good all-good; so-many = many; so-far = far })
+    counting-more z {kid₁} e = rw e (record { walk = met .then; named-maps = go .named-maps; named-long = go .named-long; good = good-tail all-good; so-many = many; so-far = far })
       where
         many : index + length (kids text (next text k)) ≡ (more - 1) + length (elements (contentsOf (the text at)))
         many = let m = go .so-many in let l = length-here in omega arith

@@ -26,7 +26,7 @@ use Rattle.maps.specs.Dimensions.{Small, no-small, one-small, values-small}
 use Rattle.maps.specs.Sums.{MapAt, map-stands}
 use Rattle.maps.specs.Ready.{Ready, places, mapsAt}
 use Rattle.maps.specs.Digits.{Askable, from, from-all, from-none, from-one}
-use Rattle.maps.specs.Nine.{InRoom}
+use Rattle.maps.specs.Nine.{InRoom, room-map, room-place}
 use Rattle.maps.specs.declared.survey.Maps.{Maps}
 use Rattle.describe.specs.Kind.{Asked, content-brain, content-series, content-scalars, good-scalars}
 use Rattle.describe.specs.Listing.{counted-some, listed-some, listed-none, counted-none}
@@ -159,13 +159,13 @@ module _ {text : List ℕ} {maps : Maps} {d index i : ℕ} (go : Looking text ma
 
   module _ (u : i < maps .count) where
     pub looking-place : i < length (maps .at)
-    looking-place = let t = ready .three in let f = ready .few in omega arith
+    looking-place = room-place (go .naming .room-in) u
 
     pub looking-asks : Askable text (getD (maps .at) i 0) d
     looking-asks = record { stands = ready .stand i u; good = ready .good i u; digit = go .digit }
 
     pub looking-map : MapAt text (getD (maps .at) i 0)
-    looking-map = record { stands = ready .stand i u; good = ready .good i u; short = go .naming .room-in .short }
+    looking-map = room-map (go .naming .room-in) u .map
 
     count-splits : count (eqb d) (listedDimensions (from text maps i)) ≡ count (eqb d) (dimensionsOf (the text (getD (maps .at) i 0))) + count (eqb d) (listedDimensions (from text maps (i + 1)))
     unfolding listedDimensions eachIn mapOf

@@ -6,8 +6,7 @@ use Prim.Native.Nat.{ℕ, _≤_, _<_}
 use native.Mathlib.Omega.{arith}
 use native.Mathlib.Decide.{decLt, ℕ-discrete}
 use lib.Dec.{eqb, ltb}
-use lib.ListN.{length, take}
-use lib.Seq.{ext-getD, getD-take, length-take-le}
+use lib.ListN.{length}
 use borrow.Author.Tests.{eqb-true, le-ltb}
 use Rattle.lists.specs.Lists.{any, count, each, eachIn, those, allBelow}
 use Rattle.lists.specs.Quantifiers.{allBelow-iff}
@@ -22,7 +21,7 @@ use Rattle.cifti.specs.Names.{namesOn}
 use Rattle.maps.specs.Kinds.{OnlyChild}
 use Rattle.maps.specs.Listed.{any-some}
 use Rattle.maps.specs.Survey.{MapsAre}
-use Rattle.maps.specs.Ready.{places, mapsAt}
+use Rattle.maps.specs.Ready.{places, mapsAt, met-is}
 use Rattle.maps.specs.Nine.{InRoom}
 use Rattle.maps.specs.declared.survey.Maps.{Maps}
 use Rattle.describe.specs.Names.{namesIn, namesOf}
@@ -65,18 +64,9 @@ unfolding children those
 one-matrix e o = rw (o .alone, o .name)
 
 module _ {text : List ℕ} {m : ℕ} {r : Maps} (a : MapsAre text m r) (few : r .count ≤ 3) where
-  met-is : places r ≡ a .met
-  unfolding places
-  met-is =
-      let h = a .holds .many in
-      let t = a .holds .three in
-      let long : length (take (r .count) (r .at)) ≡ r .count = length-take-le (r .count) (r .at) (omega arith) in
-      ext-getD 0 (take (r .count) (r .at)) (a .met) (omega arith)
-      (λ i u. let v : i < r .count = omega arith in getD-take (r .count) (r .at) i 0 v ∙ a .holds .places i (omega arith) (omega arith))
-
   pub elements-at : (e : Element) → children "Matrix" e ≡ the text m ∷ [] → mapElements e ≡ each (the text) (places r)
   unfolding mapElements eachIn
-  elements-at e only = ap (eachIn (children "MatrixIndicesMap")) only ∙ append-nil (children "MatrixIndicesMap" (the text m)) ∙ a .are ∙ ap (each (the text)) (sym met-is)
+  elements-at e only = ap (eachIn (children "MatrixIndicesMap")) only ∙ append-nil (children "MatrixIndicesMap" (the text m)) ∙ a .are ∙ ap (each (the text)) (sym (met-is a few))
 
   pub maps-at : (e : Element) → children "Matrix" e ≡ the text m ∷ [] → mapsOf e ≡ mapsAt text r
   unfolding mapsOf mapsAt

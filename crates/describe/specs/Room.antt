@@ -14,10 +14,10 @@ use Rattle.nodes.specs.Places.{the}
 use Rattle.cifti.specs.Maps.{Content, brain, series, scalars, Map, mapOf, contentOf, lengthOf, lengthBy, isBrainBy, brainMaps}
 use Rattle.cifti.specs.Conditions.{roomShort}
 use Rattle.cifti.specs.Answer.{reach}
-use Rattle.maps.specs.Sums.{MapAt}
+use Rattle.maps.specs.Sums.{Measured}
 use Rattle.maps.specs.Ready.{mapsAt}
 use Rattle.maps.specs.Digits.{from, from-all, from-none, from-one}
-use Rattle.maps.specs.Nine.{InRoom}
+use Rattle.maps.specs.Nine.{InRoom, room-map, room-place, room-length}
 use Rattle.maps.specs.declared.survey.Maps.{Maps}
 
 unfoldable pub reachOf : Map → ℕ
@@ -85,10 +85,13 @@ module _ {text : List ℕ} {maps : Maps} where
 
     module _ (u : i < maps .count) where
       pub housing-place : i < length (maps .at)
-      housing-place = let t = go .room-in .ready .three in let f = go .room-in .ready .few in omega arith
+      housing-place = room-place (go .room-in) u
 
-      pub housing-map : MapAt text (getD (maps .at) i 0)
-      housing-map = record { stands = go .room-in .ready .stand i u; good = go .room-in .ready .good i u; short = go .room-in .short }
+      pub housing-length : i < length (maps .length)
+      housing-length = room-length (go .room-in) u
+
+      pub housing-map : Measured text (getD (maps .at) i 0) (getD (maps .length) i 0)
+      housing-map = room-map (go .room-in) u
 
       module _ {size : ℕ} (p : size ≡ reach (contentOf (the text (getD (maps .at) i 0)))) where
         split : roomShort room work (mapsAt text maps) ≡ (ltb left (size + total reachOf (from text maps (i + 1))) || ltb work (max size (greatest reachOf (from text maps (i + 1)))))
@@ -113,4 +116,4 @@ module _ {text : List ℕ} {maps : Maps} where
             let w : ltb work (max size (greatest reachOf (from text maps (i + 1)))) ≡ ltb work (greatest reachOf (from text maps (i + 1))) = ltb-same work (max size (greatest reachOf (from text maps (i + 1)))) work (greatest reachOf (from text maps (i + 1))) (λ x. omega arith) (λ x. omega arith) in
             record { room-in = go .room-in; so-far = split ∙ rw (t, w) }
 
-pub ruleset housing = (housing-start, housing-done, housing-place, housing-map, housing-work, housing-left, housing-more, needs)
+pub ruleset housing = (housing-start, housing-done, housing-place, housing-length, housing-map, housing-work, housing-left, housing-more, needs)

@@ -19,10 +19,10 @@ use Rattle.cifti.specs.declared.answer.Kind.the-variants.{None, Brain, Series, 
 use Rattle.cifti.specs.declared.answer.Series as S
 use Rattle.cifti.specs.declared.answer.Dimension.{Dimension}
 use Rattle.cifti.specs.declared.answer.Answer.{Answer}
-use Rattle.maps.specs.Sums.{MapAt, map-stands}
+use Rattle.maps.specs.Sums.{MapAt, Measured, map-stands}
 use Rattle.maps.specs.Ready.{Ready, mapsAt}
 use Rattle.maps.specs.Digits.{Askable, from, from-all, from-none, from-one}
-use Rattle.maps.specs.Nine.{InRoom}
+use Rattle.maps.specs.Nine.{InRoom, room-map, room-place, room-length}
 use Rattle.maps.specs.declared.survey.Maps.{Maps}
 use Rattle.describe.specs.Kind.{Asked, content-brain, content-series, content-scalars, good-series}
 use Rattle.describe.specs.Reach.{reach-most}
@@ -47,21 +47,21 @@ pub ruleset making = (made, needs)
 
 -- ---- One map.
 
-module _ {text : List ℕ} {at : ℕ} (m : MapAt text at) {n : ℕ} (l : n ≡ lengthOf (mapOf (the text at))) (start : ℕ) {b : Bool} (p : Asked b "CIFTI_INDEX_TYPE_BRAIN_MODELS" (the text at)) where
+module _ {text : List ℕ} {at n : ℕ} (m : Measured text at n) (start : ℕ) {b : Bool} (p : Asked b "CIFTI_INDEX_TYPE_BRAIN_MODELS" (the text at)) where
   pub described-brain : b ≡ true → {r : Dimension} → r ≡ brainSaid n start → r ≡ described start (contentOf (the text at))
   unfolding described lengthOf mapOf
-  described-brain t k = let c = content-brain (the text at) p t in k ∙ ap (λ x. brainSaid x start) (l ∙ ap lengthBy c) ∙ sym (ap (described start) c)
+  described-brain t k = let c = content-brain (the text at) p t in k ∙ ap (λ x. brainSaid x start) (m .long ∙ ap lengthBy c) ∙ sym (ap (described start) c)
 
   module _ (f : b ≡ false) {c : Bool} (q : Asked c "CIFTI_INDEX_TYPE_SERIES" (the text at)) where
     pub described-series : c ≡ true → {s : S.Series} → s ≡ seriesSaid (the text at) → {r : Dimension} → r ≡ seriesDimension n s → r ≡ described start (contentOf (the text at))
     unfolding described lengthOf lengthBy mapOf seriesOf seriesSaid
     described-series t {s} v k =
         let z = content-series (the text at) p f q t in
-        k ∙ ap (λ x. seriesDimension x s) (l ∙ ap lengthBy z) ∙ ap (seriesDimension (lengthBy (seriesOf (the text at)))) v ∙ sym (ap (described start) z)
+        k ∙ ap (λ x. seriesDimension x s) (m .long ∙ ap lengthBy z) ∙ ap (seriesDimension (lengthBy (seriesOf (the text at)))) v ∙ sym (ap (described start) z)
 
     pub described-scalars : c ≡ false → {r : Dimension} → r ≡ scalarsSaid n → r ≡ described start (contentOf (the text at))
     unfolding described lengthOf lengthBy mapOf
-    described-scalars t k = let z = content-scalars (the text at) p f q t in k ∙ ap scalarsSaid (l ∙ ap lengthBy z) ∙ sym (ap (described start) z)
+    described-scalars t k = let z = content-scalars (the text at) p f q t in k ∙ ap scalarsSaid (m .long ∙ ap lengthBy z) ∙ sym (ap (described start) z)
 
 pub series-here : {text : List ℕ} {at : ℕ} → MapAt text at → {b : Bool} → Asked b "CIFTI_INDEX_TYPE_BRAIN_MODELS" (the text at) → b ≡ false
     → {c : Bool} → Asked c "CIFTI_INDEX_TYPE_SERIES" (the text at) → c ≡ true → SeriesAt text at
@@ -133,20 +133,23 @@ module _ {text : List ℕ} {maps : Maps} {start i : ℕ} {r : Said} (go : Saying
 
   module _ (u : i < maps .count) where
     pub saying-place : i < length (maps .at)
-    saying-place = let t = go .room-in .ready .three in let f = go .room-in .ready .few in omega arith
+    saying-place = room-place (go .room-in) u
+
+    pub saying-length : i < length (maps .length)
+    saying-length = room-length (go .room-in) u
 
     pub saying-room : i < length (r .each)
     saying-room = let t = go .three in let f = go .room-in .ready .few in omega arith
 
-    pub saying-map : MapAt text (getD (maps .at) i 0)
-    saying-map = record { stands = go .room-in .ready .stand i u; good = go .room-in .ready .good i u; short = go .room-in .short }
+    pub saying-map : Measured text (getD (maps .at) i 0) (getD (maps .length) i 0)
+    saying-map = room-map (go .room-in) u
 
     module _ {said : Dimension} (p : said ≡ described start (contentOf (the text (getD (maps .at) i 0)))) {n : ℕ} (q : n ≡ takes said) where
       taken : n ≡ reach (contentOf (the text (getD (maps .at) i 0)))
       taken = q ∙ ap takes p ∙ takes-described start (contentOf (the text (getD (maps .at) i 0)))
 
       pub saying-fits : start + n < 2 ^ 64
-      saying-fits = let t = taken in let m = reach-most saying-map in let l = go .low in let w = go .within in omega arith
+      saying-fits = let t = taken in let m = reach-most (saying-map .map) in let l = go .low in let w = go .within in omega arith
 
       pub saying-more : {s : Said} → s .each ≡ set (r .each) i said → Saying text maps (start + n) (i + 1) s
       unfolding startOf
@@ -155,7 +158,7 @@ module _ {text : List ℕ} {maps : Maps} {start i : ℕ} {r : Said} (go : Saying
         three = ap length e ∙ length-set (r .each) i said ∙ go .three;
         within = let f = go .room-in .ready .few in omega arith;
         start-is = let t = taken in let b = go .start-is in rw (add-one i) (omega arith);
-        low = let t = taken in let m = reach-most saying-map in let l = go .low in omega arith;
+        low = let t = taken in let m = reach-most (saying-map .map) in let l = go .low in omega arith;
         says = λ z j v. (rw e (by z j v (ℕ-discrete j i)));
       }
         where
@@ -163,7 +166,7 @@ module _ {text : List ℕ} {maps : Maps} {start i : ℕ} {r : Said} (go : Saying
           by z j v (yes x) = rw x (getD-set-same (r .each) i said z saying-room ∙ p ∙ ap (λ k. described k (contentOf (the text (getD (maps .at) i 0)))) (go .start-is))
           by z j v (no x) = getD-set-other (r .each) i j said z x ∙ go .says z j (omega arith)
 
-pub ruleset saying = (saying-start, saying-done, saying-place, saying-room, saying-map, saying-fits, saying-more, needs)
+pub ruleset saying = (saying-start, saying-done, saying-place, saying-length, saying-room, saying-map, saying-fits, saying-more, needs)
 
 -- ---- The map that lists a dimension.
 
@@ -191,7 +194,7 @@ module _ {text : List ℕ} {maps : Maps} {all : Said} {d : ℕ} where
 
     module _ (u : i < maps .count) where
       pub picking-place : i < length (maps .at)
-      picking-place = let t = ready .three in let f = ready .few in omega arith
+      picking-place = room-place (go .choosing .room-in) u
 
       pub picking-room : i < length (all .each)
       picking-room = let t = go .choosing .said .three in let f = ready .few in omega arith

@@ -33,6 +33,12 @@ pub data AllGood (r : List (ChildRow ElementKind)) : List Element → Type 0 whe
   none-left : AllGood r []
   one-good : {e : Element} {l : List Element} → GoodAs r e → AllGood r l → AllGood r (e ∷ l)
 
+pub good-head : {r : List (ChildRow ElementKind)} {e : Element} {l : List Element} → AllGood r (e ∷ l) → GoodAs r e
+good-head (one-good g h) = g
+
+pub good-tail : {r : List (ChildRow ElementKind)} {e : Element} {l : List Element} → AllGood r (e ∷ l) → AllGood r l
+good-tail (one-good g h) = h
+
 module _ {k : ElementKind} {e : Element} (g : Good k e) where
   pub shape-here : shaped (rows k) (attributesOf e) (contentsOf e) ≡ true
   shape-here = and-left _ _ (sym (walk-step rows shaped k e) ∙ g .shape)

@@ -61,10 +61,10 @@ pub data GoodMap (e : Element) : Type 0 where
   series-map : Good series e → has "IndicesMapToDataType" "CIFTI_INDEX_TYPE_BRAIN_MODELS" e ≡ false → has "IndicesMapToDataType" "CIFTI_INDEX_TYPE_SERIES" e ≡ true → GoodMap e
   scalars-map : Good scalars e → has "IndicesMapToDataType" "CIFTI_INDEX_TYPE_BRAIN_MODELS" e ≡ false → has "IndicesMapToDataType" "CIFTI_INDEX_TYPE_SERIES" e ≡ false → GoodMap e
 
-never-some : {A : Type 0} {a : A} {P : Type 0} → _≡_ {A = Option A} Option.none (some a) → P
+pub never-some : {A : Type 0} {a : A} {P : Type 0} → _≡_ {A = Option A} Option.none (some a) → P
 never-some p = absurd (let z : _≡_ {A = ℕ} 0 1 = cc in omega arith)
 
-has-value : (a s : String) (e : Element) (v : Word) → valueIn a (attributesOf e) ≡ some v → has a s e ≡ is s v
+pub has-value : (a s : String) (e : Element) (v : Word) → valueIn a (attributesOf e) ≡ some v → has a s e ≡ is s v
 unfolding has attr orEmpty
 has-value a s e v p = rw p
 
@@ -90,26 +90,38 @@ model-volume : is "BrainModel" (ascii "Volume") ≡ false
 unfolding is same
 model-volume = refl
 
-pub good-map : (e : Element) → GoodAs matrixRows e → is "MatrixIndicesMap" (nameOf e) ≡ true → GoodMap e
+-- the word that chooses the kind of a map
+pub record MapWord (e : Element) (k : ElementKind) : Type 0 where
+  pub word : Word
+  pub said : valueIn "IndicesMapToDataType" (attributesOf e) ≡ some word
+  pub chooses : kindChosen mapKinds (some word) ≡ some k
+
+pub map-word : (e : Element) {k : ElementKind} → kindOf matrixRows e ≡ some k → is "MatrixIndicesMap" (nameOf e) ≡ true → MapWord e k
 unfolding kindOf kindBy
-good-map e (good-as {k} q g) n = go (valueIn "IndicesMapToDataType" (attributesOf e)) refl at
+map-word e {k} q n = go (valueIn "IndicesMapToDataType" (attributesOf e)) refl (rw (not-both "MatrixIndicesMap" "MetaData" (nameOf e) n meta-map, n) at q)
   where
-    at : kindChosen mapKinds (valueIn "IndicesMapToDataType" (attributesOf e)) ≡ some k
-    at = rw (not-both "MatrixIndicesMap" "MetaData" (nameOf e) n meta-map, n) at q
-
-    by : (v : Word) → (s : String) → valueIn "IndicesMapToDataType" (attributesOf e) ≡ some v → has "IndicesMapToDataType" s e ≡ is s v
-    by v s p = has-value "IndicesMapToDataType" s e v p
-
-    pick : (v : Word) → valueIn "IndicesMapToDataType" (attributesOf e) ≡ some v → (a b c : Bool) → is "CIFTI_INDEX_TYPE_BRAIN_MODELS" v ≡ a → is "CIFTI_INDEX_TYPE_SERIES" v ≡ b
-        → cond a (some brainModels) (cond b (some series) (cond c (some scalars) Option.none)) ≡ some k → GoodMap e
-    pick v p true b c x y r = let z : k ≡ brainModels = cc in brain-map (subst (λ (j : ElementKind). Good j e) z g) (by v _ p ∙ x)
-    pick v p false true c x y r = let z : k ≡ series = cc in series-map (subst (λ (j : ElementKind). Good j e) z g) (by v _ p ∙ x) (by v _ p ∙ y)
-    pick v p false false true x y r = let z : k ≡ scalars = cc in scalars-map (subst (λ (j : ElementKind). Good j e) z g) (by v _ p ∙ x) (by v _ p ∙ y)
-    pick v p false false false x y r = never-some r
-
-    go : (o : Option Word) → valueIn "IndicesMapToDataType" (attributesOf e) ≡ o → kindChosen mapKinds o ≡ some k → GoodMap e
+    go : (o : Option Word) → valueIn "IndicesMapToDataType" (attributesOf e) ≡ o → kindChosen mapKinds o ≡ some k → MapWord e k
     go Option.none p r = never-some (rw chosen-none at r)
-    go (some v) p r = pick v p (is "CIFTI_INDEX_TYPE_BRAIN_MODELS" v) (is "CIFTI_INDEX_TYPE_SERIES" v) (is "CIFTI_INDEX_TYPE_SCALARS" v) refl refl (rw chosen-map at r)
+    go (some v) p r = record { word = v; said = p; chooses = r }
+
+pub good-map : (e : Element) → GoodAs matrixRows e → is "MatrixIndicesMap" (nameOf e) ≡ true → GoodMap e
+good-map e (good-as {k} q g) n = pick (is "CIFTI_INDEX_TYPE_BRAIN_MODELS" v) (is "CIFTI_INDEX_TYPE_SERIES" v) (is "CIFTI_INDEX_TYPE_SCALARS" v) refl refl (rw chosen-map at (w .chooses))
+  where
+    w : MapWord e k
+    w = map-word e q n
+
+    v : Word
+    v = w .word
+
+    by : (s : String) → has "IndicesMapToDataType" s e ≡ is s v
+    by s = has-value "IndicesMapToDataType" s e v (w .said)
+
+    pick : (a b c : Bool) → is "CIFTI_INDEX_TYPE_BRAIN_MODELS" v ≡ a → is "CIFTI_INDEX_TYPE_SERIES" v ≡ b
+        → cond a (some brainModels) (cond b (some series) (cond c (some scalars) Option.none)) ≡ some k → GoodMap e
+    pick true b c x y r = let z : k ≡ brainModels = cc in brain-map (subst (λ (j : ElementKind). Good j e) z g) (by _ ∙ x)
+    pick false true c x y r = let z : k ≡ series = cc in series-map (subst (λ (j : ElementKind). Good j e) z g) (by _ ∙ x) (by _ ∙ y)
+    pick false false true x y r = let z : k ≡ scalars = cc in scalars-map (subst (λ (j : ElementKind). Good j e) z g) (by _ ∙ x) (by _ ∙ y)
+    pick false false false x y r = never-some r
 
 pub data GoodModel (e : Element) : Type 0 where
   surface-model : Good surface e → has "ModelType" "CIFTI_MODEL_TYPE_VOXELS" e ≡ false → GoodModel e

@@ -14,12 +14,12 @@ use Rattle.lists.specs.Lists.{any, count, each}
 use Rattle.grammar.specs.Document.{Element}
 use Rattle.grammar.specs.Look.{attr}
 use Rattle.nodes.specs.Places.{Stands, the}
-use Rattle.cifti.specs.Maps.{Map, mapOf, dimensionsOf, lengthOf}
+use Rattle.cifti.specs.Maps.{Map, mapOf, dimensionsOf}
 use Rattle.cifti.specs.Conditions.{lengthWrong}
 use Rattle.maps.specs.Kinds.{GoodMap, map-dimensions}
 use Rattle.maps.specs.Dimensions.{Small, values-small}
 use Rattle.maps.specs.Listed.{any-some, any-none}
-use Rattle.maps.specs.Sums.{MapAt}
+use Rattle.maps.specs.Sums.{MapAt, Measured}
 use Rattle.maps.specs.Ready.{Ready, mapsAt}
 use Rattle.maps.specs.Digits.{Askable, from, from-all, from-none, from-one}
 use Rattle.maps.specs.declared.survey.Maps.{Maps}
@@ -104,6 +104,20 @@ pub record InRoom (text : List ℕ) (maps : Maps) : Type 0 where
   pub ready : Ready text maps
   pub short : length text ≤ 16777216
 
+-- the i-th map, and its length
+module _ {text : List ℕ} {maps : Maps} (room : InRoom text maps) {i : ℕ} (u : i < maps .count) where
+  pub room-map : Measured text (getD (maps .at) i 0) (getD (maps .length) i 0)
+  room-map = record {
+    map = record { stands = room .ready .stand i u; good = room .ready .good i u; short = room .short };
+    long = room .ready .lengths i u;
+  }
+
+  pub room-place : i < length (maps .at)
+  room-place = let t = room .ready .three in let f = room .ready .few in omega arith
+
+  pub room-length : i < length (maps .length)
+  room-length = let t = room .ready .three-lengths in let f = room .ready .few in omega arith
+
 pub record Agreeing (text : List ℕ) (maps : Maps) (lengths : List ℕ) (i : ℕ) : Type 0 where
   pub room : InRoom text maps
   pub so-far : lengthWrong lengths (mapsAt text maps) ≡ lengthWrong lengths (from text maps i)
@@ -119,15 +133,18 @@ module _ {text : List ℕ} {maps : Maps} where
 
     module _ (u : i < maps .count) where
       pub agreeing-place : i < length (maps .at)
-      agreeing-place = let t = go .room .ready .three in let f = go .room .ready .few in omega arith
+      agreeing-place = room-place (go .room) u
+
+      pub agreeing-length : i < length (maps .length)
+      agreeing-length = room-length (go .room) u
 
       pub agreeing-map : MapAt text (getD (maps .at) i 0)
-      agreeing-map = record { stands = go .room .ready .stand i u; good = go .room .ready .good i u; short = go .room .short }
+      agreeing-map = room-map (go .room) u .map
 
-      module _ {size : ℕ} (p : size ≡ lengthOf (mapOf (the text (getD (maps .at) i 0)))) {b : Bool} (q : b ≡ differs size lengths (dimensionsOf (the text (getD (maps .at) i 0)))) where
+      module _ {b : Bool} (q : b ≡ differs (getD (maps .length) i 0) lengths (dimensionsOf (the text (getD (maps .at) i 0)))) where
         split : lengthWrong lengths (mapsAt text maps) ≡ (b || lengthWrong lengths (from text maps (i + 1)))
         unfolding lengthWrong any differs mapOf
-        split = go .so-far ∙ ap (lengthWrong lengths) (from-one (go .room .ready) i u) ∙ ap (λ t. t || lengthWrong lengths (from text maps (i + 1))) (sym (q ∙ ap (λ n. any (λ d. not (eqb n (getD lengths d 0))) (dimensionsOf (the text (getD (maps .at) i 0)))) p))
+        split = go .so-far ∙ ap (lengthWrong lengths) (from-one (go .room .ready) i u) ∙ ap (λ t. t || lengthWrong lengths (from text maps (i + 1))) (sym (q ∙ ap (λ n. any (λ d. not (eqb n (getD lengths d 0))) (dimensionsOf (the text (getD (maps .at) i 0)))) (go .room .ready .lengths i u)))
 
         pub agreeing-wrong : b ≡ true → true ≡ lengthWrong lengths (mapsAt text maps)
         agreeing-wrong t = sym (rw t at split)
@@ -135,4 +152,4 @@ module _ {text : List ℕ} {maps : Maps} where
         pub agreeing-more : b ≡ false → Agreeing text maps lengths (i + 1)
         agreeing-more f = record { room = go .room; so-far = rw f at split }
 
-pub ruleset agreeing = (agreeing-start, agreeing-done, agreeing-place, agreeing-map, agreeing-wrong, agreeing-more, needs)
+pub ruleset agreeing = (agreeing-start, agreeing-done, agreeing-place, agreeing-length, agreeing-map, agreeing-wrong, agreeing-more, needs)

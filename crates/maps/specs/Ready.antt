@@ -17,7 +17,7 @@ use Rattle.grammar.specs.Document.{Element}
 use Rattle.grammar.specs.Look.{is, nameOf, attr, contentsOf, elements, children}
 use Rattle.nodes.specs.Places.{Stands, the}
 use Rattle.cifti.specs.Rows.{matrix}
-use Rattle.cifti.specs.Maps.{Map, mapOf, dimensionsOf}
+use Rattle.cifti.specs.Maps.{Map, mapOf, dimensionsOf, lengthOf}
 use Rattle.cifti.specs.Conditions.{listedDimensions, dimensionsWrong}
 use Rattle.maps.specs.Good.{Good, GoodAs, AllGood, none-left, one-good}
 use Rattle.maps.specs.Kinds.{GoodMap, good-map, matrixRows, matrix-children, map-dimensions}
@@ -141,12 +141,14 @@ too-many lengths {l} u g v = go (allBelow n once) refl (any past listed) refl
 unfoldable pub places : Maps → List ℕ
 places r = take (r .count) (r .at)
 
--- the places of at most three good maps
+-- the places of at most three good maps, and their lengths
 pub record Ready (text : List ℕ) (r : Maps) : Type 0 where
   pub three : length (r .at) ≡ 3
   pub few : r .count ≤ 3
   pub stand : (i : ℕ) → i < r .count → Stands text (getD (r .at) i 0)
   pub good : (i : ℕ) → i < r .count → GoodMap (the text (getD (r .at) i 0))
+  pub three-lengths : length (r .length) ≡ 3
+  pub lengths : (i : ℕ) → i < r .count → getD (r .length) i 0 ≡ lengthOf (mapOf (the text (getD (r .at) i 0)))
 
 unfoldable pub mapsAt : List ℕ → Maps → List Map
 mapsAt text r = each (λ p. mapOf (the text p)) (places r)
@@ -165,6 +167,15 @@ unfolding each
 each-twice text [] = refl
 each-twice text (p ∷ l) = ap (λ x. mapOf (the text p) ∷ x) (each-twice text l)
 
+pub met-is : {text : List ℕ} {m : ℕ} {r : Maps} (a : MapsAre text m r) → r .count ≤ 3 → places r ≡ a .met
+unfolding places
+met-is {r = r} a few =
+    let h = a .holds .many in
+    let t = a .holds .places .three in
+    let long : length (take (r .count) (r .at)) ≡ r .count = length-take-le (r .count) (r .at) (omega arith) in
+    ext-getD 0 (take (r .count) (r .at)) (a .met) (omega arith)
+    (λ i u. let v : i < r .count = omega arith in getD-take (r .count) (r .at) i 0 v ∙ a .holds .places .kept i (omega arith) (omega arith))
+
 module _ {text : List ℕ} {m : ℕ} {r : Maps} (a : MapsAre text m r) (g : Good matrix (the text m)) where
   maps-good : GoodMaps (each (the text) (a .met))
   maps-good = rw (a .are) at (good-maps g)
@@ -182,24 +193,23 @@ module _ {text : List ℕ} {m : ℕ} {r : Maps} (a : MapsAre text m r) (g : Good
       too-many lengths u (good-maps g) w
 
   module _ (few : r .count ≤ 3) where
-    met-is : places r ≡ a .met
-    unfolding places
-    met-is =
-        let h = a .holds .many in
-        let t = a .holds .three in
-        let long : length (take (r .count) (r .at)) ≡ r .count = length-take-le (r .count) (r .at) (omega arith) in
-        ext-getD 0 (take (r .count) (r .at)) (a .met) (omega arith)
-        (λ i u. let v : i < r .count = omega arith in getD-take (r .count) (r .at) i 0 v ∙ a .holds .places i (omega arith) (omega arith))
+    below : (i : ℕ) → i < r .count → i < length (a .met)
+    below i u = let h = a .holds .many in omega arith
+
+    place : (i : ℕ) → i < r .count → getD (r .at) i 0 ≡ getD (a .met) i 0
+    place i u = a .holds .places .kept i (omega arith) (below i u)
 
     -- at most three: they are ready, and they are the maps of the matrix
     pub maps-ready : Ready text r
-    maps-ready = let h = a .holds .many in record {
-      three = a .holds .three;
+    maps-ready = record {
+      three = a .holds .places .three;
       few = few;
-      stand = λ i u. (let p : getD (r .at) i 0 ≡ getD (a .met) i 0 = a .holds .places i (omega arith) (omega arith) in rw p (stand-at (a .stand) i (omega arith)));
-      good = λ i u. (let p : getD (r .at) i 0 ≡ getD (a .met) i 0 = a .holds .places i (omega arith) (omega arith) in rw p (good-at text (a .met) maps-good i (omega arith)));
+      stand = λ i u. rw (place i u) (stand-at (a .stand) i (below i u));
+      good = λ i u. rw (place i u) (good-at text (a .met) maps-good i (below i u));
+      three-lengths = a .holds .lengths .three;
+      lengths = λ i u. rw (place i u) (a .holds .lengths .kept i (omega arith) (below i u));
     }
 
     pub maps-same : mapsAt text r ≡ mapsIn (the text m)
     unfolding mapsAt mapsIn
-    maps-same = ap (each (λ p. mapOf (the text p))) met-is ∙ sym (each-twice text (a .met)) ∙ ap (each mapOf) (sym (a .are))
+    maps-same = ap (each (λ p. mapOf (the text p))) (met-is a few) ∙ sym (each-twice text (a .met)) ∙ ap (each mapOf) (sym (a .are))

@@ -6,28 +6,41 @@ use Prim.Native.Nat.{ℕ, zero, suc, _+_, _*_, _-_, _^_, _≤_, _<_}
 use Prim.Native.String.{String}
 use native.Mathlib.Omega.{arith}
 use lib.Dec.{leb}
-use lib.ListN.{length}
+use lib.ListN.{length, drop, length-drop}
 use borrow.Author.Needs.{needs}
 use borrow.Author.Tests.{leb-true}
-use Rattle.lists.specs.Lists.{total, each, those}
-use Rattle.grammar.specs.Bytes.{ascii, between}
+use Rattle.lists.specs.Lists.{all, total, each, those}
+use Rattle.grammar.specs.Bytes.{ascii, between, blank}
 use Rattle.grammar.specs.Document.{Element}
 use Rattle.grammar.specs.Facts.{and-left, and-right, within}
 use Rattle.grammar.specs.Parser.{same}
 use Rattle.grammar.specs.Look.{Word, is, nameOf, attr, has, contentsOf, elements, children}
 use Rattle.numbers.specs.Numbers.{digits, whole, value}
-use Rattle.nodes.specs.Places.{Stands, the}
+use Rattle.nodes.specs.Places.{Stands, the, Tail, tail-of, tail-more}
 use Rattle.nodes.specs.Children.{first, next, left}
+use Rattle.nodes.specs.Scan.{skip-at, skip-less, leave-at}
+use Rattle.nodes.specs.Skip.{skip-element}
+use Rattle.nodes.specs.Leaving.{Behind, next-behind}
+use Rattle.nodes.specs.Says.{says}
+use Rattle.nodes.specs.Texts.{text-of}
+use Rattle.nodes.specs.Ahead.{ahead-at, first-ahead}
+use Rattle.nodes.specs.Facing.{Facing, facing, facing-first, Met, facing-child, facing-end, facing-stray, left-ahead, facing-left, behind-leaves}
+use Rattle.nodes.specs.declared.ahead.Ahead.{Ahead}
+use Rattle.nodes.specs.declared.ahead.Ahead.the-variants as ahead-is
+use Rattle.tokens.specs.Step.{stepped}
+use Rattle.tokens.specs.declared.Step.{Step}
+use Rattle.tokens.specs.declared.Step.the-variants.{To, No}
+use Rattle.grammar.specs.Read.{Read, got, ok-got}
 use Rattle.nodes.specs.Names.{named, name-is-law}
 use Rattle.nodes.specs.Walk.{kids, Walk, Turn, walk-children, kids-children, walk-none, turn-at, turn-splits, turn-falls, left-fits}
 use Rattle.nodes.specs.declared.Kid.{Kid}
-use Rattle.nodes.specs.declared.Kid.the-variants.{Child, Done}
 use Rattle.cifti.specs.Rows.{brainModels, series, scalars}
 use Rattle.cifti.specs.Maps.{Model, Map, mapOf, modelOf, contentOf, seriesOf, lengthOf, lengthBy, brain}
 use Rattle.maps.specs.Good.{Good, GoodAs, AllGood, none-left, one-good}
 use Rattle.maps.specs.Kinds.{GoodMap, brain-map, series-map, scalars-map, GoodModel, good-model, brainRows, scalarRows, brain-children, scalars-children, model-facts, series-facts}
 use Rattle.maps.specs.Fields.{wordAt, word-at, numberSeen, number-seen, orZero}
 use Rattle.numbers.specs.Answers.{wholeIn}
+use Rattle.maps.specs.declared.survey.Measure.{Measure}
 use Rattle.numbers.specs.declared.Whole.the-variants.{Is, No}
 
 -- what a child adds to the length of its map
@@ -75,56 +88,145 @@ pub record InShort (text : List ℕ) (at : ℕ) : Type 0 where
   pub stands : Stands text at
   pub short : length text ≤ 16777216
 
-pub record Summing (text : List ℕ) (at : ℕ) (b : Bool) (n : ℕ) (kid : Kid) : Type 0 where
-  pub walk : Walk text kid
+-- what stands ahead where the element at k ends
+abbrev pub AheadBehind : List ℕ → ℕ → Ahead → Type 0
+AheadBehind text k a = (j : ℕ) → Behind text k j → a ≡ ahead-at true (length text) (drop j text)
+
+-- the sum over the children of the element at a place, and where it ends
+pub record Summed (text : List ℕ) (at : ℕ) (b : Bool) (r : Measure) : Type 0 where
+  pub sum : r .length ≡ total (weightOf b) (elements (contentsOf (the text at)))
+  pub ends : Behind text at (r .behind)
+
+clash : {A : Type 0} → _≡_ {A = ℕ} 0 1 → A
+clash z = absurd (omega arith)
+
+-- an element that stands ends somewhere
+ends-at : {text : List ℕ} {k : ℕ} (st : Stands text k) → Behind text k (length text - length (st .rest))
+ends-at {text} {k} st =
+    let over : skip-at (drop k text) ≡ got tt (st .rest) = skip-element (drop k text) (the text k) (st .rest) (st .reads) in
+    let less = ok-got (rw over at (skip-less (drop k text))) in
+    let tail : Tail text (st .rest) = tail-more (less .front) (st .rest) (less .whole) (tail-of text k) in
+    record { ends = over ∙ ap (got tt) (sym (tail .stands)); inside = omega arith; after = let n = length-drop k text in omega (arith, less .falls) }
+
+-- the code's way to that place
+module _ {text : List ℕ} {k : ℕ} {x : Step} (e : x ≡ stepped (length text) (skip-at (drop k text))) where
+  step-behind : {j : ℕ} → Behind text k j → x ≡ To j
+  unfolding stepped
+  step-behind {j} b = e ∙ rw (b .ends) (ap To (simp length-drop (omega (arith, b .inside))))
+
+  pub behind-found : Stands text k → {j : ℕ} → x ≡ To j → Behind text k j
+  behind-found st {j} h =
+      let b = ends-at st in
+      let same : To (length text - length (st .rest)) ≡ To j = sym (step-behind b) ∙ h in
+      let place : length text - length (st .rest) ≡ j = cc in
+      rw place at b
+
+  pub behind-missing : Stands text k → x ≡ No → Behind text k 0
+  behind-missing st h = let bad : No ≡ To (length text - length (st .rest)) = sym h ∙ step-behind (ends-at st) in clash (cc)
+
+  pub ahead-found : {j : ℕ} → x ≡ To j → {a : Ahead} → a ≡ ahead-at true (length text) (drop j text) → AheadBehind text k a
+  ahead-found {j} h q i b =
+      let same : To i ≡ To j = sym (step-behind b) ∙ h in
+      let place : i ≡ j = cc in
+      rw place q
+
+  pub ahead-missing : x ≡ No → (a : Ahead) → AheadBehind text k a
+  ahead-missing h a i b = let bad : No ≡ To i = sym h ∙ step-behind b in clash (cc)
+
+pub ruleset behind-so = (behind-found, behind-missing, ahead-found, ahead-missing, needs)
+
+pub record Summing (text : List ℕ) (at : ℕ) (b : Bool) (n : ℕ) (ahead : Ahead) : Type 0 where
+  pub stands : Stands text at
   pub short : length text ≤ 16777216
+  pub kid : Kid
+  pub blanks : Bool
+  pub leaves : Read (Unit {0})
+  pub facing : Facing text true blanks leaves kid ahead
+  pub leave-so : skip-at (drop at text) ≡ leaves
+  pub walk : Walk text kid
   pub so-far : total (weightOf b) (elements (contentsOf (the text at))) ≡ n + total (weightOf b) (kids text kid)
   pub room : n + 1048576 * left text kid ≤ 1048576 * length text
 
-pub sum-start : {text : List ℕ} {at : ℕ} (b : Bool) → InShort text at → {kid : Kid} → kid ≡ first text at → Summing text at b 0 kid
-sum-start {text} {at} b i {kid} e =
-    let go : Summing text at b 0 (first text at) = record {
-      walk = walk-children (i .stands);
+pub sum-start : {text : List ℕ} {at : ℕ} (b : Bool) → InShort text at → {ahead : Ahead} → ahead ≡ first-ahead true text at → Summing text at b 0 ahead
+sum-start {text} {at} b i e =
+    rw e (record {
+      stands = i .stands;
       short = i .short;
+      kid = first text at;
+      blanks = all blank (text-of text at);
+      leaves = skip-at (drop at text);
+      facing = facing-first text true at;
+      leave-so = refl;
+      walk = walk-children (i .stands);
       so-far = sym (ap (total (weightOf b)) (kids-children (i .stands))) ∙ omega arith;
       room = let f = left-fits text (first text at) in omega arith;
-    } in
-    rw e go
+    })
 
-module _ {text : List ℕ} {at : ℕ} {b : Bool} {n : ℕ} {kid : Kid} (go : Summing text at b n kid) where
-  pub sum-done : kid ≡ Done → n ≡ total (weightOf b) (elements (contentsOf (the text at)))
+module _ {text : List ℕ} {at : ℕ} {b : Bool} {n : ℕ} {ahead : Ahead} (go : Summing text at b n ahead) where
+  pub sum-done : {j : ℕ} → ahead ≡ ahead-is.End j → Summed text at b (record { length = n; behind = j })
   unfolding total
-  sum-done e = let z : total (weightOf b) (kids text kid) ≡ 0 = rw (walk-none (go .walk) e) in let s = go .so-far in omega arith
+  sum-done {j} e =
+      let o = facing-end (go .facing) e in
+      let z : total (weightOf b) (kids text (go .kid)) ≡ 0 = rw (walk-none (go .walk) (o .no-next)) in
+      let s = go .so-far in
+      record { sum = omega arith; ends = record { ends = go .leave-so ∙ o .ends; inside = o .inside; after = o .after } }
 
-  module _ {k : ℕ} (is-child : kid ≡ Child k) where
+  pub sum-never : ahead ≡ ahead-is.Stray → (r : Measure) → Summed text at b r
+  sum-never e r =
+      let st = go .stands in
+      let (w, _) = facing-stray (go .facing) e (st .rest) (sym (go .leave-so) ∙ skip-element (drop at text) (the text at) (st .rest) (st .reads)) in
+      absurd (true≢false w)
+
+  module _ {k : ℕ} (is-child : ahead ≡ ahead-is.Child k) where
+    met : Met text true (go .blanks) (go .leaves) (go .kid) k
+    met = facing-child (go .facing) is-child
+
     turn : Turn text k
-    turn = turn-at (go .walk) is-child
+    turn = turn-at (go .walk) (met .is-next)
 
     pub sum-stands : Stands text k
     sum-stands = turn .stands
 
-    falls : left text (next text k) < left text kid
-    falls = turn-falls (go .walk) is-child
+    falls : left text (next text k) < left text (go .kid)
+    falls = turn-falls (go .walk) (met .is-next)
 
-    pub sum-less : {kid₁ : Kid} → kid₁ ≡ next text k → left text kid₁ < left text kid
-    sum-less e = rw e falls
+    there : Behind text k (length text - length (turn .stands .rest))
+    there = ends-at (turn .stands)
+
+    onward : {ahead₁ : Ahead} → AheadBehind text k ahead₁ → Facing text true (all blank (says (drop (length text - length (turn .stands .rest)) text))) (leave-at (drop (length text - length (turn .stands .rest)) text)) (next text k) ahead₁
+    onward a = rw (a _ there, next-behind there) (facing text true (length text - length (turn .stands .rest)))
+
+    pub sum-less : {ahead₁ : Ahead} → AheadBehind text k ahead₁ → left-ahead text ahead₁ < left-ahead text ahead
+    unfolding left-ahead left
+    sum-less a = rw is-child (let f = facing-left (onward a) in let d = turn .falls in omega arith)
 
     module _ {w : ℕ} (weighed : Weighed b (the text k) w) where
       pub sum-fits : n + w < 2 ^ 64
-      sum-fits = let f = falls in let m = weighed .most in let r = go .room in let s = go .short in let l = left-fits text kid in omega arith
+      sum-fits = let f = falls in let m = weighed .most in let r = go .room in let s = go .short in let l = left-fits text (go .kid) in omega arith
 
-      pub sum-more : {kid₁ : Kid} → kid₁ ≡ next text k → Summing text at b (n + w) kid₁
+      pub sum-more : {ahead₁ : Ahead} → AheadBehind text k ahead₁ → Summing text at b (n + w) ahead₁
       unfolding total
-      sum-more e =
+      sum-more a =
           let f = falls in
           let m = weighed .most in
           let r = go .room in
           let p = weighed .weighs in
           let s = go .so-far in
-          let split : total (weightOf b) (kids text kid) ≡ weightOf b (the text k) + total (weightOf b) (kids text (next text k)) = ap (total (weightOf b)) (turn-splits (go .walk) is-child) in
-          rw e (record { walk = turn .then; short = go .short; so-far = omega arith; room = omega arith })
+          let split : total (weightOf b) (kids text (go .kid)) ≡ weightOf b (the text k) + total (weightOf b) (kids text (next text k)) = ap (total (weightOf b)) (turn-splits (go .walk) (met .is-next)) in
+          record {
+            stands = go .stands;
+            short = go .short;
+            kid = next text k;
+            blanks = all blank (says (drop (length text - length (turn .stands .rest)) text));
+            leaves = leave-at (drop (length text - length (turn .stands .rest)) text);
+            facing = onward a;
+            leave-so = go .leave-so ∙ met .leaves-so ∙ behind-leaves (turn .stands) there (met .looks);
+            walk = turn .then;
+            so-far = omega arith;
+            room = omega arith;
+          }
 
-pub ruleset summing = (sum-start, sum-done, sum-stands, sum-less, sum-fits, sum-more, needs)
+pub ruleset summing = (sum-start, sum-done, sum-never, sum-stands, sum-less, sum-fits, sum-more, needs)
 
 -- ---- What the sum is.
 
@@ -132,6 +234,20 @@ pub record MapAt (text : List ℕ) (at : ℕ) : Type 0 where
   pub stands : Stands text at
   pub good : GoodMap (the text at)
   pub short : length text ≤ 16777216
+
+-- the length of the map at a place, and where it ends
+pub record Spanned (text : List ℕ) (at : ℕ) (r : Measure) : Type 0 where
+  pub long : r .length ≡ lengthOf (mapOf (the text at))
+  pub ends : Behind text at (r .behind)
+
+pub record SpannedIf (wanted : Bool) (text : List ℕ) (at : ℕ) (r : Measure) : Type 0 where
+  pub long : wanted ≡ true → r .length ≡ lengthOf (mapOf (the text at))
+  pub ends : Behind text at (r .behind)
+
+-- a map stands there, and n is its length
+pub record Measured (text : List ℕ) (at n : ℕ) : Type 0 where
+  pub map : MapAt text at
+  pub long : n ≡ lengthOf (mapOf (the text at))
 
 model-count : (e : Element) → GoodModel e → numberSeen 1 1048576 (wordAt (ascii "IndexCount") e) ≡ (modelOf e) .count
 unfolding modelOf
@@ -193,7 +309,7 @@ module _ {text : List ℕ} {at : ℕ} (m : MapAt text at) where
       is-series : c ≡ has "IndicesMapToDataType" "CIFTI_INDEX_TYPE_SERIES" (the text at)
       is-series = kind-is "CIFTI_INDEX_TYPE_SERIES" (the text at) (ascii "CIFTI_INDEX_TYPE_SERIES") refl q
 
-      pub length-series : c ≡ true → {n : ℕ} → n ≡ numberSeen 1 1048576 (wordAt (ascii "NumberOfSeriesPoints") (the text at)) → n ≡ lengthOf (mapOf (the text at))
+      length-series : c ≡ true → {n : ℕ} → n ≡ numberSeen 1 1048576 (wordAt (ascii "NumberOfSeriesPoints") (the text at)) → n ≡ lengthOf (mapOf (the text at))
       unfolding lengthOf lengthBy mapOf contentOf seriesOf
       length-series t {n} r = go (m .good)
         where
@@ -203,8 +319,24 @@ module _ {text : List ℕ} {at : ℕ} (m : MapAt text at) where
               rw (h, i) (r ∙ ap (numberSeen 1 1048576) (word-at "NumberOfSeriesPoints" (the text at)) ∙ number-seen 1 1048576 (attr "NumberOfSeriesPoints" (the text at)) (series-facts g .points))
           go (scalars-map g h i) = absurd (true≢false (sym (sym is-series ∙ t) ∙ i))
 
-      pub length-scalars : c ≡ false → {n : ℕ} → n ≡ total (weightOf false) (elements (contentsOf (the text at))) → n ≡ lengthOf (mapOf (the text at))
+      length-scalars : c ≡ false → {n : ℕ} → n ≡ total (weightOf false) (elements (contentsOf (the text at))) → n ≡ lengthOf (mapOf (the text at))
       unfolding lengthOf lengthBy mapOf contentOf children
       length-scalars t r = rw (no-brain, sym is-series ∙ t) (r ∙ names-total (elements (contentsOf (the text at))))
 
-pub ruleset measuring = (in-short, map-stands, length-brain, length-series, length-scalars, needs)
+    pub span-brain : b ≡ true → {r : Measure} → Summed text at true r → Spanned text at r
+    span-brain t s = record { long = length-brain t (s .sum); ends = s .ends }
+
+    module _ (f : b ≡ false) {c : Bool} (q : c ≡ same (wordAt (ascii "IndicesMapToDataType") (the text at)) (ascii "CIFTI_INDEX_TYPE_SERIES")) where
+      pub span-series : c ≡ true → {n : ℕ} → n ≡ numberSeen 1 1048576 (wordAt (ascii "NumberOfSeriesPoints") (the text at)) → {j : ℕ} → Behind text at j → Spanned text at (record { length = n; behind = j })
+      span-series t e b₀ = record { long = length-series f q t e; ends = b₀ }
+
+      pub span-scalars : c ≡ false → {r : Measure} → Summed text at false r → Spanned text at r
+      span-scalars t s = record { long = length-scalars f q t (s .sum); ends = s .ends }
+
+  pub span-wanted : {w : Bool} → w ≡ true → {r : Measure} → Spanned text at r → SpannedIf w text at r
+  span-wanted t s = record { long = λ _. s .long; ends = s .ends }
+
+  pub span-unwanted : {w : Bool} → w ≡ false → {j : ℕ} → Behind text at j → SpannedIf w text at (record { length = 0; behind = j })
+  span-unwanted f b = record { long = λ t. absurd (true≢false (sym t ∙ f)); ends = b }
+
+pub ruleset measuring = (in-short, map-stands, span-brain, span-series, span-scalars, span-wanted, span-unwanted, needs)

@@ -1,6 +1,8 @@
 -- Conditions 4 and 5: the root, and the kinds of maps that are not read.
 use mathlib.Core.Path.{_≡_, refl, sym, ap, _∙_}
 use mathlib.Core.List.{List, [], _∷_, _++_}
+use mathlib.Core.Option.{some}
+use mathlib.Core.Option
 use mathlib.Core.Bool.{Bool, true, false, cond, not, _||_, _&&_}
 use Prim.Native.Nat.{ℕ, _<_}
 use Prim.Native.String.{String}
@@ -10,7 +12,7 @@ use Rattle.lists.specs.Laws.{any-in}
 use Rattle.grammar.specs.Bytes.{ascii}
 use Rattle.grammar.specs.Document.{Element}
 use Rattle.grammar.specs.Parser.{same}
-use Rattle.grammar.specs.Look.{is, nameOf, attr, has, contentsOf, elements, children}
+use Rattle.grammar.specs.Look.{Word, is, nameOf, attr, has, contentsOf, elements, children}
 use Rattle.nodes.specs.Places.{Stands, the}
 use Rattle.nodes.specs.Children.{first, next, left}
 use Rattle.nodes.specs.Names.{named, name-is-law}
@@ -24,6 +26,10 @@ use Rattle.nodes.specs.declared.Kid.{Kid}
 use Rattle.nodes.specs.declared.Kid.the-variants.{Child, Done}
 use Rattle.cifti.specs.Maps.{mapElements}
 use Rattle.cifti.specs.Conditions.{rootWrong, kindNotRead}
+use Rattle.schema.specs.Schema.{kindOf, kindBy, kindChosen, kindAmong}
+use Rattle.cifti.specs.Rows.{ElementKind, cifti, brainModels, series, scalars, mapKinds}
+use Rattle.maps.specs.Good.{Good, GoodAs, good-as, AllGood, none-left, one-good}
+use Rattle.maps.specs.Kinds.{not-both, matrixRows, matrix-children, root-child, never-some, has-value, map-word}
 use Rattle.maps.specs.Fields.{wordAt, word-at}
 
 -- what `attribute_is` says, of words given in letters
@@ -148,3 +154,41 @@ matrix-is e h = h
 
 pub root-is : (e : Element) {b : Bool} → b ≡ any anyNotRead (children "Matrix" e) → b ≡ kindNotRead e
 root-is e h = h ∙ sym (not-read-by e)
+
+-- ---- A root that passes 6 and 7 has no such map: no kind is chosen by their words.
+
+unread-apart : (v : Word) (s : String) → is s v ≡ true → is "CIFTI_INDEX_TYPE_PARCELS" (ascii s) ≡ false → is "CIFTI_INDEX_TYPE_LABELS" (ascii s) ≡ false
+    → (is "CIFTI_INDEX_TYPE_PARCELS" v || is "CIFTI_INDEX_TYPE_LABELS" v) ≡ false
+unread-apart v s h p l = rw (not-both s "CIFTI_INDEX_TYPE_PARCELS" v h p, not-both s "CIFTI_INDEX_TYPE_LABELS" v h l)
+
+chosen-read : (v : Word) {k : ElementKind} → kindChosen mapKinds (some v) ≡ some k → (is "CIFTI_INDEX_TYPE_PARCELS" v || is "CIFTI_INDEX_TYPE_LABELS" v) ≡ false
+unfolding kindChosen kindAmong mapKinds is same
+chosen-read v {k} h = go (is "CIFTI_INDEX_TYPE_BRAIN_MODELS" v) (is "CIFTI_INDEX_TYPE_SERIES" v) (is "CIFTI_INDEX_TYPE_SCALARS" v) refl refl refl h
+  where
+    go : (a b c : Bool) → is "CIFTI_INDEX_TYPE_BRAIN_MODELS" v ≡ a → is "CIFTI_INDEX_TYPE_SERIES" v ≡ b → is "CIFTI_INDEX_TYPE_SCALARS" v ≡ c
+        → cond a (some brainModels) (cond b (some series) (cond c (some scalars) Option.none)) ≡ some k → (is "CIFTI_INDEX_TYPE_PARCELS" v || is "CIFTI_INDEX_TYPE_LABELS" v) ≡ false
+    go true b c x y z r = unread-apart v "CIFTI_INDEX_TYPE_BRAIN_MODELS" x refl refl
+    go false true c x y z r = unread-apart v "CIFTI_INDEX_TYPE_SERIES" y refl refl
+    go false false true x y z r = unread-apart v "CIFTI_INDEX_TYPE_SCALARS" z refl refl
+    go false false false x y z r = never-some r
+
+map-read : (e : Element) → GoodAs matrixRows e → is "MatrixIndicesMap" (nameOf e) ≡ true → notRead e ≡ false
+unfolding notRead
+map-read e (good-as q g) n =
+    let w = map-word e q n in
+    rw (has-value "IndicesMapToDataType" "CIFTI_INDEX_TYPE_PARCELS" e (w .word) (w .said), has-value "IndicesMapToDataType" "CIFTI_INDEX_TYPE_LABELS" e (w .word) (w .said)) (chosen-read (w .word) (w .chooses))
+
+maps-read : (l : List Element) → AllGood matrixRows l → any notRead (those (λ e. is "MatrixIndicesMap" (nameOf e)) l) ≡ false
+unfolding any those
+maps-read [] none-left = refl
+maps-read (e ∷ l) (one-good h m) = some-one "MatrixIndicesMap" notRead e l ∙ go (is "MatrixIndicesMap" (nameOf e)) refl (maps-read l m)
+  where
+    go : (b : Bool) → is "MatrixIndicesMap" (nameOf e) ≡ b → any notRead (those (λ d. is "MatrixIndicesMap" (nameOf d)) l) ≡ false → ((b && notRead e) || any notRead (those (λ d. is "MatrixIndicesMap" (nameOf d)) l)) ≡ false
+    go true n ih = rw (map-read e h n, ih)
+    go false n ih = ih
+
+pub all-read : {e : Element} → Good cifti e → kindNotRead e ≡ false
+unfolding anyNotRead children those any
+all-read {e} g =
+    let only = root-child g in
+    not-read-by e ∙ rw (only .alone, only .name, maps-read (elements (contentsOf (only .one))) (matrix-children (only .good)))

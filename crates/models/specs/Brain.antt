@@ -18,7 +18,7 @@ use Rattle.nodes.specs.declared.Kid.{Kid}
 use Rattle.nodes.specs.declared.Kid.the-variants.{Child, Done}
 use Rattle.cifti.specs.Rows.{brainModels}
 use Rattle.cifti.specs.Maps.{brain, modelOf, sizesOf, contentOf, mapOf, models, modelsBy, volumeOf, volumeBy, lengthBy}
-use Rattle.maps.specs.Good.{Good, GoodAs, AllGood, one-good}
+use Rattle.maps.specs.Good.{Good, GoodAs, AllGood, good-head, good-tail}
 use Rattle.maps.specs.Kinds.{brainRows, GoodModel, good-model, brain-children}
 
 pub record BrainAt (text : List ℕ) (map : ℕ) : Type 0 where
@@ -62,12 +62,6 @@ pub record Among (text : List ℕ) (kid : Kid) : Type 0 where
 
 pub among-start : {text : List ℕ} {map : ℕ} → BrainAt text map → Among text (first text map)
 among-start b = record { walk = walk-children (b .stands); good = rw (kids-children (b .stands)) (brain-children (b .good)) }
-
-good-head : {e : Element} {l : List Element} → AllGood brainRows (e ∷ l) → GoodAs brainRows e
-good-head (one-good g h) = g
-
-good-tail : {e : Element} {l : List Element} → AllGood brainRows (e ∷ l) → AllGood brainRows l
-good-tail (one-good g h) = h
 
 module _ {text : List ℕ} {kid : Kid} (a : Among text kid) {k : ℕ} (is-child : kid ≡ Child k) where
   pub among-stands : Stands text k

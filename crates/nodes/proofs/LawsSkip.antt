@@ -25,7 +25,7 @@ use Rattle.nodes.specs.declared.scan.Sign.{Sign}
 use Rattle.nodes.specs.declared.scan.Sign.the-variants as sign-is
 use Rattle.nodes.proofs.LawsScan.{looks-close, looks-comment, looks-start, looks-text}
 
-clash : {A : Type 0} → _≡_ {A = ℕ} 0 1 → A
+pub clash : {A : Type 0} → _≡_ {A = ℕ} 0 1 → A
 clash z = absurd (omega arith)
 
 pub place : (text : List ℕ) (k : ℕ) → k ≤ length text → length text - length (drop k text) ≡ k

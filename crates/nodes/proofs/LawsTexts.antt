@@ -139,52 +139,6 @@ module _ (text : List ℕ) (at : ℕ) {f : Front} (ef : f ≡ front (look (drop 
 
 pub ruleset stepping = (step-text, step-close, step-child, step-no-child, step-comment, step-broken, needs)
 
--- NOTHING BUT BLANKS
-pub record Blanking (text : List ℕ) (at i : ℕ) : Type 0 where
-  same-blank : all blank (says (drop at text)) ≡ all blank (says (drop i text))
-
-pub blank-start : (text : List ℕ) (at : ℕ) → Blanking text at at
-blank-start text at = record { same-blank = refl }
-
-module _ (text : List ℕ) (at i : ℕ) (go : Blanking text at i) {a : Text} (ea : a ≡ text-step text i) where
-  pub blank-stop : a ≡ Stop → true ≡ all blank (says (drop at text))
-  unfolding all
-  blank-stop z = sym (go .same-blank ∙ rw (text-stop text i ea z))
-
-  module _ {j : ℕ} (z : a ≡ Skip j) where
-    pub blank-skip : Blanking text at j
-    blank-skip = record { same-blank = go .same-blank ∙ ap (all blank) (text-skip text i ea z .splits) }
-
-    pub blank-skip-less : length text - j < length text - i
-    blank-skip-less = let s = text-skip text i ea z in omega (arith, s .inside-text, s .ahead)
-
-  module _ {b j : ℕ} (z : a ≡ Letter b j) where
-    pub blank-less : length text - j < length text - i
-    blank-less = let s = text-letter text i ea z in omega (arith, s .inside-text, s .ahead)
-
-    one : all blank (says (drop at text)) ≡ (blank b && all blank (says (drop j text)))
-    unfolding all
-    one = go .same-blank ∙ ap (all blank) (text-letter text i ea z .splits)
-
-    module _ {t : Bool} (et : t ≡ blank b) where
-      pub blank-no : not t ≡ true → false ≡ all blank (says (drop at text))
-      blank-no e = sym (one ∙ rw (sym et ∙ not-true t e))
-
-      pub blank-on : not t ≡ false → Blanking text at j
-      blank-on e = record { same-blank = one ∙ rw (sym et ∙ not-false t e) }
-
-pub ruleset blanking = (blank-start, blank-stop, blank-skip, blank-skip-less, blank-less, blank-no, blank-on, needs)
-
-module _ (text : List ℕ) (at : ℕ) {f : Found} (ef : f ≡ inside text at) where
-  pub blank-none : f ≡ Nothing → true ≡ all blank (text-of text at)
-  unfolding all
-  blank-none z = sym (rw (text-none text at (sym ef ∙ z)))
-
-  pub blank-some : {i : ℕ} → f ≡ At i → {r : Bool} → r ≡ all blank (says (drop i text)) → r ≡ all blank (text-of text at)
-  blank-some z w = w ∙ sym (rw (text-some text at (sym ef ∙ z)))
-
-pub ruleset blanks = (blank-none, blank-some, needs)
-
 -- WHAT IS WRITTEN BETWEEN THE TAGS
 record Begins (text : List ℕ) (at i : ℕ) : Type 0 where
   within-text : i ≤ length text

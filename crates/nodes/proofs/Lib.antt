@@ -5,3 +5,4 @@ pub mod LawsNames
 pub mod LawsAttributes
 pub mod LawsValues
 pub mod LawsTexts
+pub mod LawsAhead

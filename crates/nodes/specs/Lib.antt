@@ -6,6 +6,7 @@ pub mod Signs
 pub mod Passing
 pub mod Skip
 pub mod Children
+pub mod Ahead
 pub mod Leaving
 pub mod Walk
 pub mod Names
@@ -15,5 +16,6 @@ pub mod Values
 pub mod Found
 pub mod Says
 pub mod Texts
+pub mod Facing
 pub mod Inside
 pub mod Root

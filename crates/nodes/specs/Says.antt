@@ -116,7 +116,7 @@ says-step s =
     ∙ say-same s (step s) (said-within (length s)) (λ r. said-within (suc (length r)) r) (step-short s) (λ r l. said-enough (length s) (suc (length r)) r (omega arith) (omega arith))
 
 -- a byte of text
-plain : (a : ℕ) (s : List ℕ) → special a ≡ false → says (a ∷ s) ≡ a ∷ says s
+pub plain : (a : ℕ) (s : List ℕ) → special a ≡ false → says (a ∷ s) ≡ a ∷ says s
 unfolding step step-by look look-if referring say special
 plain a s e = rw (says-step (a ∷ s), or-left (eqb a 60) (eqb a 38) e, reference-other a (or-right (eqb a 60) (eqb a 38) e) s)
 
@@ -152,7 +152,7 @@ close-says : (s : List ℕ) → look s ≡ at-close → says s ≡ []
 unfolding step step-by say
 close-says s e = rw (says-step s, e)
 
-child-says : (s r : List ℕ) (x : Element) → look s ≡ at-element → element₁₆ s ≡ got x r → says s ≡ says r
+pub child-says : (s r : List ℕ) (x : Element) → look s ≡ at-element → element₁₆ s ≡ got x r → says s ≡ says r
 unfolding step step-by past say
 child-says s r x e k = rw (says-step s, e, skip-element s x r k)
 

@@ -25,6 +25,7 @@ pub enum Text {
     Stop,
 }
 
+pub mod ahead;
 pub mod attributes;
 pub mod children;
 pub mod names;

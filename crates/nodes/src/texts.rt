@@ -10,15 +10,12 @@ use markup::pieces::front_at;
 use tokens::Step;
 use tokens::characters::Reference;
 use tokens::characters::reference_at;
-use tokens::classes::is_blank;
 use tokens::comments::comment_end;
 ghost use mathlib.Core.Path.{_≡_};
 ghost use lib.ListN.{length, drop};
 ghost use Rattle.grammar.specs.Parser.{at-text};
-ghost use Rattle.grammar.specs.Bytes.{blank};
-ghost use Rattle.lists.specs.Lists.{all};
-ghost use Rattle.nodes.specs.Says.{says, step-by};
-ghost use Rattle.nodes.specs.Texts.{inside, as-text, text-step, text-of};
+ghost use Rattle.nodes.specs.Says.{step-by};
+ghost use Rattle.nodes.specs.Texts.{inside, as-text, text-step};
 ghost use Rattle.nodes.specs.Inside.{within};
 
 // Where the contents of the element at `at` begin; an empty tag has none.
@@ -68,39 +65,6 @@ pub fn text_at(text: &[u8], at: usize) -> Text
             Step::To(j) => Text::Skip(j),
             Step::No => Text::Stop,
         },
-    }
-}
-
-// The text from `at` on has no byte but blanks.
-fn blank_from(text: &[u8], at: usize) -> bool
-    ensures { λ r. ⌜ r ≡ all blank (says (drop at (now (text .entry)))) ⌝ }
-{
-    let mut i = at;
-    loop {
-        match text_at(text, i) {
-            Text::Letter(b, j) => {
-                i = j;
-                if !is_blank(b) {
-                    return false;
-                }
-            }
-            Text::Skip(j) => {
-                i = j;
-            }
-            Text::Stop => {
-                return true;
-            }
-        }
-    }
-}
-
-// The element at `at` has no characters but blanks; those of its children do not count.
-pub fn text_is_blank(text: &[u8], at: usize) -> bool
-    ensures { λ r. ⌜ r ≡ all blank (text-of (now (text .entry)) at) ⌝ }
-{
-    match text_start(text, at) {
-        Found::At(i) => blank_from(text, i),
-        Found::Nothing => true,
     }
 }
 

@@ -35,9 +35,6 @@ listedIn w = cond (dimensionList w) (Is (length (commaValues w))) No
 unfoldable pub betweenIn : (lo hi : ℕ) → Word → Whole
 betweenIn lo hi w = cond (dimensionList w) (Is (count (between lo hi) (commaValues w))) No
 
-unfoldable pub entryIn : ℕ → Word → Whole
-entryIn n w = cond (dimensionList w && ltb n (length (commaValues w))) (Is (getD (commaValues w) n 0)) No
-
 -- three lengths
 unfoldable pub lengthsOf : List ℕ → Lengths
 lengthsOf l = record { i = getD l 0 0; j = getD l 1 0; k = getD l 2 0 }

@@ -1,11 +1,10 @@
 -- Decoded bytes, one after another, from a value or from a text: what stands at a place, all that is ahead, the place behind some of it.
 use mathlib.Core.Path.{_≡_, refl, sym, ap, _∙_}
 use mathlib.Core.List.{List, [], _∷_, _++_}
-use mathlib.Core.Bool.{Bool, true, false, cond, not, _&&_}
-use Prim.Native.Nat.{ℕ, zero, suc, _+_, _*_, _-_, _≤_, _<_}
+use mathlib.Core.Bool.{Bool, true, false, cond}
+use Prim.Native.Nat.{ℕ, zero, suc, _+_, _*_, _-_, _^_, _≤_, _<_}
 use native.Mathlib.Omega.{arith}
-use lib.Dec.{eqb, ltb}
-use lib.ListN.{length, drop, getD}
+use lib.ListN.{length, drop}
 use Rattle.grammar.specs.Bytes.{blank}
 use Rattle.grammar.specs.Look.{Word}
 use Rattle.nodes.specs.Values.{tells, decoded-at, Decodes, decoded-byte, decoded-end}
@@ -76,15 +75,30 @@ pub record Stops (text : List ℕ) (at stop : ℕ) : Type 0 where
   pub near : stop ≤ at + 7
   pub inside : at < stop → stop ≤ length text
 
+-- a place up to which eight bytes and more stand ahead
+pub record EightLeft (text : List ℕ) (last : ℕ) : Type 0 where
+  pub inside : last ≤ length text
+  pub ahead : 0 < last → last + 8 ≤ length text
+  pub fits : last + 8 < 2 ^ 64
+
 -- digits from one place to another
 abbrev pub runOf : (n at next : ℕ) → Run
 runOf n at next = record { value = n; count = next - at; next = next }
 
--- there are digits, and a plain blank stands behind them
-unfoldable pub endsPlain : List ℕ → Run → Bool
-endsPlain text run = not (eqb (run .count) 0) && (ltb (run .next) (length text) && blank (getD text (run .next) 0))
-
--- digits that were read from a place of a text: reading goes on behind them
-pub record Plain (text : List ℕ) (at : ℕ) (run : Run) : Type 0 where
+-- at most seven digits
+pub record Few (run : Run) : Type 0 where
   pub few : run .count ≤ 7
+  pub bound : run .value < 10 ^ run .count
+
+-- digits that were read from a place of a text, up to another: reading goes on behind them
+pub record Plain (text : List ℕ) (at stop : ℕ) (run : Run) : Type 0 where
+  pub seven : Few run
+  pub ahead : at ≤ run .next
+  pub spans : run .count ≡ run .next - at
+  pub within : at ≤ stop → run .next ≤ stop
   pub same : digitsAt Contents text 7 0 0 at ≡ digitsAt Contents text (7 - run .count) (run .value) (run .count) (run .next)
+
+-- no blank stands there; what was read up to `next` are plain digits, if any
+pub record Begun (text : List ℕ) (at value next : ℕ) : Type 0 where
+  pub plain : Plain text at next (runOf value at next)
+  pub starts : leading blank (stream Contents text at) ≡ 0

@@ -1,5 +1,6 @@
 // Numbers, read from decoded characters: the value of an attribute, or the text of an element.
 mod chars;
+mod listed;
 mod written;
 
 use chars::blanks;
@@ -7,8 +8,7 @@ use chars::char_at;
 use chars::digits;
 use chars::letter;
 use chars::signed;
-use chars::wide;
-use chars::word_ends;
+pub use listed::next_number;
 use nodes::Char;
 use written::decimal_at;
 use written::right_at;
@@ -18,13 +18,11 @@ ghost use mathlib.Core.Bool.{Bool, cond};
 ghost use lib.ListN.{length, drop};
 ghost use Rattle.nodes.specs.Values.{value-there};
 ghost use Rattle.nodes.specs.Says.{says};
-ghost use Rattle.nodes.specs.Texts.{text-step};
 ghost use Rattle.numbers.specs.Numbers.{sixteen, withSign, isWhole};
 ghost use Rattle.numbers.specs.Sixteen.{rightAt};
-ghost use Rattle.numbers.specs.Stream.{letterAt, charAt, stream, wordEnds, digitsAt, Plain, Stops, runOf, endsPlain, behind, leading};
-ghost use Rattle.numbers.specs.declared.Source.the-variants.{Contents};
+ghost use Rattle.numbers.specs.Stream.{stream};
 ghost use Rattle.grammar.specs.Bytes.{blank, between};
-ghost use Rattle.numbers.specs.Answers.{wholeIn, listedIn, betweenIn, entryIn, threeIn, exponentIn, exponentFrom, decimalIn, nextNumber, signIf};
+ghost use Rattle.numbers.specs.Answers.{wholeIn, listedIn, betweenIn, threeIn, exponentIn, exponentFrom, decimalIn, signIf};
 ghost use Rattle.numbers.specs.Parted.{Parted};
 ghost use Rattle.numbers.specs.Spelled.{Pointed, Pure, Spelled};
 
@@ -276,111 +274,4 @@ pub fn sixteen_ok(text: &[u8], at: usize) -> bool
         Char::Byte(_, _) => false,
         Char::End => true,
     }
-}
-
-// The place behind the plain blanks at `at`: those that stand in the text as they are.
-fn plain_blanks(text: &[u8], at: usize) -> usize
-    ensures { λ r. ⌜ nextNumber (now (text .entry)) at ≡ nextNumber (now (text .entry)) r ⌝ }
-{
-    let mut i = at;
-    while i < text.len() {
-        if !tokens::classes::is_blank(text[i]) {
-            return i;
-        }
-        i += 1;
-    }
-    i
-}
-
-// The place behind seven bytes from `at` on, nearer where the text ends.
-fn seven_on(text: &[u8], at: usize) -> usize
-    ensures { λ r. ⌜ Stops (now (text .entry)) at r ⌝ }
-{
-    if text.len() <= at {
-        return at;
-    }
-    if text.len() - at < 7 {
-        return text.len();
-    }
-    at + 7
-}
-
-// The plain digits at `at`, at most 7.
-fn plain_digits(text: &[u8], at: usize) -> Run
-    ensures { λ r. ⌜ Plain (now (text .entry)) at r ⌝ }
-{
-    let stop = seven_on(text, at);
-    let mut n: u64 = 0;
-    let mut i = at;
-    while i < stop {
-        let b = text[i];
-        if b < 48 {
-            return run_of(n, at, i);
-        }
-        if 57 < b {
-            return run_of(n, at, i);
-        }
-        n = n * 10 + wide(b - 48);
-        i += 1;
-    }
-    run_of(n, at, i)
-}
-
-fn run_of(n: u64, at: usize, next: usize) -> Run
-    requires { ⌜ at ≤ next ⌝ }
-    ensures { λ r. ⌜ r ≡ runOf n at next ⌝ }
-{
-    Run {
-        value: n,
-        count: (next - at) as u64,
-        next: next,
-    }
-}
-
-// There are digits, and a plain blank stands behind them.
-fn ends_plain(text: &[u8], run: Run) -> bool
-    ensures { λ r. ⌜ r ≡ endsPlain (now (text .entry)) run ⌝ }
-{
-    let j = run.next;
-    if run.count == 0 {
-        return false;
-    }
-    if text.len() <= j {
-        return false;
-    }
-    tokens::classes::is_blank(text[j])
-}
-
-// The next number, whatever stands between the digits.
-fn number_at(text: &[u8], at: usize) -> Next
-    ensures { λ r. ⌜ r ≡ nextNumber (now (text .entry)) at ⌝ }
-{
-    let i = blanks(text, at);
-    let run = digits(text, i, Source::Contents, 7, 0);
-    if run.count == 0 {
-        match letter(text, run.next) {
-            Char::Byte(_, _) => {
-                return Next::Bad;
-            }
-            Char::End => {
-                return Next::End;
-            }
-        }
-    }
-    if word_ends(text, run.next, Source::Contents) {
-        return Next::Number(run.value, run.next);
-    }
-    Next::Bad
-}
-
-// The next number of the list in a text, from `at` on.
-pub fn next_number(text: &[u8], at: usize) -> Next
-    ensures { λ r. ⌜ r ≡ nextNumber (now (text .entry)) at ⌝ }
-{
-    let i = plain_blanks(text, at);
-    let run = plain_digits(text, i);
-    if ends_plain(text, run) {
-        return Next::Number(run.value, run.next);
-    }
-    number_at(text, i)
 }

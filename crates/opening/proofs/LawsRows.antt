@@ -16,7 +16,7 @@ use Rattle.schema.specs.Walk.{atChild, walk-step}
 use Rattle.cifti.specs.Rows.{rows, ElementKind}
 use Rattle.opening.specs.Table.{texts, rowBy, rowAt, rows-are, kindAt, attributesOfKind, linesOfKind, linesFrom, linesTo, each-below}
 use Rattle.opening.specs.Faults.{fault, sooner, faultOf}
-use Rattle.opening.specs.Parts.{namedOnly, attributesFault, textShaped, textNumbered, textFault, ownFault, timesRight, kidShaped, kidsFault}
+use Rattle.opening.specs.Parts.{namedOnly, attributesFault, textShaped, textNumbered, textFault, ownFault, timesRight, frameRight, kidShaped, kidsFault}
 use Rattle.opening.proofs.LawsFaults.{fault-and}
 
 no-children : (l : List Element) → eqb (length l) 0 ≡ childrenShaped {K = ElementKind} anyOrder [] l
@@ -59,7 +59,7 @@ all-both p q (a ∷ l) = ap (λ x. (p a && q a) && x) (all-both p q l) ∙ go (p
     go true false false d = refl
     go false b c d = refl
 
-arranged : (n f t k m s : Bool) → ((((n && f) && t) && (k && (m && true))) && s) ≡ ((n && (f && t)) && (m && (k && s)))
+arranged : (n f t k m s : Bool) → ((((n && f) && t) && (k && (m && true))) && s) ≡ ((n && (f && true)) && ((t && m) && (k && s)))
 arranged true true true true true s = refl
 arranged true true true true false s = refl
 arranged true true true false true s = refl
@@ -68,7 +68,7 @@ arranged true true false k m s = refl
 arranged true false t k m s = refl
 arranged false f t k m s = refl
 
-arranged-with : (n f t k m s x : Bool) → x ≡ (k && s) → ((((n && f) && t) && (k && (m && true))) && s) ≡ ((n && (f && t)) && (m && x))
+arranged-with : (n f t k m s x : Bool) → x ≡ (k && s) → ((((n && f) && t) && (k && (m && true))) && s) ≡ ((n && (f && true)) && ((t && m) && x))
 arranged-with n f t k m s x e = rw e (arranged n f t k m s)
 
 module _ (k : ℕ) (h : k < 15) (e : Element) where
@@ -76,9 +76,9 @@ module _ (k : ℕ) (h : k < 15) (e : Element) where
   kids = elements (contentsOf e)
 
   shape-parts : everywhere rows shaped (kindAt k) e
-      ≡ ((namedOnly (attributesOfKind k) (attributesOf e) && (all (attributeShaped (attributesOf e)) (attributesOfKind k) && textShaped (getD texts k 0) (textOf e)))
-      && (timesRight k kids && all (kidShaped k) kids))
-  unfolding rowAt attributesShaped childrenShaped orderly namedOnly timesRight kidShaped textOf
+      ≡ ((namedOnly (attributesOfKind k) (attributesOf e) && (all (attributeShaped (attributesOf e)) (attributesOfKind k) && true))
+      && (frameRight k e && all (kidShaped k) kids))
+  unfolding rowAt attributesShaped childrenShaped orderly namedOnly frameRight timesRight kidShaped textOf
   shape-parts =
       walk-step rows shaped (kindAt k) e
       ∙ rw (rows-are k h, lines-are k h, by-shape (attributesOfKind k) (attributesOf e) (contentsOf e) (getD texts k 0) (linesOfKind k) (lines-are k h))
@@ -94,14 +94,14 @@ module _ (k : ℕ) (h : k < 15) (e : Element) where
       ∙ rw (rows-are k h, lines-are k h, by-number (attributesOfKind k) (attributesOf e) (contentsOf e) (getD texts k 0) (linesOfKind k))
 
   -- THE LAW OF THE WALK
-  pub fault-parts : faultOf k e ≡ sooner (ownFault k e) (sooner (fault (timesRight k kids) true) (kidsFault k kids))
+  pub fault-parts : faultOf k e ≡ sooner (ownFault k e) (sooner (fault (frameRight k e) true) (kidsFault k kids))
   unfolding faultOf ownFault attributesFault textFault kidsFault
   fault-parts =
       rw (
         shape-parts,
         number-parts,
-        ← fault-and (all (attributeShaped (attributesOf e)) (attributesOfKind k)) (textShaped (getD texts k 0) (textOf e)) (all (attributeNumbered (attributesOf e)) (attributesOfKind k)) (textNumbered (getD texts k 0) (textOf e)),
-        ← fault-and (namedOnly (attributesOfKind k) (attributesOf e)) (all (attributeShaped (attributesOf e)) (attributesOfKind k) && textShaped (getD texts k 0) (textOf e)) true (all (attributeNumbered (attributesOf e)) (attributesOfKind k) && textNumbered (getD texts k 0) (textOf e)),
-        ← fault-and (timesRight k kids) (all (kidShaped k) kids) true (all (atChild rows numbered (linesOfKind k)) kids),
+        ← fault-and (all (attributeShaped (attributesOf e)) (attributesOfKind k)) true (all (attributeNumbered (attributesOf e)) (attributesOfKind k)) (textNumbered (getD texts k 0) (textOf e)),
+        ← fault-and (namedOnly (attributesOfKind k) (attributesOf e)) (all (attributeShaped (attributesOf e)) (attributesOfKind k) && true) true (all (attributeNumbered (attributesOf e)) (attributesOfKind k) && textNumbered (getD texts k 0) (textOf e)),
+        ← fault-and (frameRight k e) (all (kidShaped k) kids) true (all (atChild rows numbered (linesOfKind k)) kids),
       )
       (fault-and _ _ _ _)

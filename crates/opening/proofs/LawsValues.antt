@@ -10,17 +10,14 @@ use lib.Dec.{ltb}
 use borrow.Author.Tests.{lt-ltb, le-ltb, not-true, not-false}
 use borrow.Author.Needs.{needs}
 use Rattle.lists.specs.Lists.{all, any, countUp}
-use Rattle.grammar.specs.Bytes.{blank}
 use Rattle.grammar.specs.Look.{Word, is, textOf}
 use Rattle.numbers.specs.Numbers.{whole, volumeDimensions, dimensionList, exponent, decimal, wholes, sixteen}
 use Rattle.schema.specs.Schema.{isWord, isNumber, isText}
-use Rattle.nodes.specs.Places.{Stands, the}
-use Rattle.nodes.specs.Texts.{text-of, text-law}
 use Rattle.cifti.specs.Words.{structures, units}
 use Rattle.opening.specs.Words.{dictionary, wordAt, firstWord, letters, bounds}
 use Rattle.opening.specs.Table.{formAt, forms, texts, textForms}
 use Rattle.opening.specs.Faults.{fault}
-use Rattle.opening.specs.Parts.{textShaped, textNumbered, textFault}
+use Rattle.opening.specs.Parts.{textNumbered, textFault}
 
 -- n things in a row
 pub count-more : {A : Type 0} (f : ℕ → A) (i to : ℕ) → i < to → countUp f i (to - i) ≡ f i ∷ countUp f (i + 1) (to - (i + 1))
@@ -191,33 +188,13 @@ module _ (w : Word) (f : ℕ) where
       text-free (suc (suc (suc (suc zero)))) p q r = absurd (r refl)
       text-free (suc (suc (suc (suc (suc n))))) p q r = refl
 
-  text-leaf : (f : ℕ) → (f ≡ 0 → ⊥) → textFault f w ≡ fault true (textNumbered f w)
-  unfolding textFault textShaped
-  text-leaf zero p = absurd (p refl)
-  text-leaf (suc g) p = refl
-
   module _ {b : Bool} where
-    text-blank : f ≡ 0 → b ≡ all blank w → b ≡ true → 0 ≡ textFault f w
-    unfolding textFault textShaped textNumbered fault
-    text-blank e h t = rw (e, sym h ∙ t)
+    pub text-good : b ≡ textNumbered f w → b ≡ true → 0 ≡ textFault f w
+    unfolding textFault fault
+    text-good h t = rw (sym h ∙ t)
 
-    text-stray : f ≡ 0 → b ≡ all blank w → b ≡ false → 6 ≡ textFault f w
-    unfolding textFault textShaped textNumbered fault
-    text-stray e h t = rw (e, sym h ∙ t)
+    pub text-bad : b ≡ textNumbered f w → b ≡ false → 7 ≡ textFault f w
+    unfolding textFault fault
+    text-bad h t = rw (sym h ∙ t)
 
-    pub text-good : (f ≡ 0 → ⊥) → b ≡ textNumbered f w → b ≡ true → 0 ≡ textFault f w
-    unfolding fault
-    text-good p h t = sym (text-leaf f p ∙ rw (sym h ∙ t))
-
-    pub text-bad : (f ≡ 0 → ⊥) → b ≡ textNumbered f w → b ≡ false → 7 ≡ textFault f w
-    unfolding fault
-    text-bad p h t = sym (text-leaf f p ∙ rw (sym h ∙ t))
-
-module _ {text : List ℕ} {at : ℕ} (st : Stands text at) (f : ℕ) {b : Bool} where
-  pub blank-there : f ≡ 0 → b ≡ all blank (text-of text at) → b ≡ true → 0 ≡ textFault f (textOf (the text at))
-  blank-there e h t = text-blank (textOf (the text at)) f e (h ∙ ap (all blank) (text-law st)) t
-
-  pub stray-there : f ≡ 0 → b ≡ all blank (text-of text at) → b ≡ false → 6 ≡ textFault f (textOf (the text at))
-  stray-there e h t = text-stray (textOf (the text at)) f e (h ∙ ap (all blank) (text-law st)) t
-
-pub ruleset texting = (text-sixteen, text-vertices, text-voxels, text-any, blank-there, stray-there, text-good, text-bad, needs)
+pub ruleset texting = (text-sixteen, text-vertices, text-voxels, text-any, text-good, text-bad, needs)

@@ -3,36 +3,40 @@ use mathlib.Core.Path.{_≡_, refl, ap, sym, _∙_}
 use mathlib.Core.List.{List, [], _∷_}
 use mathlib.Core.Option.{Option, some}
 use mathlib.Core.Option
-use mathlib.Core.Bool.{Bool, true, false, _||_}
+use mathlib.Core.Bool.{Bool, true, false, not, _||_, _&&_, true≢false}
 use Prim.Native.Nat.{ℕ, zero, suc, _+_, _-_, _<_, _≤_}
 use native.Mathlib.Omega.{arith}
-use native.Mathlib.Decide.{ℕ-discrete}
+use lib.Dec.{eqb}
+use borrow.Author.Tests.{ne-eqb}
 use lib.ListN.{getD, set, length, drop}
 use borrow.Author.Needs.{needs}
 use Rattle.lists.specs.Lists.{all, any, count, ifThere, isSome}
 use Rattle.grammar.specs.Document.{Element}
-use Rattle.grammar.specs.Look.{elements, contentsOf}
+use Rattle.grammar.specs.Look.{Word, elements, contentsOf, textOf}
 use Rattle.schema.specs.Schema.{kindOf, shaped, numbered, everywhere}
 use Rattle.schema.specs.Walk.{atChild}
 use Rattle.cifti.specs.Rows.{rows}
 use Rattle.nodes.specs.Places.{Stands, the}
-use Rattle.nodes.specs.Children.{kid-at, first, next, left, first-falls}
-use Rattle.nodes.specs.Scan.{skip-at, leave-at, skip-less, less-tails, less-falls}
+use Rattle.nodes.specs.Children.{first, next, left, first-falls}
+use Rattle.nodes.specs.Scan.{skip-at, leave-at}
 use Rattle.nodes.specs.Skip.{skip-element}
-use Rattle.nodes.specs.Leaving.{Behind, left-on, left-first, next-behind}
-use Rattle.grammar.specs.Read.{got}
-use Rattle.tokens.specs.Step.{stepped, went, went-on}
-use Rattle.tokens.specs.declared.Step.{Step}
-use Rattle.tokens.specs.declared.Step.the-variants.{To, No}
-use Rattle.nodes.specs.Walk.{Walk, Turn, kids, walk-children, kids-children, walk-none, turn-at, left-fits}
+use Rattle.nodes.specs.Leaving.{Behind, next-behind}
+use Rattle.nodes.specs.Says.{says}
+use Rattle.nodes.specs.Texts.{text-of, text-law}
+use Rattle.nodes.specs.Ahead.{ahead-at, first-ahead}
+use Rattle.nodes.specs.Facing.{Facing, facing, facing-first, Met, Over, facing-child, facing-end, facing-stray, left-ahead, facing-left, behind-leaves, behind-says}
+use Rattle.nodes.specs.Walk.{Walk, Turn, kids, walk-children, kids-children, walk-none, turn-at, turn-splits, turn-falls, left-fits}
 use Rattle.nodes.specs.declared.Kid.{Kid}
-use Rattle.nodes.specs.declared.Kid.the-variants.{Child, Done}
-use Rattle.opening.specs.Table.{kindAt, linesOfKind, linesFrom}
+use Rattle.nodes.specs.declared.ahead.Ahead.{Ahead}
+use Rattle.nodes.specs.declared.ahead.Ahead.the-variants as ahead-is
+use Rattle.grammar.specs.Read.{Read}
+use Rattle.grammar.specs.Bytes.{blank}
+use Rattle.opening.specs.Table.{kindAt, linesOfKind, linesFrom, texts}
 use Rattle.opening.specs.Lines.{KindIs, lineOf, timesBy, countedOf}
 use Rattle.opening.specs.Faults.{fault, sooner, faultOf}
-use Rattle.opening.specs.Parts.{ownFault, timesRight, kidShaped, kidsFault}
+use Rattle.opening.specs.Parts.{ownFault, textShaped, timesRight, frameRight, kidShaped, kidsFault}
 use Rattle.opening.specs.Asked.{OfKind, Lined}
-use Rattle.opening.specs.Walked.{Walks, Ending, refusedWalk, placeOf}
+use Rattle.opening.specs.Walked.{Walks, refusedWalk, finishedWalk}
 use Rattle.opening.specs.declared.walk.Tally.{Tally}
 use Rattle.opening.specs.declared.walk.Walked.{Walked}
 use Rattle.opening.proofs.LawsFaults.{fault-and, IsFault, is-fault, is-six, sooner-fault, sooner-three, sooner-turned, sooner-none, none-sooner, six-first}
@@ -63,10 +67,10 @@ unfolding kidsFault kidShaped all isSome atChild ifThere faultOf
 kids-one k e l c h =
     rw h (fault-and (everywhere rows shaped (kindAt c) e) (all (kidShaped k) l) (everywhere rows numbered (kindAt c) e) (all (atChild rows numbered (linesOfKind k)) l))
 
--- the whole, the times first
+-- the whole, the frame first
 module _ (k : ℕ) (h : k < 15) (e : Element) where
-  times-first : faultOf k e ≡ sooner (fault (timesRight k (elements (contentsOf e))) true) (sooner (ownFault k e) (kidsFault k (elements (contentsOf e))))
-  times-first =
+  frame-first : faultOf k e ≡ sooner (fault (frameRight k e) true) (sooner (ownFault k e) (kidsFault k (elements (contentsOf e))))
+  frame-first =
       fault-parts k h e
       ∙ sym (sooner-three (own-faulty k e) (is-fault _ _) (kids-faulty k _))
       ∙ ap (λ x. sooner x (kidsFault k (elements (contentsOf e)))) (sooner-turned (own-faulty k e) (is-fault _ _))
@@ -76,31 +80,46 @@ module _ (k : ℕ) (h : k < 15) (e : Element) where
   both-faulty = sooner-fault (own-faulty k e) (kids-faulty k _)
 
   pub six-whole : sooner (ownFault k e) (kidsFault k (elements (contentsOf e))) ≡ 6 → 6 ≡ faultOf k e
-  six-whole z = sym (times-first ∙ rw z (sooner-turned (is-fault (timesRight k (elements (contentsOf e))) true) is-six ∙ six-first (is-fault _ _)))
+  six-whole z = sym (frame-first ∙ rw z (sooner-turned (is-fault (frameRight k e) true) is-six ∙ six-first (is-fault _ _)))
 
-  pub times-wrong : timesRight k (elements (contentsOf e)) ≡ false → 6 ≡ faultOf k e
+  pub frame-wrong : frameRight k e ≡ false → 6 ≡ faultOf k e
   unfolding fault
-  times-wrong z = sym (times-first ∙ rw z (six-first both-faulty))
+  frame-wrong z = sym (frame-first ∙ rw z (six-first both-faulty))
 
-  pub times-good : timesRight k (elements (contentsOf e)) ≡ true → faultOf k e ≡ sooner (ownFault k e) (kidsFault k (elements (contentsOf e)))
+  pub frame-good : frameRight k e ≡ true → faultOf k e ≡ sooner (ownFault k e) (kidsFault k (elements (contentsOf e)))
   unfolding fault
-  times-good z = times-first ∙ rw z (none-sooner _)
+  frame-good z = frame-first ∙ rw z (none-sooner _)
 
   pub six-own : ownFault k e ≡ 6 → 6 ≡ faultOf k e
   six-own z = six-whole (rw z (six-first (kids-faulty k _)))
 
-pub record Walking (text : List ℕ) (at kind from worst : ℕ) (tally : Tally) (last : ℕ) (kid : Kid) : Type 0 where
+pub record Walking (text : List ℕ) (at kind from : ℕ) (words : Bool) (worst : ℕ) (tally : Tally) (next : Ahead) : Type 0 where
   pub of-kind : OfKind text at kind
   pub starts : from ≡ getD linesFrom kind 0
+  pub words-so : words ≡ not (eqb (getD texts kind 0) 0)
+  pub kid : Kid
+  pub blanks : Bool
+  pub leaves : Read (Unit {0})
+  pub facing : Facing text words blanks leaves kid next
+  pub blank-so : words ≡ false → all blank (textOf (the text at)) ≡ blanks
+  pub leave-so : skip-at (drop at text) ≡ leaves
   pub walk : Walk text kid
   pub deeper : left text kid < length text - at
   pub faulty : IsFault worst
   pub faults : sooner (ownFault kind (the text at)) (kidsFault kind (elements (contentsOf (the text at)))) ≡ sooner worst (kidsFault kind (kids text kid))
   pub counted : Counted kind tally (elements (contentsOf (the text at))) (kids text kid)
   pub room : (p : ℕ) → getD (tally .counts) p 0 + left text kid ≤ length text
-  pub ending : Ending text at last
-  pub begun : last ≡ 0 → kid ≡ first text at
-  pub gone-on : (last ≡ 0 → ⊥) → kid ≡ kid-at (length text) (drop last text)
+
+-- the text's shape, as the walk sees it
+frame-blank : (t : ℕ) (w : Word) (words : Bool) → words ≡ not (eqb t 0) → (words ≡ false → all blank w ≡ true) → textShaped t w ≡ true
+unfolding textShaped
+frame-blank zero w words e f = f e
+frame-blank (suc t) w words e f = refl
+
+frame-dark : (t : ℕ) (w : Word) (words : Bool) → words ≡ not (eqb t 0) → words ≡ false → all blank w ≡ false → textShaped t w ≡ false
+unfolding textShaped
+frame-dark zero w words e f g = g
+frame-dark (suc t) w words e f g = absurd (true≢false (sym (e ∙ ap not (ne-eqb (suc t) 0 (λ z. omega arith))) ∙ f))
 
 one-room : (l : List ℕ) (i p : ℕ) → getD (set l i (getD l i 0 + 1)) p 0 ≤ getD l p 0 + 1
 one-room [] i p = omega arith
@@ -121,101 +140,103 @@ nothing-yet (suc (suc (suc zero))) = refl
 nothing-yet (suc (suc (suc (suc p)))) = refl
 
 module _ {text : List ℕ} {at kind : ℕ} (p : OfKind text at kind) {worst : ℕ} (w : worst ≡ ownFault kind (the text at)) where
-  pub walking-own : worst ≡ 6 → 6 ≡ faultOf kind (the text at)
-  walking-own e = six-own kind (p .known) (the text at) (sym w ∙ e)
-
-  pub walking-start : {from : ℕ} → from ≡ getD linesFrom kind 0 → {kid : Kid} → kid ≡ first text at → Walking text at kind from worst (record { counts = 0 ∷ 0 ∷ 0 ∷ 0 ∷ []; met = false }) 0 kid
-  walking-start f e =
+  pub walking-start : {from : ℕ} → from ≡ getD linesFrom kind 0 → {form : ℕ} → form ≡ getD texts kind 0 → {next : Ahead} → next ≡ first-ahead (not (eqb form 0)) text at
+      → Walking text at kind from (not (eqb form 0)) worst (record { counts = 0 ∷ 0 ∷ 0 ∷ 0 ∷ []; met = false }) next
+  walking-start f {form} o e =
       rw e (record {
         of-kind = p;
         starts = f;
+        words-so = ap (λ n. not (eqb n 0)) o;
+        kid = first text at;
+        blanks = all blank (text-of text at);
+        leaves = skip-at (drop at text);
+        facing = facing-first text (not (eqb form 0)) at;
+        blank-so = λ _. ap (all blank) (sym (text-law (p .stands)));
+        leave-so = refl;
         walk = walk-children (p .stands);
         deeper = first-deeper (p .stands);
         faulty = rw w (own-faulty kind (the text at));
         faults = rw (w, kids-children (p .stands));
         counted = record { size = refl; lines = λ q h. rw (nothing-yet q, kids-children (p .stands)) (let z : count (named-line (getD linesFrom kind 0 + q)) (elements (contentsOf (the text at))) ≡ 0 + count (named-line (getD linesFrom kind 0 + q)) (elements (contentsOf (the text at))) = omega arith in z); voxels = rw (kids-children (p .stands)) };
         room = λ q. rw (nothing-yet q) (let z = left-fits text (first text at) in omega arith);
-        ending = record { stands = p .stands; so-far = λ k. absurd (k refl) };
-        begun = λ _. refl;
-        gone-on = λ k. absurd (k refl);
       })
 
 -- the answers
 pub walks-refused : {text : List ℕ} {at kind : ℕ} → 6 ≡ faultOf kind (the text at) → {r : Walked} → r ≡ refusedWalk → Walks text at kind r
 walks-refused e q = rw q (record { fault-is = e; ends = λ k. absurd (k refl) })
 
-pub walks-right : {text : List ℕ} {at kind worst : ℕ} → worst ≡ faultOf kind (the text at) → {j : ℕ} → Behind text at j → Walks text at kind (record { fault = worst; behind = j })
-walks-right e b = record { fault-is = e; ends = λ _. b }
+-- the end of an element
+module _ {b c : Bool} (e : b ≡ c) (worst behind : ℕ) where
+  pub finish-right : b ≡ true → record { fault = worst; behind = behind } ≡ finishedWalk c worst behind
+  unfolding finishedWalk
+  finish-right t = rw (sym e ∙ t)
 
--- a place out of a step
-module _ (x : Step) where
-  pub place-to : {j : ℕ} → x ≡ To j → j ≡ placeOf x
-  unfolding placeOf
-  place-to e = rw e
+  pub finish-wrong : b ≡ false → {r : Walked} → r ≡ refusedWalk → r ≡ finishedWalk c worst behind
+  unfolding finishedWalk
+  finish-wrong t q = q ∙ rw (sym e ∙ t)
 
-  pub place-no : x ≡ No → 0 ≡ placeOf x
-  unfolding placeOf
-  place-no e = rw e
+pub ruleset finishing = (finish-right, finish-wrong, needs)
 
-pub ruleset placing = (place-to, place-no, needs)
-
--- where an element ends
-ends-there : {text : List ℕ} {at : ℕ} → Stands text at → {x : Step} → x ≡ stepped (length text) (skip-at (drop at text)) → {j : ℕ} → j ≡ placeOf x → Behind text at j
-unfolding stepped placeOf
-ends-there {text} {at} st {x} e {j} q =
-    let reads : skip-at (drop at text) ≡ got tt (st .rest) = skip-element (drop at text) (the text at) (st .rest) (st .reads) in
-    let is-to : x ≡ To (length text - length (st .rest)) = e ∙ rw reads in
-    let here : x ≡ To j = is-to ∙ sym (ap To (q ∙ rw is-to)) in
-    let w = went skip-at text at j (less-tails (skip-less (drop at text))) (sym here ∙ e) in
-    let u : at < j = went-on w (less-falls (skip-less (drop at text))) in
-    record { ends = w .reads; inside = w .inside; after = omega arith }
-
-module _ {text : List ℕ} {at last : ℕ} (en : Ending text at last) {x : Step} where
-  pub ends-bare : last ≡ 0 → x ≡ stepped (length text) (skip-at (drop at text)) → {j : ℕ} → j ≡ placeOf x → Behind text at j
-  ends-bare z e q = ends-there (en .stands) e q
-
-  pub ends-left : (last ≡ 0 → ⊥) → x ≡ stepped (length text) (leave-at (drop last text)) → {j : ℕ} → j ≡ placeOf x → Behind text at j
-  ends-left k e q = ends-there (en .stands) (e ∙ ap (stepped (length text)) (sym (en .so-far k))) q
-
-pub ruleset leaving = (ends-bare, ends-left, needs)
-
-module _ {text : List ℕ} {at kind from worst : ℕ} {tally : Tally} {last : ℕ} {kid : Kid} (go : Walking text at kind from worst tally last kid) where
-  pub walking-ending : Ending text at last
-  walking-ending = go .ending
-
-  module _ (done : kid ≡ Done) {b : Bool} (t : b ≡ timesBy kind (tally .counts) (tally .met)) where
-    times : timesRight kind (elements (contentsOf (the text at))) ≡ b
-    unfolding count any
-    times =
-        let z = walk-none (go .walk) done in
-        times-law kind (go .of-kind .known) (elements (contentsOf (the text at))) (tally .counts) (tally .met)
-        (λ p h. go .counted .lines p h ∙ rw z (add-none (getD (tally .counts) p 0)))
-        (go .counted .voxels ∙ rw z (or-none (tally .met)))
-        ∙ sym t
-      where
-        add-none : (a : ℕ) → a + 0 ≡ a
-        add-none a = omega arith
-
-        or-none : (a : Bool) → (a || false) ≡ a
-        or-none true = refl
-        or-none false = refl
-
-    pub walking-wrong : b ≡ false → 6 ≡ faultOf kind (the text at)
-    walking-wrong e = times-wrong kind (go .of-kind .known) (the text at) (times ∙ e)
-
-    pub walking-right : b ≡ true → worst ≡ faultOf kind (the text at)
-    walking-right e =
-        sym (times-good kind (go .of-kind .known) (the text at) (times ∙ e) ∙ go .faults ∙ rw (walk-none (go .walk) done, kids-none kind) (sooner-none worst))
-
+module _ {text : List ℕ} {at kind from : ℕ} {words : Bool} {worst : ℕ} {tally : Tally} {next₀ : Ahead} (go : Walking text at kind from words worst tally next₀) where
   pub walking-known : kind < 15
   walking-known = go .of-kind .known
 
-  module _ {k : ℕ} (is : kid ≡ Child k) where
-    turn : Turn text k
-    turn = turn-at (go .walk) is
+  pub walking-stray : next₀ ≡ ahead-is.Stray → 6 ≡ faultOf kind (the text at)
+  unfolding frameRight
+  walking-stray e =
+      let st = go .of-kind .stands in
+      let (w, b) = facing-stray (go .facing) e (st .rest) (sym (go .leave-so) ∙ skip-element (drop at text) (the text at) (st .rest) (st .reads)) in
+      let dark : textShaped (getD texts kind 0) (textOf (the text at)) ≡ false = frame-dark (getD texts kind 0) (textOf (the text at)) words (go .words-so) w (go .blank-so w ∙ b) in
+      frame-wrong kind (go .of-kind .known) (the text at) (rw dark)
 
-    splits : kids text kid ≡ the text k ∷ kids text (next text k)
-    splits = rw is (turn .splits)
+  module _ {j : ℕ} (end : next₀ ≡ ahead-is.End j) where
+    over : Over text words (go .blanks) (go .leaves) (go .kid) j
+    over = facing-end (go .facing) end
+
+    ends-there : Behind text at j
+    ends-there = record { ends = go .leave-so ∙ over .ends; inside = over .inside; after = over .after }
+
+    module _ {b : Bool} (t : b ≡ timesBy kind (tally .counts) (tally .met)) where
+      times : timesRight kind (elements (contentsOf (the text at))) ≡ b
+      unfolding count any
+      times =
+          let z = walk-none (go .walk) (over .no-next) in
+          times-law kind (go .of-kind .known) (elements (contentsOf (the text at))) (tally .counts) (tally .met)
+          (λ p h. go .counted .lines p h ∙ rw z (add-none (getD (tally .counts) p 0)))
+          (go .counted .voxels ∙ rw z (or-none (tally .met)))
+          ∙ sym t
+        where
+          add-none : (a : ℕ) → a + 0 ≡ a
+          add-none a = omega arith
+
+          or-none : (a : Bool) → (a || false) ≡ a
+          or-none true = refl
+          or-none false = refl
+
+      frame : frameRight kind (the text at) ≡ b
+      unfolding frameRight
+      frame = rw (frame-blank (getD texts kind 0) (textOf (the text at)) words (go .words-so) (λ w. go .blank-so w ∙ over .all-blank w)) times
+
+    pub walking-finished : {r : Walked} → r ≡ finishedWalk (timesBy kind (tally .counts) (tally .met)) worst j → Walks text at kind r
+    unfolding finishedWalk
+    walking-finished e = rw e (go₁ (timesBy kind (tally .counts) (tally .met)) refl)
+      where
+        go₁ : (b : Bool) → timesBy kind (tally .counts) (tally .met) ≡ b → Walks text at kind (finishedWalk b worst j)
+        go₁ false t = walks-refused (frame-wrong kind (go .of-kind .known) (the text at) (frame (sym t))) refl
+        go₁ true t = record {
+          fault-is = sym (frame-good kind (go .of-kind .known) (the text at) (frame (sym t)) ∙ go .faults ∙ rw (walk-none (go .walk) (over .no-next), kids-none kind) (sooner-none worst));
+          ends = λ _. ends-there;
+        }
+
+  module _ {k : ℕ} (ahead : next₀ ≡ ahead-is.Child k) where
+    met : Met text words (go .blanks) (go .leaves) (go .kid) k
+    met = facing-child (go .facing) ahead
+
+    turn : Turn text k
+    turn = turn-at (go .walk) (met .is-next)
+
+    splits : kids text (go .kid) ≡ the text k ∷ kids text (next text k)
+    splits = turn-splits (go .walk) (met .is-next)
 
     pub walking-child : OfKind text k kind
     walking-child = record { stands = turn .stands; known = go .of-kind .known }
@@ -223,12 +244,12 @@ module _ {text : List ℕ} {at kind from worst : ℕ} {tally : Tally} {last : �
     pub walking-lined : {line : ℕ} → line ≡ lineOf kind (the text k) → Lined text k kind line
     walking-lined e = record { stands = turn .stands; known = go .of-kind .known; line = e }
 
-    falls-on : left text (next text k) < left text kid
-    falls-on = rw is (turn .falls)
+    falls-on : left text (next text k) < left text (go .kid)
+    falls-on = turn-falls (go .walk) (met .is-next)
 
     pub walking-deeper : length text - k < length text - at
     unfolding left
-    walking-deeper = rw is at (go .deeper)
+    walking-deeper = rw (met .is-next) at (go .deeper)
 
     module _ {inner : ℕ} (kn : KindIs inner (kindOf (linesOfKind kind) (the text k))) where
       pub walking-none : 15 ≤ inner → 6 ≡ faultOf kind (the text at)
@@ -243,8 +264,8 @@ module _ {text : List ℕ} {at kind from worst : ℕ} {tally : Tally} {last : �
         lined : HasLine kind (the text k) inner
         lined = has-line kind (the text k) inner (go .of-kind .known) small (kn .is)
 
-        one : kidsFault kind (kids text kid) ≡ sooner (faultOf inner (the text k)) (kidsFault kind (kids text (next text k)))
-        one = ap (kidsFault kind) (splits) ∙ kids-one kind (the text k) (kids text (next text k)) inner (sym (kn .is) ∙ kind-some inner small)
+        one : kidsFault kind (kids text (go .kid)) ≡ sooner (faultOf inner (the text k)) (kidsFault kind (kids text (next text k)))
+        one = ap (kidsFault kind) splits ∙ kids-one kind (the text k) (kids text (next text k)) inner (sym (kn .is) ∙ kind-some inner small)
 
         inner-faulty : IsFault (faultOf inner (the text k))
         unfolding faultOf
@@ -258,55 +279,48 @@ module _ {text : List ℕ} {at kind from worst : ℕ} {tally : Tally} {last : �
           walking-six e = six-whole kind (go .of-kind .known) (the text at) (faults₁ ∙ rw e (six-first (kids-faulty kind (kids text (next text k)))))
 
           module _ (sound : worst₁ ≡ 6 → ⊥) where
-            no-six : w .fault ≡ 6 → ⊥
-            no-six z = sound (wf ∙ rw z (sooner-turned (go .faulty) is-six ∙ six-first (go .faulty)))
-
             behind : Behind text k (w .behind)
-            behind = wk .ends no-six
+            behind = wk .ends (λ z. sound (wf ∙ rw z (sooner-turned (go .faulty) is-six ∙ six-first (go .faulty))))
 
-            left-so : skip-at (drop at text) ≡ leave-at (drop (w .behind) text)
-            left-so = pick (ℕ-discrete last 0)
-              where
-                pick : Dec (last ≡ 0) → skip-at (drop at text) ≡ leave-at (drop (w .behind) text)
-                pick (yes z) = left-first text k (w .behind) (turn .stands) behind at (sym (go .begun z) ∙ is)
-                pick (no z) = go .ending .so-far z ∙ left-on text k (w .behind) (turn .stands) behind last (sym (go .gone-on z) ∙ is)
+            onward : Facing text words (all blank (says (drop (w .behind) text))) (leave-at (drop (w .behind) text)) (next text k) (ahead-at words (length text) (drop (w .behind) text))
+            onward = rw (next-behind behind) (facing text words (w .behind))
 
-            module _ {kid₁ : Kid} (e : kid₁ ≡ kid-at (length text) (drop (w .behind) text)) where
-              is-next : kid₁ ≡ next text k
-              is-next = e ∙ sym (next-behind text k (w .behind) (turn .stands) behind)
-
-              pub walking-less : left text kid₁ < left text kid
-              walking-less = rw is-next falls-on
+            pub walking-less : {next₁ : Ahead} → next₁ ≡ ahead-at words (length text) (drop (w .behind) text) → left-ahead text next₁ < left-ahead text next₀
+            unfolding left-ahead left
+            walking-less e = rw (e, ahead) (let f = facing-left onward in let d = turn .falls in omega arith)
 
         module _ {line : ℕ} (ln : line ≡ lineOf kind (the text k)) where
-          pub walking-behind : from ≤ line
-          walking-behind = omega (arith, go .starts, lined .after)
+          pub walking-above : from ≤ line
+          walking-above = omega (arith, go .starts, lined .after)
 
           pub walking-place : line - from < 4
           walking-place = let r = range kind (go .of-kind .known) in omega (arith, go .starts, lined .before, lined .after, r .few)
 
           pub walking-room : getD (tally .counts) (line - from) 0 < length text
           unfolding left
-          walking-room = let u = rw is at (go .room (line - from)) in let s = turn .stands .here in omega arith
+          walking-room = let u = rw (met .is-next) at (go .room (line - from)) in let s = turn .stands .here in omega arith
 
           pub walking-on : {tally₁ : Tally} → tally₁ ≡ countedOf tally (line - from) inner → {w : Walked} → Walks text k inner w → {worst₁ : ℕ} → worst₁ ≡ sooner worst (w .fault) → (worst₁ ≡ 6 → ⊥)
-              → {kid₁ : Kid} → kid₁ ≡ kid-at (length text) (drop (w .behind) text) → Walking text at kind from worst₁ tally₁ (w .behind) kid₁
-          walking-on {tally₁} tf {w} wk {worst₁} wf sound {kid₁} e =
+              → {next₁ : Ahead} → next₁ ≡ ahead-at words (length text) (drop (w .behind) text) → Walking text at kind from words worst₁ tally₁ next₁
+          walking-on {tally₁} tf {w} wk {worst₁} wf sound e =
               let place : line - from ≡ lineOf kind (the text k) - getD linesFrom kind 0 = rw (ln, go .starts) in
               let there = behind wk wf sound in
-              let after = there .after in
-              rw (is-next wk wf sound e) (record {
+              rw e (record {
                 of-kind = go .of-kind;
                 starts = go .starts;
+                words-so = go .words-so;
+                kid = next text k;
+                blanks = all blank (says (drop (w .behind) text));
+                leaves = leave-at (drop (w .behind) text);
+                facing = onward wk wf sound;
+                blank-so = λ o. go .blank-so o ∙ met .blanks-so o ∙ ap (all blank) (behind-says (turn .stands) there (met .looks));
+                leave-so = go .leave-so ∙ met .leaves-so ∙ behind-leaves (turn .stands) there (met .looks);
                 walk = turn .then;
                 deeper = let f = falls-on in omega (arith, go .deeper);
                 faulty = rw (wf, wk .fault-is) (sooner-fault (go .faulty) inner-faulty);
                 faults = faults₁ wk wf;
-                counted = rw (tf, place) (counted-on (go .of-kind .known) (rw (splits) at (go .counted)) small lined);
+                counted = rw (tf, place) (counted-on (go .of-kind .known) (rw splits at (go .counted)) small lined);
                 room = λ p. rw tf (let y = counted-room tally (line - from) inner p in let z = go .room p in let f = falls-on in omega arith);
-                ending = record { stands = go .of-kind .stands; so-far = λ _. left-so wk wf sound };
-                begun = λ z. absurd (omega arith);
-                gone-on = λ _. next-behind text k (w .behind) (turn .stands) there;
               })
 
-pub ruleset walking = (walks-refused, walks-right, walking-ending, walking-own, walking-start, walking-wrong, walking-right, walking-known, walking-child, walking-lined, walking-less, walking-deeper, walking-none, walking-inner, walking-six, walking-behind, walking-place, walking-room, walking-on, needs)
+pub ruleset walking = (walks-refused, walking-start, walking-stray, walking-finished, walking-known, walking-child, walking-lined, walking-less, walking-deeper, walking-none, walking-inner, walking-six, walking-above, walking-place, walking-room, walking-on, needs)

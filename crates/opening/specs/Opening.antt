@@ -35,6 +35,7 @@ use Rattle.opening.specs.Faults as Faults
 use Rattle.maps.specs.Good.{Good}
 use Rattle.maps.specs.Kinds.{root-child}
 use Rattle.maps.specs.Ready.{mapsIn}
+use Rattle.maps.specs.Unread.{all-read}
 use Rattle.opening.specs.declared.seven.Opening.{Opening}
 
 -- ---- Condition 1.
@@ -225,10 +226,10 @@ module _ {text : List ℕ} {r : ℕ} (st : Stands text r) where
     pub root-five : {c : Bool} → c ≡ kindNotRead (the text r) → c ≡ true → (o : Opening) → o .number ≡ 5 → o .matrix ≡ 0 → Found text r (the text r) o
     root-five q t o s m = refuses o (λ z. omega arith) (omega arith) m (λ n. rw (sym p ∙ f, sym q ∙ t, s))
 
-    module _ {c : Bool} (q : c ≡ kindNotRead (the text r)) (g : c ≡ false) {n : ℕ} (s : n ≡ Faults.refusal (the text r)) where
-      pub root-fault : (n ≡ 0 → ⊥) → (o : Opening) → o .number ≡ n → o .matrix ≡ 0 → Found text r (the text r) o
+    module _ {n : ℕ} (s : n ≡ Faults.refusal (the text r)) where
+      pub root-fault : {c : Bool} → c ≡ kindNotRead (the text r) → c ≡ false → (n ≡ 0 → ⊥) → (o : Opening) → o .number ≡ n → o .matrix ≡ 0 → Found text r (the text r) o
       unfolding Faults.refusal
-      root-fault k o t z₀ = refuses o (λ z. k (sym t ∙ z)) (rw (t ∙ s) (few (shapeWrong (the text r)) (numberWrong (the text r)))) z₀ (λ m. rw (sym p ∙ f, sym q ∙ g) (go m (shapeWrong (the text r)) (numberWrong (the text r)) refl refl))
+      root-fault q g k o t z₀ = refuses o (λ z. k (sym t ∙ z)) (rw (t ∙ s) (few (shapeWrong (the text r)) (numberWrong (the text r)))) z₀ (λ m. rw (sym p ∙ f, sym q ∙ g) (go m (shapeWrong (the text r)) (numberWrong (the text r)) refl refl))
         where
           few : (x y : Bool) → cond x 6 (cond y 7 0) ≤ 7
           few true y = omega arith
@@ -269,7 +270,7 @@ module _ {text : List ℕ} {r : ℕ} (st : Stands text r) where
               there-it-is = λ _. rw is-child v;
               refused = λ k. absurd (k u);
               right-root = λ _. sym p ∙ f;
-              read-kinds = λ _. sym q ∙ g;
+              read-kinds = λ _. all-read good-here;
               shape = λ _. both .0;
               numbers = λ _. both .1;
               stands = λ _. rw v (t .stands);

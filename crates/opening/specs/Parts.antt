@@ -6,7 +6,7 @@ use lib.ListN.{getD}
 use Rattle.lists.specs.Lists.{all, any, isSome}
 use Rattle.grammar.specs.Bytes.{blank}
 use Rattle.grammar.specs.Document.{Attribute, Element}
-use Rattle.grammar.specs.Look.{Word, attributesOf, textOf}
+use Rattle.grammar.specs.Look.{Word, attributesOf, contentsOf, elements, textOf}
 use Rattle.schema.specs.Schema.{AttributeRow, isNamed, attributeShaped, attributeNumbered, anyText, isText, childShaped, kindOf, shaped, numbered}
 use Rattle.schema.specs.Walk.{atChild}
 use Rattle.cifti.specs.Rows.{rows}
@@ -21,7 +21,7 @@ namedOnly r l = all (λ a. any (isNamed a) r) l
 unfoldable pub attributesFault : List AttributeRow → List Attribute → ℕ
 attributesFault r l = fault (all (attributeShaped l) r) (all (attributeNumbered l) r)
 
--- the fault of the text
+-- the text: its shape, and the fault of its numbers
 unfoldable pub textShaped : ℕ → Word → Bool
 textShaped zero w = all blank w
 textShaped (suc t) w = true
@@ -31,9 +31,9 @@ textNumbered zero w = true
 textNumbered (suc t) w = isText (getD textForms (suc t) anyText) w
 
 unfoldable pub textFault : ℕ → Word → ℕ
-textFault t w = fault (textShaped t w) (textNumbered t w)
+textFault t w = fault true (textNumbered t w)
 
--- the fault of an element's own part
+-- the fault of an element's own part: its attributes, and the numbers in its text
 unfoldable pub ownFault : ℕ → Element → ℕ
 ownFault k e =
     sooner (fault (namedOnly (attributesOfKind k) (attributesOf e)) true)
@@ -42,6 +42,10 @@ ownFault k e =
 -- each line is met as often as it says
 unfoldable pub timesRight : ℕ → List Element → Bool
 timesRight k l = all (childShaped l) (linesOfKind k)
+
+-- and between them is no text where none may be
+unfoldable pub frameRight : ℕ → Element → Bool
+frameRight k e = textShaped (getD texts k 0) (textOf e) && timesRight k (elements (contentsOf e))
 
 -- the fault of the children, one by one: each has a kind, and is as its kind says
 unfoldable pub kidShaped : ℕ → Element → Bool

@@ -40,7 +40,7 @@ fn lengths_wrong(lengths: &[u64]) -> bool
     false
 }
 
-// Conditions 4 to 7, at the root.
+// Conditions 4 to 7, at the root: where 6 and 7 do not apply, neither does 5.
 fn of_root(text: &[u8], root: usize) -> Opening
     requires { ⌜ Stands (now text) root ⌝ }
     ensures { λ r. ⌜ Found (now (text .entry)) root (the (now (text .entry)) root) r ⌝ }
@@ -51,14 +51,14 @@ fn of_root(text: &[u8], root: usize) -> Opening
             matrix: 0,
         };
     }
-    if kind_not_read(text, root) {
-        return Opening {
-            number: 5,
-            matrix: 0,
-        };
-    }
     let fault = fault_number(text, root);
     if fault != 0 {
+        if kind_not_read(text, root) {
+            return Opening {
+                number: 5,
+                matrix: 0,
+            };
+        }
         return Opening {
             number: fault,
             matrix: 0,

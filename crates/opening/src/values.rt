@@ -153,24 +153,18 @@ fn text_right(text: &[u8], at: usize, form: u8) -> bool
     true
 }
 
-// The fault of the text of the element at `at`.
+// The fault of the numbers in the text of the element at `at`; that other text is blank, the walk sees.
 fn text_fault(text: &[u8], at: usize, form: u8) -> u8
     requires { ⌜ Stands (now text) at ⌝ }
     ensures { λ r. ⌜ r ≡ textFault form (textOf (the (now (text .entry)) at)) ⌝ }
 {
-    if form == 0 {
-        if nodes::texts::text_is_blank(text, at) {
-            return 0;
-        }
-        return 6;
-    }
     if text_right(text, at, form) {
         return 0;
     }
     7
 }
 
-// The fault of the element's own part: its attributes and its text.
+// The fault of the element's own part: its attributes and the numbers in its text.
 pub(crate) fn own_fault(text: &[u8], at: usize, kind: usize) -> u8
     requires { ⌜ OfKind (now text) at kind ⌝ }
     ensures { λ r. ⌜ r ≡ ownFault kind (the (now (text .entry)) at) ⌝ }

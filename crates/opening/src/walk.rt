@@ -3,8 +3,7 @@ use crate::table;
 use crate::values;
 use crate::words;
 use nodes::Found;
-use nodes::Kid;
-use tokens::Step;
+use nodes::ahead::Ahead;
 ghost use mathlib.Core.Path.{_≡_};
 ghost use Prim.Native.Nat.{_-_, _<_};
 ghost use lib.ListN.{getD};
@@ -15,8 +14,7 @@ ghost use Rattle.nodes.specs.Places.{the};
 ghost use Rattle.opening.specs.Words.{wordAt};
 ghost use Rattle.opening.specs.Table.{linesOfKind, whichAt, lineKinds};
 ghost use Rattle.opening.specs.Lines.{KindIs, kindOrNone, lineOf, caseAt, standsBy, countedOf, timesBy};
-ghost use Rattle.nodes.specs.Leaving.{Behind};
-ghost use Rattle.opening.specs.Walked.{Walks, Ending, refusedWalk, placeOf};
+ghost use Rattle.opening.specs.Walked.{Walks, refusedWalk, finishedWalk};
 ghost use Rattle.opening.specs.Asked.{OfKind, Choosing, Lined, OfLine, Counting};
 
 // How often each line of a kind was met so far, and whether a voxel model was.
@@ -149,24 +147,18 @@ fn refused() -> Walked
     }
 }
 
-fn place_of(step: Step) -> usize
-    ensures { λ r. ⌜ r ≡ placeOf step ⌝ }
+// At the end of an element of this kind, before `behind`.
+fn finished(kind: usize, tally: Tally, worst: u8, behind: usize) -> Walked
+    requires { ⌜ kind < 15 ⌝ }
+    ensures { λ r. ⌜ r ≡ finishedWalk (timesBy kind (tally .counts) (tally .met)) worst behind ⌝ }
 {
-    match step {
-        Step::To(j) => j,
-        Step::No => 0,
+    if times_right(kind, tally) {
+        return Walked {
+            fault: worst,
+            behind: behind,
+        };
     }
-}
-
-// The place behind the element at `at`, whose last child ends before `last`; 0: it has none.
-fn end_of(text: &[u8], at: usize, last: usize) -> usize
-    requires { ⌜ Ending (now text) at last ⌝ }
-    ensures { λ r. ⌜ Behind (now (text .entry)) at r ⌝ }
-{
-    if last == 0 {
-        return place_of(nodes::scan::skip(text, at));
-    }
-    place_of(nodes::scan::leave(text, last))
+    refused()
 }
 
 // The fault of the element at `at`, of this kind, and of all that is in it; and where it ends, so that nobody passes over it again.
@@ -175,19 +167,16 @@ pub(crate) fn fault(text: &[u8], at: usize, kind: usize) -> Walked
     ensures { λ r. ⌜ Walks (now (text .entry)) at kind r ⌝ }
 {
     let mut worst = values::own_fault(text, at, kind);
-    if worst == 6 {
-        return refused();
-    }
     let from = table::lines_from(kind);
+    let words = table::text_form(kind) != 0;
     let mut tally = Tally {
         counts: [0; 4],
         met: false,
     };
-    let mut last = 0;
-    let mut kid = nodes::children::first_child(text, at);
+    let mut next = nodes::ahead::ahead_first(text, at, words);
     loop {
-        match kid {
-            Kid::Child(k) => {
+        match next {
+            Ahead::Child(k) => {
                 let line = child_line(text, k, kind);
                 let inner = child_kind(text, k, kind, line);
                 if 15 <= inner {
@@ -199,17 +188,12 @@ pub(crate) fn fault(text: &[u8], at: usize, kind: usize) -> Walked
                 if worst == 6 {
                     return refused();
                 }
-                last = walked.behind;
-                kid = nodes::children::kid_from(text, last);
+                next = nodes::ahead::ahead_from(text, walked.behind, words);
             }
-            Kid::Done => {
-                if times_right(kind, tally) {
-                    let behind = end_of(text, at, last);
-                    return Walked {
-                        fault: worst,
-                        behind: behind,
-                    };
-                }
+            Ahead::End(behind) => {
+                return finished(kind, tally, worst, behind);
+            }
+            Ahead::Stray => {
                 return refused();
             }
         }

@@ -21,7 +21,7 @@ use Rattle.maps.specs.Fields.{wordAt}
 use Rattle.maps.specs.Kinds.{GoodMap, brain-map, series-map, scalars-map}
 use Rattle.maps.specs.Sums.{MapAt}
 use Rattle.maps.specs.Unread.{says-has}
-use Rattle.maps.specs.Nine.{InRoom}
+use Rattle.maps.specs.Nine.{InRoom, room-map, room-place}
 use Rattle.maps.specs.Ready.{Ready, mapsAt}
 use Rattle.maps.specs.Digits.{from, from-all, from-none, from-one}
 use Rattle.maps.specs.declared.survey.Maps.{Maps}
@@ -190,10 +190,10 @@ module _ {text : List ℕ} {maps : Maps} {found done : ℕ} (go : Descending tex
     below = omega arith
 
     pub descend-place : maps .count - 1 - done < length (maps .at)
-    descend-place = let t = go .room .ready .three in let f = go .room .ready .few in let b = below in omega arith
+    descend-place = room-place (go .room) below
 
     pub descend-map : MapAt text (getD (maps .at) (maps .count - 1 - done) 0)
-    descend-map = record { stands = go .room .ready .stand (maps .count - 1 - done) below; good = go .room .ready .good (maps .count - 1 - done) below; short = go .room .short }
+    descend-map = room-map (go .room) below .map
 
     pub descend-more : {n k : ℕ} → n ≡ mapRule (mapOf (the text (getD (maps .at) (maps .count - 1 - done) 0))) → k ≡ sooner n found → Descending text maps k (done + 1)
     descend-more {n} {k} p q =

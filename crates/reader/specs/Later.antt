@@ -17,7 +17,7 @@ use Rattle.cifti.specs.Conditions as C
 use Rattle.cifti.specs.Conditions.{_when_, alike, modelsShare, uneven, rangesWrong, beyond, numbersOutside, roomShort, repeats, locationTwice}
 use Rattle.maps.specs.Fields.{wordAt}
 use Rattle.maps.specs.Sums.{MapAt}
-use Rattle.maps.specs.Nine.{InRoom}
+use Rattle.maps.specs.Nine.{InRoom, room-map, room-place}
 use Rattle.maps.specs.Ready.{Ready, mapsAt}
 use Rattle.maps.specs.Digits.{from, from-all, from-none, from-one}
 use Rattle.maps.specs.declared.survey.Maps.{Maps}
@@ -139,7 +139,7 @@ module _ {text : List ℕ} {maps : Maps} {before now : List ℕ} {i : ℕ} (go :
 
   module _ (u : i < maps .count) where
     pub look-place : i < length (maps .at)
-    look-place = let t = go .room .ready .three in let f = go .room .ready .few in omega arith
+    look-place = room-place (go .room) u
 
     one : from text maps i ≡ mapOf (the text (getD (maps .at) i 0)) ∷ from text maps (i + 1)
     one = from-one (go .room .ready) i u
@@ -149,7 +149,7 @@ module _ {text : List ℕ} {maps : Maps} {before now : List ℕ} {i : ℕ} (go :
 
     pub look-asks : OneFine text (getD (maps .at) i 0) (length now)
     look-asks = record {
-      map = record { stands = go .room .ready .stand i u; good = go .room .ready .good i u; short = go .room .short };
+      map = room-map (go .room) u .map;
       fine = rw (go .long) (fine-first _ _ (length before) split-fine);
     }
 

@@ -12,12 +12,12 @@ use borrow.Author.Tests.{le-ltb}
 use Rattle.lists.specs.Lists.{there}
 use Rattle.grammar.specs.Document.{Element}
 use Rattle.grammar.specs.Parser.{parse}
-use Rattle.nodes.specs.Places.{Stands, the}
+use Rattle.nodes.specs.Places.{the}
 use Rattle.cifti.specs.Maps.{mapsOf}
 use Rattle.cifti.specs.Names.{namesOn}
 use Rattle.cifti.specs.Conditions as C
 use Rattle.cifti.specs.Conditions.{_when_, dimensionsWrong, lengthWrong, ofMaps, textTooLong}
-use Rattle.maps.specs.Survey.{MapsAre}
+use Rattle.maps.specs.Survey.{MatrixAt, MapsAre}
 use Rattle.maps.specs.Ready.{mapsIn, mapsAt, Ready, maps-many, maps-ready, maps-same}
 use Rattle.maps.specs.Eight.{Surveyed}
 use Rattle.maps.specs.Nine.{InRoom}
@@ -56,8 +56,8 @@ module _ {text lengths : List ℕ} {o : Opening} (op : Opens text lengths o) whe
     passed : Passed text lengths (o .matrix)
     passed = op .passed z
 
-    pub survey-stands : Stands text (o .matrix)
-    survey-stands = passed .stands
+    pub survey-matrix : MatrixAt text (o .matrix)
+    survey-matrix = record { stands = passed .stands; good = passed .good; short = passed .short }
 
     module _ {maps : Maps} (are : MapsAre text (o .matrix) maps) where
       pub survey-asks : Surveyed text (o .matrix) maps lengths
@@ -104,4 +104,4 @@ module _ {text lengths : List ℕ} {o : Opening} (op : Opens text lengths o) whe
               });
             }
 
-pub ruleset surveyed = (survey-refused, survey-stands, survey-asks, survey-eight, survey-room, survey-nine, survey-passes, needs)
+pub ruleset surveyed = (survey-refused, survey-matrix, survey-asks, survey-eight, survey-room, survey-nine, survey-passes, needs)

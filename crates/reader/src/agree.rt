@@ -1,6 +1,5 @@
 // Condition 9: a map's length is not that of a dimension it applies to.
 use super::dims::lists_digit;
-use super::lengths::map_length;
 use maps::survey::Maps;
 ghost use mathlib.Core.Path.{_≡_};
 ghost use lib.ListN.{getD};
@@ -49,11 +48,10 @@ pub(crate) fn length_wrong(text: &[u8], maps: Maps, lengths: &[u64]) -> bool
     ensures { λ r. ⌜ r ≡ lengthWrong (now (lengths .entry)) (mapsAt (now (text .entry)) maps) ⌝ }
 {
     let at = maps.at;
+    let sizes = maps.length;
     let mut i = 0;
     while i < maps.count {
-        let k = at[i];
-        let size = map_length(text, k);
-        if length_differs(text, k, size, lengths) {
+        if length_differs(text, at[i], sizes[i], lengths) {
             return true;
         }
         i += 1;

@@ -1,7 +1,6 @@
 // What the answer says of the maps.
 use super::dims::lists_digit;
 use super::fields::attribute_is;
-use super::lengths::map_length;
 use super::series::series_at;
 use cifti::Answer;
 use cifti::Decimal;
@@ -15,7 +14,7 @@ ghost use mathlib.Core.Path.{_≡_};
 ghost use Rattle.nodes.specs.Places.{the};
 ghost use Rattle.cifti.specs.Maps.{contentOf};
 ghost use Rattle.cifti.specs.Answer as answers;
-ghost use Rattle.maps.specs.Sums.{MapAt};
+ghost use Rattle.maps.specs.Sums.{Measured};
 ghost use Rattle.maps.specs.Ready.{mapsAt};
 ghost use Rattle.maps.specs.Nine.{InRoom};
 ghost use Rattle.describe.specs.Said.{brainSaid, seriesDimension, scalarsSaid, takes, AllSaid, Choosing};
@@ -79,12 +78,11 @@ fn scalars_said(length: u64) -> Dimension
     }
 }
 
-// What the answer says of the map at `at`, whose stretch, if it has one, begins at `start`.
-pub(crate) fn described(text: &[u8], at: usize, start: usize) -> Dimension
-    requires { ⌜ MapAt (now text) at ⌝ }
+// What the answer says of the map at `at`, of this length, whose stretch, if it has one, begins at `start`.
+fn described(text: &[u8], at: usize, length: u64, start: usize) -> Dimension
+    requires { ⌜ Measured (now text) at length ⌝ }
     ensures { λ r. ⌜ r ≡ answers.described start (contentOf (the (now (text .entry)) at)) ⌝ }
 {
-    let length = map_length(text, at);
     if attribute_is(
         text,
         at,
@@ -124,10 +122,11 @@ fn all_said(text: &[u8], maps: Maps) -> Said
     let none = unused();
     let mut all = Said { each: [none; 3] };
     let at = maps.at;
+    let sizes = maps.length;
     let mut start = 0;
     let mut i = 0;
     while i < maps.count {
-        let said = described(text, at[i], start);
+        let said = described(text, at[i], sizes[i], start);
         all.each[i] = said;
         start += places_of(said) as usize;
         i += 1;

@@ -1,18 +1,18 @@
 // How many records a map takes, and condition 13: records lent are fewer than all stretches, or work space than the longest.
 use super::fields::attribute_is;
-use super::lengths::map_length;
 use maps::survey::Maps;
 ghost use mathlib.Core.Path.{_≡_};
 ghost use Rattle.nodes.specs.Places.{the};
 ghost use Rattle.cifti.specs.Maps.{contentOf};
 ghost use Rattle.cifti.specs.Conditions.{roomShort};
 ghost use Rattle.cifti.specs.Answer.{reach};
-ghost use Rattle.maps.specs.Sums.{MapAt};
+ghost use Rattle.maps.specs.Sums.{Measured};
 ghost use Rattle.maps.specs.Ready.{mapsAt};
 ghost use Rattle.maps.specs.Nine.{InRoom};
 
-pub(crate) fn stretch_length(text: &[u8], at: usize) -> u64
-    requires { ⌜ MapAt (now text) at ⌝ }
+// Of a map of this length.
+fn stretch_length(text: &[u8], at: usize, length: u64) -> u64
+    requires { ⌜ Measured (now text) at length ⌝ }
     ensures { λ r. ⌜ r ≡ reach (contentOf (the (now (text .entry)) at)) ⌝ }
 {
     if attribute_is(
@@ -21,7 +21,7 @@ pub(crate) fn stretch_length(text: &[u8], at: usize) -> u64
         b"IndicesMapToDataType",
         b"CIFTI_INDEX_TYPE_BRAIN_MODELS",
     ) {
-        return map_length(text, at);
+        return length;
     }
     0
 }
@@ -31,11 +31,12 @@ pub(crate) fn room_short(text: &[u8], maps: Maps, room: usize, work: usize) -> b
     ensures { λ r. ⌜ r ≡ roomShort room work (mapsAt (now (text .entry)) maps) ⌝ }
 {
     let at = maps.at;
+    let sizes = maps.length;
     let lent = work as u64;
     let mut left = room as u64;
     let mut i = 0;
     while i < maps.count {
-        let size = stretch_length(text, at[i]);
+        let size = stretch_length(text, at[i], sizes[i]);
         if lent < size {
             return true;
         }

@@ -24,6 +24,7 @@ pub(crate) fn surveyed(text: &[u8], lengths: &[u64]) -> Survey
             maps: Maps {
                 count: 0,
                 at: [0; 3],
+                length: [0; 3],
             },
         };
     }

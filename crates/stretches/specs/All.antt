@@ -14,7 +14,7 @@ use Rattle.cifti.specs.Conditions.{alike, uneven, beyond, modelsShare, rangesWr
 use Rattle.cifti.specs.Answer.{stretches, filledWith}
 use Rattle.maps.specs.Ready.{mapsAt}
 use Rattle.maps.specs.Digits.{from, from-all, from-none, from-one}
-use Rattle.maps.specs.Nine.{InRoom}
+use Rattle.maps.specs.Nine.{InRoom, room-map, room-place}
 use Rattle.maps.specs.declared.survey.Maps.{Maps}
 use Rattle.table.specs.Ready.{mapAt}
 use Rattle.stretches.specs.One.{stretchOf, stretches-one, stretches-length, Writable, Written}
@@ -98,7 +98,7 @@ module _ {text : List ℕ} {maps : Maps} where
 
     module _ (u : i < maps .count) where
       pub filling-place : i < length (maps .at)
-      filling-place = omega (arith, go .room-in .ready .three, go .room-in .ready .few)
+      filling-place = room-place (go .room-in) u
 
       splits : from text maps i ≡ mapAt text (getD (maps .at) i 0) ∷ from text maps (i + 1)
       splits = from-one (go .room-in .ready) i u
@@ -111,7 +111,7 @@ module _ {text : List ℕ} {maps : Maps} where
 
       pub filling-one : Writable text (getD (maps .at) i 0) (length records) next
       filling-one = record {
-        at = record { stands = go .room-in .ready .stand i u; good = go .room-in .ready .good i u; short = go .room-in .short };
+        at = room-map (go .room-in) u .map;
         apart = share-one _ _ (sym (ap modelsShare splits) ∙ go .share);
         even = ranges-one _ _ (sym (ap rangesWrong splits) ∙ go .ranges);
         in-volume = inside-one _ _ (sym (ap numbersOutside splits) ∙ go .inside);

@@ -1,6 +1,6 @@
 use Prim.Native.Nat.{_-_}
 use lib.ListN.{length}
-use Rattle.nodes.specs.Children.{left}
+use Rattle.nodes.specs.Facing.{left-ahead}
 use Rattle.opening.proofs.LawsWalk.{Walking, walking, walking-room, walking-deeper}
 use native.Mathlib.Omega.{arith}
 use Prim.Native.Nat.{ℕ, _<_}
@@ -9,17 +9,17 @@ use borrow.Fn.PlainCycle.{Measures, is, falls, and}
 use Rattle.opening.proofs.walk.fault.Reads as fault
 use Rattle.opening.proofs.walk.fault.Kinds as fault-kinds
 use Rattle.opening.proofs.walk.+fault.Lts-fault as fault-lts
-use Rattle.nodes.proofs.children.first_child.Reads as first-child-reads
-use Rattle.nodes.proofs.children.kid_from.Reads as kid-from-reads
+use Rattle.nodes.proofs.ahead.ahead_first.Reads as ahead-first-reads
+use Rattle.nodes.proofs.ahead.ahead_from.Reads as ahead-from-reads
 use Rattle.opening.proofs.table.lines_from.Reads as lines-from-reads
+use Rattle.opening.proofs.table.text_form.Reads as text-form-reads
 use Rattle.opening.proofs.values.own_fault.Reads as own-fault-reads
 use Rattle.opening.proofs.values.sooner.Reads as sooner-reads
 use Rattle.opening.proofs.walk.child_kind.Reads as child-kind-reads
 use Rattle.opening.proofs.walk.child_line.Reads as child-line-reads
 use Rattle.opening.proofs.walk.counted.Reads as counted-reads
-use Rattle.opening.proofs.walk.end_of.Reads as end-of-reads
+use Rattle.opening.proofs.walk.finished.Reads as finished-reads
 use Rattle.opening.proofs.walk.refused.Reads as refused-reads
-use Rattle.opening.proofs.walk.times_right.Reads as times-right-reads
 use Rattle.opening.proofs.walk.+fault.{statement}
 use Rattle.opening.proofs.walk.+fault.Tie.{close}
 
@@ -33,37 +33,37 @@ abbrev fault-below : ℕ → In 1 fault-kinds.ps
 fault-below t = and 1 fault-kinds.ps (falls 1 fault-kinds.ps _<_ μ-fault t) fault.Pre
 
 abbrev fault-Inv-loop : fault-lts.InvT-loop
-fault-Inv-loop text at kind worst₀ from tally₀ last₀ kid₀ worst tally last kid = Walking text at kind from worst tally last kid
+fault-Inv-loop text at kind worst₀ from words tally₀ next₀ worst tally next = Walking text at kind from words worst tally next
 
 abbrev fault-μ-loop : fault-lts.MeasureT-loop
-fault-μ-loop text at kind worst₀ from tally₀ last₀ kid₀ worst tally last kid = left text kid
+fault-μ-loop text at kind worst₀ from words tally₀ next₀ worst tally next = left-ahead text next
 
 pub +fault-spec : {M : Type 1} → statement M
 +fault-spec = close μ-fault λ t. fault-lts.spec (
   own-fault-reads.Asked,
   own-fault-reads.Learnt,
-  refused-reads.Asked,
-  refused-reads.Learnt,
   lines-from-reads.Asked,
   lines-from-reads.Learnt,
-  first-child-reads.Asked,
-  first-child-reads.Learnt,
+  text-form-reads.Asked,
+  text-form-reads.Learnt,
+  ahead-first-reads.Asked,
+  ahead-first-reads.Learnt,
   child-line-reads.Asked,
   child-line-reads.Learnt,
   child-kind-reads.Asked,
   child-kind-reads.Learnt,
+  refused-reads.Asked,
+  refused-reads.Learnt,
   counted-reads.Asked,
   counted-reads.Learnt,
   fault-below t,
   fault.Post,
   sooner-reads.Asked,
   sooner-reads.Learnt,
-  kid-from-reads.Asked,
-  kid-from-reads.Learnt,
-  times-right-reads.Asked,
-  times-right-reads.Learnt,
-  end-of-reads.Asked,
-  end-of-reads.Learnt,
+  ahead-from-reads.Asked,
+  ahead-from-reads.Learnt,
+  finished-reads.Asked,
+  finished-reads.Learnt,
 )
     (fault-at t)
     fault.Post
@@ -71,7 +71,6 @@ pub +fault-spec : {M : Type 1} → statement M
     fault-μ-loop
     (λ c κs. search walking)
     (λ c κs. search walking)
-    (λ c. search walking)
     (λ c κs. search walking)
     (λ c κs. search walking)
     (λ c. search walking)
@@ -82,10 +81,10 @@ pub +fault-spec : {M : Type 1} → statement M
     (λ c. search walking)
     (λ c. search walking)
     (λ c κs.
-    let r = walking-room (c .before .before .before .before .before .before .loop .inv) (c .before .before .before .before .kid .given .1) (c .before .child-kind .ensures) (c .if2 .left) (c .before .before .child-line .ensures) in
+    let r = walking-room (c .before .before .before .before .before .before .loop .inv) (c .before .before .before .before .next .given .1) (c .before .child-kind .ensures) (c .if1 .left) (c .before .before .child-line .ensures) in
     record { known = search walking; room = omega arith })
     (λ c κs.
-    let d = walking-deeper (c .before .before .before .before .before .before .before .loop .inv) (c .before .before .before .before .before .kid .given .1) in
+    let d = walking-deeper (c .before .before .before .before .before .before .before .loop .inv) (c .before .before .before .before .before .next .given .1) in
     (omega (arith, c .before .before .before .before .before .before .before .before .before .before .before .before .before .pre .0), search walking))
     (λ c κs. search walking)
     (λ c κs. search walking)
@@ -95,7 +94,7 @@ pub +fault-spec : {M : Type 1} → statement M
     (λ c. search walking)
     (λ c. search walking)
     (λ c κs. search walking)
-    (λ c κs. search walking)
+    (λ c. search walking)
     (λ c. search walking)
     (λ c κs. search walking)
     (λ c. search walking)

@@ -4,10 +4,10 @@ use Rattle.reader.proofs.agree.length_wrong.Statement.{statement}
 use Rattle.reader.proofs.agree.length_wrong.Tie as tie
 
 abbrev Inv-loop : tie.InvT-loop
-Inv-loop text maps lengths at i₀ i = Agreeing text maps lengths i
+Inv-loop text maps lengths at sizes i₀ i = Agreeing text maps lengths i
 
 abbrev μ-loop : tie.MeasureT-loop
-μ-loop text maps lengths at i₀ i = maps .count - i
+μ-loop text maps lengths at sizes i₀ i = maps .count - i
 
 pub length-wrong-spec : {M : Type 1} → statement M
 length-wrong-spec =
@@ -18,7 +18,8 @@ length-wrong-spec =
     (λ c. search agreeing)
     (λ c. search agreeing)
     (λ c. search agreeing)
-    (λ c κs. search agreeing)
+    (λ c. search agreeing)
+    (λ c. search agreeing)
     (λ c κs. search agreeing)
     (λ c. search agreeing)
     (λ c. search agreeing)

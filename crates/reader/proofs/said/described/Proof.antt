@@ -6,7 +6,6 @@ pub described-spec : {M : Type 1} → statement M
 described-spec =
     tie.close
     (tie.spec
-    (λ c κs. search describing)
     (λ c. search describing)
     (λ c. search describing)
     (λ c κs. search describing)
@@ -15,7 +14,7 @@ described-spec =
     (λ c. search describing)
     (λ c. search describing)
     (λ c κs. search describing)
-    (λ c κs. series-here (c .before .before .before .before .before .before .before .before .before .before .pre) (c .before .before .before .before .before .attribute-is .ensures) (c .before .before .before .before .if1 .left) (c .before .attribute-is2 .ensures) (c .if2 .taken))
+    (λ c κs. series-here (c .before .before .before .before .before .before .before .before .before .pre .map) (c .before .before .before .before .before .attribute-is .ensures) (c .before .before .before .before .if1 .left) (c .before .attribute-is2 .ensures) (c .if2 .taken))
     (λ c κs. search describing)
     (λ c. search describing)
     (λ c κs. search describing)

@@ -4,10 +4,10 @@ use Rattle.reader.proofs.stretch.room_short.Statement.{statement}
 use Rattle.reader.proofs.stretch.room_short.Tie as tie
 
 abbrev Inv-loop : tie.InvT-loop
-Inv-loop text maps room work at lent left₀ i₀ left i = Housing text maps room work left i
+Inv-loop text maps room work at sizes lent left₀ i₀ left i = Housing text maps room work left i
 
 abbrev μ-loop : tie.MeasureT-loop
-μ-loop text maps room work at lent left₀ i₀ left i = maps .count - i
+μ-loop text maps room work at sizes lent left₀ i₀ left i = maps .count - i
 
 pub room-short-spec : {M : Type 1} → statement M
 room-short-spec =
@@ -15,6 +15,8 @@ room-short-spec =
     (tie.spec
     Inv-loop
     μ-loop
+    (λ c. search housing)
+    (λ c. search housing)
     (λ c. search housing)
     (λ c. search housing)
     (λ c. search housing)

@@ -9,6 +9,5 @@ stretch-length-spec =
     (λ c. search reaching)
     (λ c. search reaching)
     (λ c κs. search reaching)
-    (λ c κs. search reaching)
     (λ c. search reaching)
     (λ c. search reaching))

@@ -1,13 +1,13 @@
-use Rattle.maps.specs.Survey.{surveying, Surveying}
 use Rattle.nodes.specs.Children.{left}
+use Rattle.maps.specs.Survey.{Surveying, surveying}
 use Rattle.reader.proofs.survey.maps_of.Statement.{statement}
 use Rattle.reader.proofs.survey.maps_of.Tie as tie
 
 abbrev Inv-loop : tie.InvT-loop
-Inv-loop text matrix maps₀ kid₀ t6 maps kid = Surveying text matrix maps kid
+Inv-loop text matrix maps₀ kid₀ t7 maps kid = Surveying text matrix maps kid
 
 abbrev μ-loop : tie.MeasureT-loop
-μ-loop text matrix maps₀ kid₀ t6 maps kid = left text kid
+μ-loop text matrix maps₀ kid₀ t7 maps kid = left text kid
 
 pub maps-of-spec : {M : Type 1} → statement M
 maps-of-spec =
@@ -18,12 +18,14 @@ maps-of-spec =
     (λ c κs. search surveying)
     (λ c. search surveying)
     (λ c. search surveying)
-    (λ c κs. search surveying)
     (λ c. search surveying)
     (λ c κs. search surveying)
     (λ c κs. search surveying)
+    (λ c κs. search surveying)
+    (λ c κs. search surveying)
     (λ c. search surveying)
     (λ c. search surveying)
+    (λ c κs. search surveying)
     (λ c. search surveying)
     (λ c. search surveying)
     (λ c. search surveying)

@@ -3,4 +3,13 @@ use Rattle.reader.proofs.survey.noted.Statement.{statement}
 use Rattle.reader.proofs.survey.noted.Tie as tie
 
 pub noted-spec : {M : Type 1} → statement M
-noted-spec = tie.close (tie.spec (λ c. search noting) (λ c. search noting) (λ c. search noting) (λ c. search noting) (λ c. search noting))
+noted-spec =
+    tie.close
+    (tie.spec
+    (λ c. search noting)
+    (λ c. search noting)
+    (λ c. search noting)
+    (λ c. search noting)
+    (λ c. search noting)
+    (λ c. search noting)
+    (λ c. search noting))

@@ -1,9 +1,9 @@
 use Rattle.numbers.proofs.LawsNext.{taking-time}
-use Rattle.numbers.proofs.number_at.Statement.{statement}
-use Rattle.numbers.proofs.number_at.Tie as tie
+use Rattle.numbers.proofs.listed.number_from.Statement.{statement}
+use Rattle.numbers.proofs.listed.number_from.Tie as tie
 
-pub number-at-spec : {M : Type 1} → statement M
-number-at-spec =
+pub number-from-spec : {M : Type 1} → statement M
+number-from-spec =
     tie.close
     (tie.spec
     (λ c κs. search taking-time)

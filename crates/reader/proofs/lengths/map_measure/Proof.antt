@@ -1,9 +1,9 @@
 use Rattle.maps.specs.Sums.{measuring}
-use Rattle.reader.proofs.lengths.map_length.Statement.{statement}
-use Rattle.reader.proofs.lengths.map_length.Tie as tie
+use Rattle.reader.proofs.lengths.map_measure.Statement.{statement}
+use Rattle.reader.proofs.lengths.map_measure.Tie as tie
 
-pub map-length-spec : {M : Type 1} → statement M
-map-length-spec =
+pub map-measure-spec : {M : Type 1} → statement M
+map-measure-spec =
     tie.close
     (tie.spec
     (λ c. search measuring)
@@ -15,6 +15,7 @@ map-length-spec =
     (λ c. search measuring)
     (λ c κs. search measuring)
     (λ c. search measuring)
+    (λ c κs. search measuring)
     (λ c κs. search measuring)
     (λ c. search measuring)
     (λ c κs. search measuring)

@@ -1,14 +1,13 @@
-use Rattle.numbers.proofs.LawsNext.{skipping, Skipping}
 use Prim.Native.Nat.{_-_}
-use lib.ListN.{length}
-use Rattle.numbers.proofs.plain_blanks.Statement.{statement}
-use Rattle.numbers.proofs.plain_blanks.Tie as tie
+use Rattle.numbers.proofs.LawsNext.{Skipping, skipping}
+use Rattle.numbers.proofs.listed.plain_blanks.Statement.{statement}
+use Rattle.numbers.proofs.listed.plain_blanks.Tie as tie
 
 abbrev Inv-loop : tie.InvT-loop
-Inv-loop text at i₀ i = Skipping text at i
+Inv-loop text at last i₀ i = Skipping text at last i
 
 abbrev μ-loop : tie.MeasureT-loop
-μ-loop text at i₀ i = length text - i
+μ-loop text at last i₀ i = last - i
 
 pub plain-blanks-spec : {M : Type 1} → statement M
 plain-blanks-spec =
