@@ -260,7 +260,7 @@ def offset_off(rng, doc):
 def count_moved(rng, doc):
     """One model longer and another shorter, lists too: the sum is kept, an overlap hides a gap."""
     one, other = two_models(rng, doc)
-    if not one or int(other.get("IndexCount")) < 2:
+    if not one or int(one.get("IndexCount")) < 1 or int(other.get("IndexCount")) < 2:
         return False
     step = len(one.contents[0].words) // int(one.get("IndexCount"))
     one.contents[0].words += other.contents[0].words[-step:]

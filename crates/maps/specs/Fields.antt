@@ -82,3 +82,8 @@ unfolding value-at-name wordAt
 is-word w word st p = p ∙ ap (λ o. same (orEmpty o) word) (found-law w st)
 
 pub ruleset fieldSteps = (seen-is, seen-no, seen-none, is-word, needs)
+
+-- what `attribute_is` says, of words given in letters
+pub says-has : (a s : String) (e : Element) {b : Bool} → b ≡ same (wordAt (ascii a) e) (ascii s) → b ≡ has a s e
+unfolding has is
+says-has a s e p = p ∙ ap (λ x. same x (ascii s)) (word-at a e)

@@ -38,7 +38,7 @@ use Rattle.cifti.specs.Rows.{brainModels, series, scalars}
 use Rattle.cifti.specs.Maps.{Model, Map, mapOf, modelOf, contentOf, seriesOf, lengthOf, lengthBy, brain}
 use Rattle.maps.specs.Good.{Good, GoodAs, AllGood, none-left, one-good}
 use Rattle.maps.specs.Kinds.{GoodMap, brain-map, series-map, scalars-map, GoodModel, good-model, brainRows, scalarRows, brain-children, scalars-children, model-facts, series-facts}
-use Rattle.maps.specs.Fields.{wordAt, word-at, numberSeen, number-seen, orZero}
+use Rattle.maps.specs.Fields.{wordAt, word-at, says-has, numberSeen, number-seen, orZero}
 use Rattle.numbers.specs.Answers.{wholeIn}
 use Rattle.maps.specs.declared.survey.Measure.{Measure}
 use Rattle.numbers.specs.declared.Whole.the-variants.{Is, No}
@@ -274,11 +274,6 @@ names-total (e ∷ l) = go (is "NamedMap" (nameOf e)) (names-total l)
     go true ih = omega arith
     go false ih = omega arith
 
--- the attribute that tells a kind
-kind-is : (s : String) (e : Element) (w : List ℕ) → w ≡ ascii s → {b : Bool} → b ≡ same (wordAt (ascii "IndicesMapToDataType") e) w → b ≡ has "IndicesMapToDataType" s e
-unfolding has is
-kind-is s e w q p = p ∙ ap (λ x. same x w) (word-at "IndicesMapToDataType" e) ∙ ap (same (attr "IndicesMapToDataType" e)) q
-
 module _ {text : List ℕ} {at : ℕ} (m : MapAt text at) where
   pub in-short : InShort text at
   in-short = record { stands = m .stands; short = m .short }
@@ -288,7 +283,7 @@ module _ {text : List ℕ} {at : ℕ} (m : MapAt text at) where
 
   module _ {b : Bool} (p : b ≡ same (wordAt (ascii "IndicesMapToDataType") (the text at)) (ascii "CIFTI_INDEX_TYPE_BRAIN_MODELS")) where
     is-brain : b ≡ has "IndicesMapToDataType" "CIFTI_INDEX_TYPE_BRAIN_MODELS" (the text at)
-    is-brain = kind-is "CIFTI_INDEX_TYPE_BRAIN_MODELS" (the text at) (ascii "CIFTI_INDEX_TYPE_BRAIN_MODELS") refl p
+    is-brain = says-has "IndicesMapToDataType" "CIFTI_INDEX_TYPE_BRAIN_MODELS" (the text at) p
 
     pub length-brain : b ≡ true → {n : ℕ} → n ≡ total (weightOf true) (elements (contentsOf (the text at))) → n ≡ lengthOf (mapOf (the text at))
     unfolding lengthOf lengthBy mapOf contentOf children
@@ -307,7 +302,7 @@ module _ {text : List ℕ} {at : ℕ} (m : MapAt text at) where
       no-brain = sym is-brain ∙ f
 
       is-series : c ≡ has "IndicesMapToDataType" "CIFTI_INDEX_TYPE_SERIES" (the text at)
-      is-series = kind-is "CIFTI_INDEX_TYPE_SERIES" (the text at) (ascii "CIFTI_INDEX_TYPE_SERIES") refl q
+      is-series = says-has "IndicesMapToDataType" "CIFTI_INDEX_TYPE_SERIES" (the text at) q
 
       length-series : c ≡ true → {n : ℕ} → n ≡ numberSeen 1 1048576 (wordAt (ascii "NumberOfSeriesPoints") (the text at)) → n ≡ lengthOf (mapOf (the text at))
       unfolding lengthOf lengthBy mapOf contentOf seriesOf

@@ -30,12 +30,6 @@ use Rattle.schema.specs.Schema.{kindOf, kindBy, kindChosen, kindAmong}
 use Rattle.cifti.specs.Rows.{ElementKind, cifti, brainModels, series, scalars, mapKinds}
 use Rattle.maps.specs.Good.{Good, GoodAs, good-as, AllGood, none-left, one-good}
 use Rattle.maps.specs.Kinds.{not-both, matrixRows, matrix-children, root-child, never-some, has-value, map-word}
-use Rattle.maps.specs.Fields.{wordAt, word-at}
-
--- what `attribute_is` says, of words given in letters
-pub says-has : (a s : String) (e : Element) {b : Bool} → b ≡ same (wordAt (ascii a) e) (ascii s) → b ≡ has a s e
-unfolding has is
-says-has a s e p = p ∙ ap (λ x. same x (ascii s)) (word-at a e)
 
 -- ---- Condition 4.
 

@@ -5,11 +5,12 @@ use Prim.Native.Nat.{ℕ, zero, suc, _+_, _-_, _≤_, _<_}
 use native.Mathlib.Omega.{arith}
 use native.Mathlib.Decide.{decLt}
 use lib.Seq.{drop-drop}
-use mathlib.Core.Bool.{Bool, true, false, not, _&&_, _||_, false≢true}
+use mathlib.Core.Bool.{Bool, true, false, not, _&&_, _||_}
 use lib.Dec.{eqb}
 use borrow.Author.Needs.{needs}
 use borrow.Author.Tests.{eq-eqb, ne-eqb, eqb-false, not-true, not-false}
 use lib.ListN.{length, drop, getD, length-drop}
+use Rattle.grammar.specs.Facts.{and-left, and-right}
 use Rattle.grammar.specs.Bytes.{quote}
 use Rattle.grammar.specs.Read.{got, bind, mark, test}
 use Rattle.grammar.specs.Parser.{closing, Look, at-close, at-comment, at-element, at-text, look}
@@ -86,22 +87,14 @@ module _ (text : List ℕ) (at i : ℕ) (go : Seeking text at i) where
   unfolding to-tag
   seek-on h f = record { same-tag = go .same-tag ∙ rw (at-byte text i h, ne-eqb _ _ f) }
 
-both-first : (a b : Bool) → (a && b) ≡ true → a ≡ true
-both-first true b h = refl
-both-first false b h = h
-
-both-second : (a b : Bool) → (a && b) ≡ true → b ≡ true
-both-second true b h = h
-both-second false b h = absurd (false≢true h)
-
 tag-passed : (text : List ℕ) (n i : ℕ) → i + n ≤ length text → lacks 60 n (drop i text) ≡ true → to-tag (drop i text) ≡ to-tag (drop (i + n) text)
 unfolding lacks to-tag
 tag-passed text zero i h t = let e : i + 0 ≡ i = omega arith in rw e
 tag-passed text (suc n) i h t =
     let u : i < length text = omega arith in
     let s = rw (at-byte text i u) at t in
-    let f = both-first (not (eqb (getD text i 0) 60)) (lacks 60 n (drop (i + 1) text)) s in
-    let r = both-second (not (eqb (getD text i 0) 60)) (lacks 60 n (drop (i + 1) text)) s in
+    let f = and-left (not (eqb (getD text i 0) 60)) (lacks 60 n (drop (i + 1) text)) s in
+    let r = and-right (not (eqb (getD text i 0) 60)) (lacks 60 n (drop (i + 1) text)) s in
     let e : i + suc n ≡ i + 1 + n = omega arith in
     rw (at-byte text i u, not-true (eqb (getD text i 0) 60) f, e) (tag-passed text n (i + 1) (omega arith) r)
 
@@ -153,7 +146,7 @@ lacks-more : (b m n : ℕ) (s : List ℕ) → lacks b m s ≡ true → lacks b n
 unfolding lacks
 lacks-more b zero n s h k = let e : 0 + n ≡ n = omega arith in rw e k
 lacks-more b (suc m) n [] h k = let e : suc m + n ≡ suc (m + n) = omega arith in rw e
-lacks-more b (suc m) n (a ∷ s) h k = let e : suc m + n ≡ suc (m + n) = omega arith in rw (e, both-first (not (eqb a b)) (lacks b m s) h) (lacks-more b m n s (both-second (not (eqb a b)) (lacks b m s) h) k)
+lacks-more b (suc m) n (a ∷ s) h k = let e : suc m + n ≡ suc (m + n) = omega arith in rw (e, and-left (not (eqb a b)) (lacks b m s) h) (lacks-more b m n s (and-right (not (eqb a b)) (lacks b m s) h) k)
 
 lacks-none : (b : ℕ) (s : List ℕ) → lacks b 0 s ≡ true
 unfolding lacks
@@ -281,8 +274,8 @@ module _ (text : List ℕ) (q : ℕ) (k : q ≡ 0 → ⊥) where
   quote-passed (suc n) i h t =
       let u : i < length text = omega arith in
       let s = rw (at-byte text i u) at t in
-      let f = both-first (not (eqb (getD text i 0) q)) (lacks q n (drop (i + 1) text)) s in
-      let r = both-second (not (eqb (getD text i 0) q)) (lacks q n (drop (i + 1) text)) s in
+      let f = and-left (not (eqb (getD text i 0) q)) (lacks q n (drop (i + 1) text)) s in
+      let r = and-right (not (eqb (getD text i 0) q)) (lacks q n (drop (i + 1) text)) s in
       let e : i + suc n ≡ i + 1 + n = omega arith in
       quote-one i u (eqb-false (getD text i 0) q (not-true (eqb (getD text i 0) q) f)) ∙ quote-passed n (i + 1) (omega arith) r ∙ ap (λ m. tag-from q (drop m text)) (sym e)
 
