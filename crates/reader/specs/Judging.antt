@@ -17,10 +17,9 @@ use Rattle.nodes.specs.Places.{Stands, the}
 use Rattle.cifti.specs.Maps.{Content, brain, series, scalars, Map, mapOf, contentOf, seriesOf, models, modelsBy, volumeOf, isBrainBy, brainMaps}
 use Rattle.cifti.specs.Conditions as C
 use Rattle.cifti.specs.Conditions.{_when_, alike, modelsShare, uneven, rangesWrong, beyond, numbersOutside}
-use Rattle.maps.specs.Fields.{wordAt}
+use Rattle.maps.specs.Fields.{wordAt, says-has}
 use Rattle.maps.specs.Kinds.{GoodMap, brain-map, series-map, scalars-map}
 use Rattle.maps.specs.Sums.{MapAt}
-use Rattle.maps.specs.Unread.{says-has}
 use Rattle.maps.specs.Nine.{InRoom, room-map, room-place}
 use Rattle.maps.specs.Ready.{Ready, mapsAt}
 use Rattle.maps.specs.Digits.{from, from-all, from-none, from-one}
