@@ -14,7 +14,7 @@ use Rattle.numbers.specs.Numbers as Numbers
 use Rattle.records.specs.Record.{recordOf}
 use Rattle.cifti.specs.Maps.{Model, Content, Map, mapsOf, models, brainMaps, lengthOf, lengthBy, covers, locations}
 use Rattle.cifti.specs.Conditions.{refusal}
-use Rattle.cifti.specs.Text.{DocumentOf}
+use Rattle.cifti.specs.Text.{Answers}
 use Rattle.cifti.specs.declared.answer.Kind.the-variants.{None, Brain, Series, Scalars}
 use Rattle.cifti.specs.declared.answer.Decimal.{Decimal}
 use Rattle.cifti.specs.declared.answer.Series as S
@@ -88,15 +88,20 @@ unfoldable pub recordsBy : (number : ℕ) → Option Element → (records : List
 recordsBy zero d records = filledWith (stretches (mapsIn d)) records
 recordsBy (suc n) d records = records
 
+-- The same over the lengths, the size of the text and the room lent, which decide the number.
+unfoldable pub answerTo : (lengths : List ℕ) (room work size : ℕ) → Option Element → Answer
+answerTo lengths room work size d = answerBy (refusal lengths size room work d) d
+
+unfoldable pub recordsAfter : (lengths records : List ℕ) (work size : ℕ) → Option Element → List ℕ
+recordsAfter lengths records work size d = recordsBy (refusal lengths size (length records) work d) d records
+
 -- ---- THE PROMISE: text, lengths, records and work space lent; the answer; records and work space after.
 
-pub record Reads (text lengths records work : List ℕ) (answer : Answer) (recordsAfter workAfter : List ℕ) : Type 0 where
-  pub document : Option Element
-  pub of : DocumentOf text document
-  pub answered : answer ≡ answerBy (refusal lengths (length text) (length records) (length work) document) document
-  pub filled : recordsAfter ≡ recordsBy (refusal lengths (length text) (length records) (length work) document) document records
+pub record Reads (text lengths records work : List ℕ) (answer : Answer) (after workAfter : List ℕ) : Type 0 where
+  pub answered : Answers text (answerTo lengths (length records) (length work) (length text)) answer
+  pub filled : Answers text (recordsAfter lengths records (length work) (length text)) after
   pub cleared : workAfter ≡ replicate (length work) 0
 
 unfoldable pub answerWords : Unit {0}
-unfolding recordAt stretch stretches filledWith asDecimal described reach dimensionAt acceptedWith mapsIn answerBy recordsBy
+unfolding recordAt stretch stretches filledWith asDecimal described reach dimensionAt acceptedWith mapsIn answerBy recordsBy answerTo recordsAfter
 answerWords = tt

@@ -6,6 +6,8 @@ use Prim.Native.Nat.{ℕ, _*_}
 use lib.Dec.{eqb, ltb}
 use lib.ListN.{length, getD}
 use Rattle.lists.specs.Lists.{any, count, twoOf, total, greatest, eachIn, allBelow, isSome, there}
+pub use Rattle.lists.specs.Refusals.{Refusal, _when_}
+unfoldable pub use Rattle.lists.specs.Refusals.{first}
 use Rattle.grammar.specs.Bytes.{between}
 use Rattle.grammar.specs.Document.{Element}
 use Rattle.grammar.specs.Look.{is, nameOf, has}
@@ -104,11 +106,7 @@ repeats l =
 unfoldable pub locationTwice : List Map → Bool
 locationTwice l = any (λ m. repeats (models m)) l
 
--- ---- THE TABLE: a number, and whether its condition applies. Where there is no document, the conditions on one do not arise.
-
-infix 80 _when_
-pub data Refusal : Type 0 where
-  _when_ : ℕ → Bool → Refusal
+-- ---- THE ORDER OF REFUSALS: rows of a number and whether its condition applies. Where there is no document, the conditions on one do not arise.
 
 unfoldable pub ofMaps : (List Map → Bool) → Option Element → Bool
 ofMaps p d = there (λ e. p (mapsOf e)) d
@@ -140,11 +138,6 @@ unfoldable pub conditions : (lengths : List ℕ) (size room work : ℕ) → Opti
 conditions lengths size room work d = conditionsTo9 lengths size d ++ conditionsFrom10 room work d
 
 -- The number is that of the first row that applies; 0 where none does.
-unfoldable pub first : List Refusal → ℕ
-first [] = 0
-first (n when true ∷ l) = n
-first (n when false ∷ l) = first l
-
 unfoldable pub refusal : (lengths : List ℕ) (size room work : ℕ) → Option Element → ℕ
 refusal lengths size room work d = first (conditions lengths size room work d)
 

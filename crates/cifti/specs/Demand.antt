@@ -10,39 +10,26 @@ use lib.Dec.{eqb}
 use lib.ListN.{length, getD, length-append, List·getD-append}
 use Rattle.lists.specs.Lists.{any, total, those, eachIn, there}
 use Rattle.lists.specs.Quantifiers.{OnePlace}
+use Rattle.lists.specs.RefusalLaws.{row-fails, rows-past}
 use Rattle.grammar.specs.Document.{Element}
 use Rattle.grammar.specs.Grammar.{Writes}
 use Rattle.records.specs.Record.{onSurface, recordOf}
 use Rattle.cifti.specs.Maps.{Content, Model, Map, mapsOf, models, brainMaps, lengthOf, lengthBy, isBrainBy, covers, locations}
-use Rattle.cifti.specs.Conditions.{Refusal, _when_, ofMaps, rangesWrong, uneven, conditions, conditionsTo9, conditionsFrom10, refusal}
-use Rattle.cifti.specs.Text.{written}
-use Rattle.cifti.specs.Answer.{stretch, stretches, filledWith, reach, described, dimensionAt, mapsIn, acceptedWith, answerBy, recordsBy, unused, recordAt, Reads}
-use Rattle.cifti.specs.Smallest.{Applies, here, later, Given, accepted, smallest, rising, above, refusal-smallest}
-use Rattle.cifti.specs.Theorems.{document-unique, answer-number}
+use Rattle.cifti.specs.Conditions.{ofMaps, rangesWrong, uneven, conditions, conditionsTo9, conditionsFrom10, refusal}
+use Rattle.cifti.specs.Answer.{stretch, stretches, filledWith, reach, described, dimensionAt, mapsIn, acceptedWith, answerBy, recordsBy, answerTo, recordsAfter, unused, recordAt, Reads}
+use Rattle.cifti.specs.Smallest.{refusal-none}
+use Rattle.cifti.specs.TextLaws.{answers-of}
+use Rattle.cifti.specs.Theorems.{answer-number}
 use Rattle.cifti.specs.Meaning.{Even, even-iff, record-at}
 use Rattle.cifti.specs.Said.{stretch-length, placed, dimension-of}
 use Rattle.cifti.specs.declared.answer.Answer.{Answer}
 
 -- ---- Number 0: no condition applies.
 
-none-applies : (lengths : List ℕ) (size room work : ℕ) (d : Option Element) → refusal lengths size room work d ≡ 0 → (m : ℕ) → ¬ Applies (conditions lengths size room work d) m
-unfolding conditions conditionsTo9 conditionsFrom10 rising
-none-applies lengths size room work d h = go (rw h at (refusal-smallest lengths size room work d))
-  where
-    go : Given (conditions lengths size room work d) 0 → (m : ℕ) → ¬ Applies (conditions lengths size room work d) m
-    go (accepted f) = f
-    go (smallest a f) = absurd (let k = above 1 (conditions lengths size room work d) refl 0 a in omega arith)
-
-row : {n : ℕ} {b : Bool} {l : List Refusal} → b ≡ true → Applies (n when b ∷ l) n
-row h = rw h here
-
+-- the eleventh row
 ranges-right : (lengths : List ℕ) (size room work : ℕ) (e : Element) → refusal lengths size room work (some e) ≡ 0 → rangesWrong (mapsOf e) ≡ false
 unfolding conditions conditionsTo9 conditionsFrom10 ofMaps there
-ranges-right lengths size room work e h = go (rangesWrong (mapsOf e)) refl
-  where
-    go : (t : Bool) → rangesWrong (mapsOf e) ≡ t → t ≡ false
-    go false k = refl
-    go true k = absurd (none-applies lengths size room work (some e) h 11 (later (later (later (later (later (later (later (later (later (later (row k))))))))))))
+ranges-right lengths size room work e h = row-fails (rows-past 10 (refusal-none lengths size room work (some e) h))
 
 even-in : (k : List Map) (m : Map) (l : List Map) → isBrainBy (m .content) ≡ true → any uneven (brainMaps (k ++ (m ∷ l))) ≡ false → uneven m ≡ false
 unfolding brainMaps those any
@@ -98,15 +85,12 @@ module _ {text lengths records work : List ℕ} {a : Answer} {s v : List ℕ} (r
   abbrev pub start : ℕ
   start = total (λ x. reach (x .content)) k
 
-  the-document : r .document ≡ some e
-  the-document = document-unique (r .of) (written w)
-
   number-of : ℕ
   number-of = refusal lengths (length text) (length records) (length work) (some e)
 
   answer-is : a ≡ answerBy number-of (some e)
-  unfolding number-of
-  answer-is = r .answered ∙ ap (λ d. answerBy (refusal lengths (length text) (length records) (length work) d) d) the-document
+  unfolding number-of answerTo
+  answer-is = answers-of (r .answered) w
 
   number-is : number-of ≡ 0
   number-is = sym (answer-number number-of (some e)) ∙ sym (ap (λ (x : Answer). x .number) answer-is) ∙ yes
@@ -116,8 +100,8 @@ module _ {text lengths records work : List ℕ} {a : Answer} {s v : List ℕ} (r
   accepted-is = answer-is ∙ rw (number-is, all-maps) refl
 
   records-are : s ≡ filledWith (stretches (k ++ (m ∷ l))) records
-  unfolding recordsBy mapsIn number-of
-  records-are = r .filled ∙ ap (λ d. recordsBy (refusal lengths (length text) (length records) (length work) d) d records) the-document ∙ rw (number-is, all-maps) refl
+  unfolding recordsBy mapsIn number-of recordsAfter
+  records-are = answers-of (r .filled) w ∙ rw (number-is, all-maps) refl
 
   -- a dimension that it lists and none before it does: the answer tells what the map says
   pub tells : (d : ℕ) → d < 3 → any (λ x. any (eqb d) (x .dimensions)) k ≡ false → any (eqb d) (m .dimensions) ≡ true → getD (a .dimensions) d unused ≡ described start (m .content)

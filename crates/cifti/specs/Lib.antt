@@ -3,6 +3,7 @@ pub mod Rows
 pub mod Maps
 pub mod Conditions
 pub mod Text
+pub mod TextLaws
 pub mod Names
 pub mod Answer
 pub mod Unseen

@@ -12,7 +12,7 @@ use Rattle.grammar.specs.Document.{Element}
 use Rattle.grammar.specs.Look.{Word, withinOf, children}
 use Rattle.cifti.specs.Maps.{Content, brain, series, scalars, Map, dimensionsOf, mapElements}
 use Rattle.cifti.specs.Conditions.{_when_, conditionsTo9, ofMaps, first}
-use Rattle.cifti.specs.Text.{DocumentOf}
+use Rattle.cifti.specs.Text.{Answers}
 
 -- 18: no such dimension, it is not scalars, or the index is not below its length
 unfoldable pub holdsName : (index : ℕ) → Content → Bool
@@ -38,15 +38,14 @@ partBy zero d i (some e) = getD (namesOn d e) i []
 
 -- THE TWO PROMISES: the number, and the part.
 pub record NameNumber (text lengths : List ℕ) (dimension index number : ℕ) : Type 0 where
-  pub document : Option Element
-  pub of : DocumentOf text document
-  pub answered : number ≡ nameRefusal lengths (length text) dimension index document
+  pub asked : Answers text (nameRefusal lengths (length text) dimension index) number
+
+unfoldable pub namePart : (lengths : List ℕ) (size dimension index : ℕ) → Option Element → Word
+namePart lengths size d i e = partBy (nameRefusal lengths size d i e) d i e
 
 pub record NamePart (text lengths : List ℕ) (dimension index : ℕ) (part : List ℕ) : Type 0 where
-  pub document : Option Element
-  pub of : DocumentOf text document
-  pub answered : part ≡ partBy (nameRefusal lengths (length text) dimension index document) dimension index document
+  pub asked : Answers text (namePart lengths (length text) dimension index) part
 
 unfoldable pub nameWords : Unit {0}
-unfolding holdsName noName nameRefusal namesOn partBy
+unfolding holdsName noName nameRefusal namesOn partBy namePart
 nameWords = tt

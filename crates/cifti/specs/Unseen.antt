@@ -20,7 +20,8 @@ use Rattle.cifti.specs.Rows.{cifti, rows}
 use Rattle.cifti.specs.Maps.{Map, listedBy, modelOf, sizesBy, sizesOf, seriesOf, contentOf, dimensionsOf, mapOf, mapElements, mapsOf}
 use Rattle.cifti.specs.Conditions.{_when_, textTooLong, noDocument, rootWrong, kindNotRead, shapeWrong, numberWrong, ofMaps, conditionsTo9, conditionsFrom10, conditions, first, refusal}
 use Rattle.cifti.specs.Names.{noName, nameRefusal}
-use Rattle.cifti.specs.Answer.{answerBy, recordsBy, mapsIn}
+use Rattle.cifti.specs.Answer.{answerBy, recordsBy, mapsIn, answerTo, recordsAfter}
+use Rattle.cifti.specs.TextLaws.{Unseeing}
 
 -- ---- The maps.
 
@@ -117,34 +118,45 @@ from10-erased : (room work : ℕ) (e : Element) → conditionsFrom10 room work (
 unfolding conditionsFrom10 ofMaps there
 from10-erased room work e = rw (maps-erased e) refl
 
--- ---- Two documents that are one but for the bytes as written.
+-- ---- The terms that the promises are made of.
 
-module _ (e f : Element) (o : plain e ≡ plain f) where
-  same-maps : mapsOf e ≡ mapsOf f
-  same-maps = sym (maps-erased e) ∙ ap mapsOf o ∙ maps-erased f
+module _ (lengths : List ℕ) (room work : ℕ) where
+  refusal-bytes : (n : ℕ) (e : Element) → refusal lengths n room work (some (plain e)) ≡ refusal lengths n room work (some e)
+  unfolding refusal conditions
+  refusal-bytes n e = ap₂ (λ a b. first (a ++ b)) (to9-erased lengths n e) (from10-erased room work e)
 
-  same-to9 : (lengths : List ℕ) (m n : ℕ) → m ≤ 16777216 → n ≤ 16777216 → conditionsTo9 lengths m (some e) ≡ conditionsTo9 lengths n (some f)
-  same-to9 lengths m n h k = to9-size lengths m n (some e) h k ∙ sym (to9-erased lengths n e) ∙ ap (λ x. conditionsTo9 lengths n (some x)) o ∙ to9-erased lengths n f
+  refusal-size : (m n : ℕ) → m ≤ 16777216 → n ≤ 16777216 → (d : Option Element) → refusal lengths m room work d ≡ refusal lengths n room work d
+  unfolding refusal conditions
+  refusal-size m n h k d = ap (λ a. first (a ++ conditionsFrom10 room work d)) (to9-size lengths m n d h k)
 
-  same-from10 : (room work : ℕ) → conditionsFrom10 room work (some e) ≡ conditionsFrom10 room work (some f)
-  same-from10 room work = sym (from10-erased room work e) ∙ ap (λ x. conditionsFrom10 room work (some x)) o ∙ from10-erased room work f
-
-pub refusal-same : (lengths : List ℕ) (m n room work : ℕ) (e f : Element) → plain e ≡ plain f → m ≤ 16777216 → n ≤ 16777216
-    → refusal lengths m room work (some e) ≡ refusal lengths n room work (some f)
-unfolding refusal conditions
-refusal-same lengths m n room work e f o h k = ap₂ (λ a b. first (a ++ b)) (same-to9 e f o lengths m n h k) (same-from10 e f o room work)
-
-pub name-refusal-same : (lengths : List ℕ) (m n d i : ℕ) (e f : Element) → plain e ≡ plain f → m ≤ 16777216 → n ≤ 16777216
-    → nameRefusal lengths m d i (some e) ≡ nameRefusal lengths n d i (some f)
-unfolding nameRefusal ofMaps there
-name-refusal-same lengths m n d i e f o h k = ap₂ (λ a l. first (a ++ (18 when noName d i l ∷ []))) (same-to9 e f o lengths m n h k) (same-maps e f o)
-
-pub answer-same : (number : ℕ) (e f : Element) → plain e ≡ plain f → answerBy number (some e) ≡ answerBy number (some f)
+answer-bytes : (number : ℕ) (e : Element) → answerBy number (some (plain e)) ≡ answerBy number (some e)
 unfolding answerBy mapsIn
-answer-same zero e f o = rw (same-maps e f o) refl
-answer-same (suc n) e f o = refl
+answer-bytes zero e = rw (maps-erased e) refl
+answer-bytes (suc n) e = refl
 
-pub records-same : (number : ℕ) (e f : Element) (records : List ℕ) → plain e ≡ plain f → recordsBy number (some e) records ≡ recordsBy number (some f) records
+records-bytes : (number : ℕ) (e : Element) (records : List ℕ) → recordsBy number (some (plain e)) records ≡ recordsBy number (some e) records
 unfolding recordsBy mapsIn
-records-same zero e f records o = rw (same-maps e f o) refl
-records-same (suc n) e f records o = refl
+records-bytes zero e records = rw (maps-erased e) refl
+records-bytes (suc n) e records = refl
+
+pub answer-unseeing : (lengths : List ℕ) (room work : ℕ) → Unseeing (answerTo lengths room work)
+unfolding answerTo
+answer-unseeing lengths room work = record {
+  bytes = λ n e. rw (refusal-bytes lengths room work n e) (answer-bytes (refusal lengths n room work (some e)) e);
+  size = λ m n h k e. ap (λ r. answerBy r (some e)) (refusal-size lengths room work m n h k (some e));
+}
+
+pub records-unseeing : (lengths records : List ℕ) (work : ℕ) → Unseeing (recordsAfter lengths records work)
+unfolding recordsAfter
+records-unseeing lengths records work = record {
+  bytes = λ n e. rw (refusal-bytes lengths (length records) work n e) (records-bytes (refusal lengths n (length records) work (some e)) e records);
+  size = λ m n h k e. ap (λ r. recordsBy r (some e) records) (refusal-size lengths (length records) work m n h k (some e));
+}
+
+-- a map name's number; its part is the caller's own bytes
+pub name-unseeing : (lengths : List ℕ) (d i : ℕ) → Unseeing (λ size. nameRefusal lengths size d i)
+unfolding nameRefusal ofMaps there
+name-unseeing lengths d i = record {
+  bytes = λ n e. ap₂ (λ a l. first (a ++ (18 when noName d i l ∷ []))) (to9-erased lengths n e) (maps-erased e);
+  size = λ m n h k e. ap (λ a. first (a ++ (18 when noName d i (mapsOf e) ∷ []))) (to9-size lengths m n (some e) h k);
+}

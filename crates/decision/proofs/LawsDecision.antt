@@ -13,8 +13,8 @@ use Rattle.grammar.specs.Bytes.{between}
 use Rattle.grammar.specs.Parser.{parse, computing}
 use Rattle.lists.specs.Lists.{lists, any}
 use Rattle.cifti.specs.Conditions.{lengthsWrong, conditionWords, refusal}
-use Rattle.cifti.specs.Answer.{answerBy, recordsBy, refusedWith, Reads}
-use Rattle.cifti.specs.Theorems.{document-unique, documented}
+use Rattle.cifti.specs.Answer.{answerBy, recordsBy, answerTo, recordsAfter, refusedWith, Reads}
+use Rattle.cifti.specs.TextLaws.{answers-is}
 use Rattle.cifti.specs.declared.answer.Answer.{Answer}
 use Rattle.decision.specs.Lengths.{lengthsIn, firstBy}
 use Rattle.decision.specs.Decision.{Chooses, bad-lengths, too-long, as-read, Decides, bad-form, good-form}
@@ -29,20 +29,21 @@ record Refuses (number : ℕ) (records work : List ℕ) (a : Answer) (s v : List
 
 module _ {text lengths records work : List ℕ} {a : Answer} {s v : List ℕ} (r : Reads text lengths records work a s v) where
   wrong-refuses : lengthsWrong lengths ≡ true → Refuses 1 records work a s v
-  unfolding refusal conditionWords answerBy recordsBy
-  wrong-refuses h = record { answered = r .answered ∙ rw h refl; kept = r .filled ∙ rw h refl; cleared = r .cleared }
+  unfolding refusal conditionWords answerBy recordsBy answerTo recordsAfter
+  wrong-refuses h = record { answered = r .answered .answered ∙ rw h refl; kept = r .filled .answered ∙ rw h refl; cleared = r .cleared }
 
 no-document : parse [] ≡ Option.none
 unfolding computing
 no-document = refl
 
 module _ {lengths records work : List ℕ} {a : Answer} {s v : List ℕ} (r : Reads [] lengths records work a s v) where
-  none : r .document ≡ Option.none
-  none = document-unique (r .of) (documented []) ∙ no-document
-
   empty-refuses : lengthsWrong lengths ≡ false → Refuses 3 records work a s v
-  unfolding refusal conditionWords answerBy recordsBy lists
-  empty-refuses h = record { answered = r .answered ∙ rw (h, none) refl; kept = r .filled ∙ rw (h, none) refl; cleared = r .cleared }
+  unfolding refusal conditionWords answerBy recordsBy answerTo recordsAfter lists
+  empty-refuses h = record {
+    answered = answers-is (r .answered) ∙ rw (h, no-document) refl;
+    kept = answers-is (r .filled) ∙ rw (h, no-document) refl;
+    cleared = r .cleared;
+  }
 
 bare-empty : {bare lengths records work : List ℕ} {a : Answer} {s v : List ℕ} → bare ≡ [] → Reads bare lengths records work a s v → Reads [] lengths records work a s v
 bare-empty e r = rw e at r

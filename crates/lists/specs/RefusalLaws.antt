@@ -5,7 +5,7 @@ use mathlib.Core.Bool.{Bool, true, false, _&&_, _||_, cond}
 use Prim.Native.Nat.{ℕ, zero, suc, _≤_, _<_, min}
 use native.Mathlib.Omega.{arith}
 use lib.Dec.{eqb, leb, ltb}
-use lib.ListN.{length}
+use lib.ListN.{drop}
 use borrow.Author.Tests.{leb-true, ltb-true, eq-eqb, ne-eqb}
 use Rattle.lists.specs.Booleans.{and-left, and-right}
 use Rattle.lists.specs.Refusals.{Refusal, _when_, first, Applies, here, later, NoneApplies, none-left, passed, FirstOf, none-first, this-first, positive, rising, EitherOf, no-rows, row, sooner}
@@ -41,6 +41,12 @@ row-fails (passed h) = refl
 
 pub rows-behind : {n : ℕ} {b : Bool} {l : List Refusal} → NoneApplies (n when b ∷ l) → NoneApplies l
 rows-behind (passed h) = h
+
+-- those behind the first n
+pub rows-past : (n : ℕ) {l : List Refusal} → NoneApplies l → NoneApplies (drop n l)
+rows-past zero h = h
+rows-past (suc n) none-left = none-left
+rows-past (suc n) (passed h) = rows-past n h
 
 pub none-applies : {l : List Refusal} → NoneApplies l → (m : ℕ) → ¬ Applies l m
 none-applies (passed h) m (later a) = none-applies h m a

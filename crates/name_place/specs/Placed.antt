@@ -23,7 +23,7 @@ use Rattle.nodes.specs.declared.Kid.{Kid}
 use Rattle.nodes.specs.declared.Kid.the-variants.{Child, Done}
 use Rattle.cifti.specs.Conditions as C
 use Rattle.cifti.specs.Conditions.{Refusal, _when_, conditionsTo9, shapeWrong, numberWrong, noDocument}
-use Rattle.cifti.specs.Names.{nameRefusal, namesOn, partBy, NameNumber, NamePart}
+use Rattle.cifti.specs.Names.{nameRefusal, namesOn, partBy, namePart, NameNumber, NamePart}
 use Rattle.cifti.specs.Rows.{cifti}
 use Rattle.cifti.specs.Text.{DocumentOf, written, unwritten}
 use Rattle.maps.specs.Good.{Good}
@@ -140,29 +140,30 @@ unfolding partBy
 part-at n d i o e z h = rw (z, h)
 
 module _ {text lengths : List ℕ} {d i n : ℕ} (nn : NameNumber text lengths d i n) where
-  part-is : {l : List ℕ} → l ≡ partBy n d i (nn .document) → NamePart text lengths d i l
-  part-is e = record { document = nn .document; of = nn .of; answered = e ∙ ap (λ m. partBy m d i (nn .document)) (nn .answered) }
+  part-is : {l : List ℕ} → l ≡ partBy n d i (nn .asked .document) → NamePart text lengths d i l
+  unfolding namePart
+  part-is e = record { asked = record { document = nn .asked .document; of = nn .asked .of; answered = e ∙ ap (λ m. partBy m d i (nn .asked .document)) (nn .asked .answered) } }
 
   pub place-refused : (n ≡ 0 → ⊥) → (r : NamePlace) → r .number ≡ n → r .start ≡ 0 → r .length ≡ 0 → NamePlaced text lengths d i r
   place-refused k r a b c = record {
     numbered = rw a nn;
     inside = omega arith;
-    named = rw c (part-is (no-part n d i (nn .document) k));
+    named = rw c (part-is (no-part n d i (nn .asked .document) k));
     placed = b ∙ no-start n text d i k ∙ ap (λ m. startBy m text d i) (sym a);
   }
 
   module _ (z : n ≡ 0) where
-    all-fine : Fine lengths (length text) d i (nn .document)
-    all-fine = fine lengths (length text) d i (nn .document) (sym (nn .answered) ∙ z)
+    all-fine : Fine lengths (length text) d i (nn .asked .document)
+    all-fine = fine lengths (length text) d i (nn .asked .document) (sym (nn .asked .answered) ∙ z)
 
     pub place-parsed : Parsed text
-    place-parsed = record { document = all-fine .document; parsed = parsed-of (nn .of) (all-fine .is) }
+    place-parsed = record { document = all-fine .document; parsed = parsed-of (nn .asked .of) (all-fine .is) }
 
     names : each (within text) (namePlaces text d) ≡ namesOn d (all-fine .document)
-    names = names-law text d (parsed-of (nn .of) (all-fine .is)) (all-fine .good)
+    names = names-law text d (parsed-of (nn .asked .of) (all-fine .is)) (all-fine .good)
 
     part-zero : {l : List ℕ} → l ≡ getD (namesOn d (all-fine .document)) i [] → NamePart text lengths d i l
-    part-zero e = part-is (e ∙ part-at n d i (nn .document) (all-fine .document) z (all-fine .is))
+    part-zero e = part-is (e ∙ part-at n d i (nn .asked .document) (all-fine .document) z (all-fine .is))
 
     module _ {p : Pick} (q : p ≡ pick (namePlaces text d) i) (r : NamePlace) (a : r .number ≡ 0) where
       start-is : r .start ≡ startOf text p → r .start ≡ startBy (r .number) text d i

@@ -1,7 +1,7 @@
 -- CONDITIONS 10 TO 14, where 1 to 9 do not apply.
 use mathlib.Core.Path.{_≡_, refl, sym, ap, _∙_}
-use mathlib.Core.List.{List, [], _∷_}
-use mathlib.Core.Bool.{Bool, true, false, cond, _||_, _&&_, true≢false}
+use mathlib.Core.List.{List, [], _∷_, _++_}
+use mathlib.Core.Bool.{Bool, true, false, cond, _||_, _&&_}
 use Prim.Native.Nat.{ℕ, zero, suc, _+_, _≤_, _<_, max}
 use native.Mathlib.Omega.{arith}
 use lib.Dec.{eqb, ltb}
@@ -9,6 +9,9 @@ use lib.ListN.{length, getD, replicate, length-replicate}
 use borrow.Author.Needs.{needs}
 use borrow.Author.Tests.{ltb-false, ne-eqb}
 use Rattle.lists.specs.Lists.{any, those, twoOf, eachIn, greatest, total}
+use Rattle.lists.specs.Booleans.{or-left, or-right}
+use Rattle.lists.specs.Refusals.{Refusal, positive}
+use Rattle.lists.specs.RefusalLaws.{first-append, given-none, row-fails, rows-past}
 use Rattle.grammar.specs.Bytes.{ascii}
 use Rattle.grammar.specs.Parser.{same}
 use Rattle.nodes.specs.Places.{Stands, the}
@@ -34,14 +37,6 @@ pub record Fine (l : List Map) (work : ℕ) : Type 0 where
   pub inside : numbersOutside l ≡ false
   pub room : greatest lengthOf (brainMaps l) ≤ work
 
-or-first : (a b : Bool) → (a || b) ≡ false → a ≡ false
-or-first true b h = absurd (true≢false h)
-or-first false b h = refl
-
-or-second : (a b : Bool) → (a || b) ≡ false → b ≡ false
-or-second true b h = absurd (true≢false h)
-or-second false b h = h
-
 -- what is known of the first map
 pub record FineMap (m : Map) (work : ℕ) : Type 0 where
   pub apart : twoOf alike (models m) ≡ false
@@ -61,18 +56,18 @@ module _ (m : Map) (l : List Map) (work : ℕ) (f : Fine (m ∷ l) work) where
   pub fine-first : FineMap m work
   unfolding modelsShare numbersOutside any
   fine-first = record {
-    apart = or-first (twoOf alike (models m)) (any (λ x. twoOf alike (models x)) l) (f .share);
-    even = λ b. (let h : (isBrainBy (m .content) && uneven m) ≡ false = or-first (isBrainBy (m .content) && uneven m) (rangesWrong l) (sym (ranges-more m l) ∙ f .ranges) in rw b at h);
-    in-volume = or-first (any (λ b. beyond (volumeOf m) (b .listed)) (models m)) (any (λ x. any (λ b. beyond (volumeOf x) (b .listed)) (models x)) l) (f .inside);
+    apart = or-left (twoOf alike (models m)) (any (λ x. twoOf alike (models x)) l) (f .share);
+    even = λ b. (let h : (isBrainBy (m .content) && uneven m) ≡ false = or-left (isBrainBy (m .content) && uneven m) (rangesWrong l) (sym (ranges-more m l) ∙ f .ranges) in rw b at h);
+    in-volume = or-left (any (λ b. beyond (volumeOf m) (b .listed)) (models m)) (any (λ x. any (λ b. beyond (volumeOf x) (b .listed)) (models x)) l) (f .inside);
     enough = λ b. (let g = f .room in let e = greatest-more m l in let c : cond (isBrainBy (m .content)) (lengthOf m) 0 ≡ lengthOf m = rw b in omega arith);
   }
 
   pub fine-rest : Fine l work
   unfolding modelsShare numbersOutside any
   fine-rest = record {
-    share = or-second (twoOf alike (models m)) _ (f .share);
-    ranges = or-second (isBrainBy (m .content) && uneven m) _ (sym (ranges-more m l) ∙ f .ranges);
-    inside = or-second (any (λ b. beyond (volumeOf m) (b .listed)) (models m)) _ (f .inside);
+    share = or-right (twoOf alike (models m)) _ (f .share);
+    ranges = or-right (isBrainBy (m .content) && uneven m) _ (sym (ranges-more m l) ∙ f .ranges);
+    inside = or-right (any (λ b. beyond (volumeOf m) (b .listed)) (models m)) _ (f .inside);
     room = let g = f .room in let e = greatest-more m l in omega arith;
   }
 
@@ -168,32 +163,25 @@ pub ruleset looking = (look-start, look-done, look-place, look-asks, look-found,
 
 -- ---- All five.
 
+abbrev pub rules12 : List Map → List Refusal
+rules12 l = 10 when modelsShare l ∷ 11 when rangesWrong l ∷ 12 when numbersOutside l ∷ []
+
+abbrev pub rulesAfter : (room work : ℕ) → List Map → List Refusal
+rulesAfter room work l = 13 when roomShort room work l ∷ 14 when locationTwice l ∷ []
+
+abbrev pub rules14 : (room work : ℕ) → List Map → List Refusal
+rules14 room work l = rules12 l ++ rulesAfter room work l
+
 unfoldable pub rule14 : (room work : ℕ) → List Map → ℕ
-rule14 room work l = C.first (10 when modelsShare l ∷ 11 when rangesWrong l ∷ 12 when numbersOutside l ∷ 13 when roomShort room work l ∷ 14 when locationTwice l ∷ [])
+rule14 room work l = C.first (rules14 room work l)
 
 pub record Later (text : List ℕ) (maps : Maps) (room : ℕ) (before : List ℕ) (answer : ℕ) (after : List ℕ) : Type 0 where
   pub told : answer ≡ rule14 room (length before) (mapsAt text maps)
   pub long : length after ≡ length before
 
-five : (s u o x y : Bool) → C.first (10 when s ∷ 11 when u ∷ 12 when o ∷ 13 when x ∷ 14 when y ∷ []) ≡ cond (eqb (C.first (10 when s ∷ 11 when u ∷ 12 when o ∷ [])) 0) (cond x 13 (cond y 14 0)) (C.first (10 when s ∷ 11 when u ∷ 12 when o ∷ []))
-unfolding C.first
-five true u o x y = refl
-five false true o x y = refl
-five false false true x y = refl
-five false false false true y = refl
-five false false false false true = refl
-five false false false false false = refl
-
-none-of : (s u o : Bool) → C.first (10 when s ∷ 11 when u ∷ 12 when o ∷ []) ≡ 0 → (s ≡ false) × (u ≡ false) × (o ≡ false)
-unfolding C.first
-none-of true u o h = absurd (omega arith)
-none-of false true o h = absurd (omega arith)
-none-of false false true h = absurd (omega arith)
-none-of false false false h = (refl, refl, refl)
-
-rule-all : (room work : ℕ) (l : List Map) → rule14 room work l ≡ cond (eqb (rule12 l) 0) (cond (roomShort room work l) 13 (cond (locationTwice l) 14 0)) (rule12 l)
-unfolding rule14 rule12
-rule-all room work l = five (modelsShare l) (rangesWrong l) (numbersOutside l) (roomShort room work l) (locationTwice l)
+rule-all : (room work : ℕ) (l : List Map) → rule14 room work l ≡ cond (eqb (rule12 l) 0) (C.first (rulesAfter room work l)) (rule12 l)
+unfolding rule14 rule12 positive
+rule-all room work l = first-append (rules12 l) (rulesAfter room work l) refl
 
 module _ (text : List ℕ) (maps : Maps) {n : ℕ} (p : n ≡ rule12 (mapsAt text maps)) where
   pub later-judged : (n ≡ 0 → ⊥) → (room : ℕ) (work : List ℕ) → Later text maps room work n work
@@ -205,22 +193,25 @@ module _ (text : List ℕ) (maps : Maps) {n : ℕ} (p : n ≡ rule12 (mapsAt tex
 
     module _ {b : Bool} (room : ℕ) (work : List ℕ) (q : b ≡ roomShort room (length work) (mapsAt text maps)) where
       pub later-short : b ≡ true → Later text maps room work 13 work
+      unfolding C.first
       later-short t = record { told = sym (rule-all room (length work) (mapsAt text maps) ∙ rw (none, sym q ∙ t)); long = refl }
 
       module _ (f : b ≡ false) where
         pub later-fine : InRoom text maps → AllFine text maps (length work)
-        unfolding rule12 roomShort
+        unfolding rule12 roomShort positive
         later-fine r =
             let l = mapsAt text maps in
-            let (x, y, w) = none-of (modelsShare l) (rangesWrong l) (numbersOutside l) none in
+            let nothing = given-none (rules12 l) refl none in
             let h : (ltb room (total lengthOf (brainMaps l)) || ltb (length work) (greatest lengthOf (brainMaps l))) ≡ false = sym q ∙ f in
-            record { room = r; fine = record { share = x; ranges = y; inside = w; room = ltb-false (length work) (greatest lengthOf (brainMaps l)) (or-second (ltb room (total lengthOf (brainMaps l))) _ h) } }
+            record { room = r; fine = record { share = row-fails nothing; ranges = row-fails (rows-past 1 nothing); inside = row-fails (rows-past 2 nothing); room = ltb-false (length work) (greatest lengthOf (brainMaps l)) (or-right (ltb room (total lengthOf (brainMaps l))) _ h) } }
 
         module _ {c : Bool} {after : List ℕ} (s : ToldAll text maps work c after) where
           pub later-twice : c ≡ true → Later text maps room work 14 after
+          unfolding C.first
           later-twice t = record { told = sym (rule-all room (length work) (mapsAt text maps) ∙ rw (none, sym q ∙ f, sym (s .told) ∙ t)); long = s .long }
 
           pub later-none : c ≡ false → Later text maps room work 0 after
+          unfolding C.first
           later-none t = record { told = sym (rule-all room (length work) (mapsAt text maps) ∙ rw (none, sym q ∙ f, sym (s .told) ∙ t)); long = s .long }
 
 pub ruleset latering = (later-judged, later-short, later-fine, later-twice, later-none, needs)

@@ -8,6 +8,9 @@ use native.Mathlib.Omega.{arith}
 use lib.ListN.{length, getD}
 use borrow.Author.Needs.{needs}
 use Rattle.lists.specs.Lists.{there}
+use Rattle.lists.specs.Booleans.{clash}
+use Rattle.lists.specs.Refusals.{positive}
+use Rattle.lists.specs.RefusalLaws.{first-kept, first-none, given-none}
 use Rattle.grammar.specs.Document.{Element}
 use Rattle.grammar.specs.Parser.{parse}
 use Rattle.tokens.specs.Noted.{part}
@@ -15,9 +18,9 @@ use Rattle.nodes.specs.Inside.{within, within-law}
 use Rattle.nodes.specs.declared.Found.{Found}
 use Rattle.nodes.specs.declared.Found.the-variants.{At, Nothing}
 use Rattle.cifti.specs.Conditions as C
-use Rattle.cifti.specs.Conditions.{Refusal, _when_, conditionsTo9, ofMaps}
-use Rattle.cifti.specs.Names.{noName, nameRefusal, partBy, NameNumber, NamePart}
-use Rattle.cifti.specs.Theorems.{documented}
+use Rattle.cifti.specs.Conditions.{_when_, conditionsTo9, ofMaps}
+use Rattle.cifti.specs.Names.{noName, nameRefusal, partBy, namePart, NameNumber, NamePart}
+use Rattle.cifti.specs.TextLaws.{answers-by}
 use Rattle.maps.specs.Ready.{mapsAt}
 use Rattle.maps.specs.declared.survey.Maps.{Maps}
 use Rattle.describe.specs.NamesOn.{Naming, NameThere, no-name, name-at, namesAt}
@@ -25,33 +28,7 @@ use Rattle.describe.specs.OfDocument.{naming}
 use Rattle.reader.specs.Surveying.{Surveys, Readied}
 use Rattle.reader.specs.declared.surveying.Survey.{Survey}
 
--- ---- The first of two tables, one behind the other.
-
--- no row has the number 0
-data Rows : List Refusal → Type 0 where
-  no-rows : Rows []
-  a-row : (n : ℕ) {b : Bool} {l : List Refusal} → Rows l → Rows (suc n when b ∷ l)
-
-first-refused : (k l : List Refusal) → (C.first k ≡ 0 → ⊥) → C.first (k ++ l) ≡ C.first k
-unfolding C.first
-first-refused [] l h = absurd (h refl)
-first-refused (n when true ∷ k) l h = refl
-first-refused (n when false ∷ k) l h = first-refused k l h
-
-first-passed : {k : List Refusal} → Rows k → (l : List Refusal) → C.first k ≡ 0 → C.first (k ++ l) ≡ C.first l
-unfolding C.first
-first-passed no-rows l h = refl
-first-passed (a-row n {b = true} r) l h = absurd (omega arith)
-first-passed (a-row n {b = false} r) l h = first-passed r l h
-
-nine-rows : (lengths : List ℕ) (size : ℕ) (d : Option Element) → Rows (conditionsTo9 lengths size d)
-unfolding conditionsTo9
-nine-rows lengths size d = a-row 0 (a-row 1 (a-row 2 (a-row 3 (a-row 4 (a-row 5 (a-row 6 (a-row 7 (a-row 8 no-rows))))))))
-
 -- ---- What the search for the name tells.
-
-clash : {A : Type 0} → _≡_ {A = ℕ} 0 1 → A
-clash z = absurd (omega arith)
 
 module _ {text : List ℕ} {maps : Maps} {d i : ℕ} where
   named-not : {f : Found} → NameThere text maps d i f → f ≡ Nothing → noName d i (mapsAt text maps) ≡ true
@@ -75,15 +52,16 @@ refused-part (suc n) d i e k = refl
 
 module _ {text lengths : List ℕ} (d i : ℕ) where
   number-by : (n : ℕ) → nameRefusal lengths (length text) d i (parse text) ≡ n → NameNumber text lengths d i n
-  number-by n h = record { document = parse text; of = documented text; answered = sym h }
+  number-by n h = record { asked = answers-by text _ (sym h) }
 
   part-by : (n : ℕ) → nameRefusal lengths (length text) d i (parse text) ≡ n → (p : List ℕ) → p ≡ partBy n d i (parse text) → NamePart text lengths d i p
-  part-by n h p e = record { document = parse text; of = documented text; answered = e ∙ ap (λ m. partBy m d i (parse text)) (sym h) }
+  unfolding namePart
+  part-by n h p e = record { asked = answers-by text _ (e ∙ ap (λ m. partBy m d i (parse text)) (sym h)) }
 
   module _ {s : Survey} (sv : Surveys text lengths s) where
     refusing : (s .number ≡ 0 → ⊥) → nameRefusal lengths (length text) d i (parse text) ≡ s .number
     unfolding nameRefusal
-    refusing k = first-refused (conditionsTo9 lengths (length text) (parse text)) _ (λ z. k (sv .number-is ∙ z)) ∙ sym (sv .number-is)
+    refusing k = first-kept (conditionsTo9 lengths (length text) (parse text)) _ (s .number) k (sym (sv .number-is))
 
     pub number-refused : (s .number ≡ 0 → ⊥) → NameNumber text lengths d i (s .number)
     number-refused k = number-by (s .number) (refusing k)
@@ -99,9 +77,9 @@ module _ {text lengths : List ℕ} (d i : ℕ) where
       name-asks = naming lengths (ready .room) (ready .listed)
 
       eighteen : nameRefusal lengths (length text) d i (parse text) ≡ C.first (18 when noName d i (mapsAt text (s .maps)) ∷ [])
-      unfolding nameRefusal ofMaps there
+      unfolding nameRefusal ofMaps there conditionsTo9 positive
       eighteen =
-          first-passed (nine-rows lengths (length text) (parse text)) (18 when ofMaps (noName d i) (parse text) ∷ []) (sym (sv .number-is) ∙ z)
+          first-none (given-none (conditionsTo9 lengths (length text) (parse text)) refl (sym (sv .number-is) ∙ z)) (18 when ofMaps (noName d i) (parse text) ∷ [])
           ∙ rw (ready .parsed, ready .all)
 
       module _ {f : Found} (t : NameThere text (s .maps) d i f) where

@@ -2,7 +2,7 @@
 use mathlib.Core.Path.{_≡_, refl, sym, ap, _∙_}
 use mathlib.Core.List.{List, [], _∷_, _++_}
 use mathlib.Core.Option.{Option, some}
-use mathlib.Core.Bool.{Bool, true, false, cond, _||_, true≢false}
+use mathlib.Core.Bool.{cond}
 use Prim.Native.Nat.{ℕ, zero, suc, _+_, _≤_, _<_}
 use native.Mathlib.Omega.{arith}
 use lib.Dec.{eqb, ltb}
@@ -10,11 +10,14 @@ use lib.ListN.{length, replicate}
 use borrow.Author.Needs.{needs}
 use borrow.Author.Tests.{ne-eqb, ltb-false}
 use Rattle.lists.specs.Lists.{there, total, greatest}
+use Rattle.lists.specs.Booleans.{or-left}
+use Rattle.lists.specs.Refusals.{positive}
+use Rattle.lists.specs.RefusalLaws.{first-append, given-none, row-fails, rows-past}
 use Rattle.grammar.specs.Document.{Element}
 use Rattle.grammar.specs.Parser.{parse}
 use Rattle.cifti.specs.Maps.{Map, mapsOf, lengthOf, brainMaps}
 use Rattle.cifti.specs.Conditions as C
-use Rattle.cifti.specs.Conditions.{Refusal, _when_, conditionsTo9, conditionsFrom10, refusal, ofMaps, modelsShare, rangesWrong, numbersOutside, roomShort, locationTwice}
+use Rattle.cifti.specs.Conditions.{conditionsTo9, conditionsFrom10, refusal, ofMaps, roomShort}
 use Rattle.cifti.specs.Answer.{acceptedWith, refusedWith, answerBy, recordsBy, stretches, filledWith, Reads}
 use Rattle.cifti.specs.Answer as A
 use Rattle.cifti.specs.Theorems.{reads-by, answerOf, recordsOf, numberOf}
@@ -24,29 +27,14 @@ use Rattle.maps.specs.Ready.{mapsAt}
 use Rattle.stretches.specs.All.{Fillable}
 use Rattle.opening.specs.Opening.{number9}
 use Rattle.reader.specs.Surveying.{Surveys, Readied}
-use Rattle.reader.specs.Later.{Later, rule14}
+use Rattle.reader.specs.Later.{Later, rules14, rule14}
 use Rattle.reader.specs.declared.surveying.Survey.{Survey}
 
--- the first of two tables in a row
-nine-then : (a b c d e f g h i : Bool) (k : List Refusal)
-    → C.first ((1 when a ∷ 2 when b ∷ 3 when c ∷ 4 when d ∷ 5 when e ∷ 6 when f ∷ 7 when g ∷ 8 when h ∷ 9 when i ∷ []) ++ k)
-    ≡ cond (eqb (C.first (1 when a ∷ 2 when b ∷ 3 when c ∷ 4 when d ∷ 5 when e ∷ 6 when f ∷ 7 when g ∷ 8 when h ∷ 9 when i ∷ [])) 0) (C.first k) (C.first (1 when a ∷ 2 when b ∷ 3 when c ∷ 4 when d ∷ 5 when e ∷ 6 when f ∷ 7 when g ∷ 8 when h ∷ 9 when i ∷ []))
-unfolding C.first
-nine-then true b c d e f g h i k = refl
-nine-then false true c d e f g h i k = refl
-nine-then false false true d e f g h i k = refl
-nine-then false false false true e f g h i k = refl
-nine-then false false false false true f g h i k = refl
-nine-then false false false false false true g h i k = refl
-nine-then false false false false false false true h i k = refl
-nine-then false false false false false false false true i k = refl
-nine-then false false false false false false false false true k = refl
-nine-then false false false false false false false false false k = refl
-
+-- 1 to 9 first, then the rest
 number-by : (text lengths records work : List ℕ)
     → numberOf text lengths records work ≡ cond (eqb (number9 text lengths) 0) (C.first (conditionsFrom10 (length records) (length work) (parse text))) (number9 text lengths)
-unfolding numberOf refusal C.conditions conditionsTo9
-number-by text lengths records work = nine-then _ _ _ _ _ _ _ _ _ (conditionsFrom10 (length records) (length work) (parse text))
+unfolding numberOf refusal C.conditions conditionsTo9 positive
+number-by text lengths records work = first-append (conditionsTo9 lengths (length text) (parse text)) (conditionsFrom10 (length records) (length work) (parse text)) refl
 
 later-by : (room work : ℕ) (e : Element) → C.first (conditionsFrom10 room work (some e)) ≡ rule14 room work (mapsOf e)
 unfolding conditionsFrom10 ofMaps there rule14
@@ -57,18 +45,6 @@ refused-by : (text lengths records work : List ℕ) (n : ℕ) → (n ≡ 0 → �
 unfolding answerOf recordsOf answerBy recordsBy
 refused-by text lengths records work zero k p a q w c = absurd (k refl)
 refused-by text lengths records work (suc n) k p a q w c = reads-by text lengths records work a records w (q ∙ rw p) (rw p) c
-
-five-none : (s u o x y : Bool) → C.first (10 when s ∷ 11 when u ∷ 12 when o ∷ 13 when x ∷ 14 when y ∷ []) ≡ 0 → (s ≡ false) × (u ≡ false) × (o ≡ false) × (x ≡ false)
-unfolding C.first
-five-none true u o x y h = absurd (omega arith)
-five-none false true o x y h = absurd (omega arith)
-five-none false false true x y h = absurd (omega arith)
-five-none false false false true y h = absurd (omega arith)
-five-none false false false false y h = (refl, refl, refl, refl)
-
-or-first : (a b : Bool) → (a || b) ≡ false → a ≡ false
-or-first true b h = absurd (true≢false h)
-or-first false b h = refl
 
 module _ {text lengths : List ℕ} {s : Survey} (sv : Surveys text lengths s) (records work : List ℕ) where
   pub read-refused : (s .number ≡ 0 → ⊥) → {a : Answer} → a ≡ refusedWith (s .number) → {w : List ℕ} → w ≡ replicate (length work) 0 → Reads text lengths records work a records w
@@ -97,16 +73,16 @@ module _ {text lengths : List ℕ} {s : Survey} (sv : Surveys text lengths s) (r
 
       module _ (y : v ≡ 0) where
         pub read-fillable : Fillable text (s .maps) (length records)
-        unfolding rule14 roomShort
+        unfolding rule14 roomShort positive
         read-fillable =
             let l = mapsAt text (s .maps) in
-            let (a, b, c, d) = five-none (modelsShare l) (rangesWrong l) (numbersOutside l) (roomShort (length records) (length work) l) (locationTwice l) (sym (lt .told) ∙ y) in
+            let none = given-none (rules14 (length records) (length work) l) refl (sym (lt .told) ∙ y) in
             record {
               room-in = got .room;
-              share = a;
-              ranges = b;
-              inside = c;
-              enough = ltb-false (length records) (total lengthOf (brainMaps l)) (or-first _ (ltb (length work) (greatest lengthOf (brainMaps l))) d);
+              share = row-fails none;
+              ranges = row-fails (rows-past 1 none);
+              inside = row-fails (rows-past 2 none);
+              enough = ltb-false (length records) (total lengthOf (brainMaps l)) (or-left _ (ltb (length work) (greatest lengthOf (brainMaps l))) (row-fails (rows-past 3 none)));
             }
 
         pub read-accepts : {a : Answer} → a ≡ acceptedWith (mapsAt text (s .maps)) → {r : List ℕ} → r ≡ filledWith (stretches (mapsAt text (s .maps))) records → {w : List ℕ} → w ≡ replicate (length after) 0 → Reads text lengths records work a r w
