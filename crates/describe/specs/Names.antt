@@ -9,6 +9,7 @@ use native.Mathlib.Omega.{arith}
 use lib.ListN.{length, getD}
 use borrow.Author.Needs.{needs}
 use borrow.Author.Tests.{eqb-true}
+use Rattle.nodes.specs.Along.{Along, along-start, along-done, along-stands, along-here, along-less, along-next}
 use Rattle.lists.specs.Lists.{all, count, each, eachIn, those}
 use Rattle.grammar.specs.Bytes.{ascii}
 use Rattle.grammar.specs.Document.{Element}
@@ -66,20 +67,16 @@ pub record NameIn (text : List ℕ) (at : ℕ) (r : Found) : Type 0 where
   pub stands : Stands text found
   pub only : children "MapName" (the text at) ≡ the text found ∷ []
 
+-- what is asked of the children: which are MapNames. No state is kept
+pub mapNames : Unit {0} → List Element → List Element
+mapNames _ l = those (λ d. is "MapName" (nameOf d)) l
+
 pub record Searching (text : List ℕ) (at : ℕ) (kid : Kid) : Type 0 where
-  pub walk : Walk text kid
+  pub along : Along mapNames text at tt tt kid
   pub one : length (children "MapName" (the text at)) ≡ 1
-  pub so-far : children "MapName" (the text at) ≡ those (λ d. is "MapName" (nameOf d)) (kids text kid)
 
 pub searching-start : {text : List ℕ} {at : ℕ} → NamedAt text at → {kid : Kid} → kid ≡ first text at → Searching text at kid
-unfolding children
-searching-start {text} {at} n {kid} e =
-    let go : Searching text at (first text at) = record {
-      walk = walk-children (n .stands);
-      one = one-name (n .good);
-      so-far = ap (those (λ d. is "MapName" (nameOf d))) (sym (kids-children (n .stands)));
-    } in
-    rw e go
+searching-start n e = record { along = along-start mapNames tt (n .stands) e; one = one-name (n .good) }
 
 no-length : {A : Type 0} (l : List A) → length l ≡ 0 → l ≡ []
 no-length [] h = refl
@@ -87,36 +84,39 @@ no-length (a ∷ l) h = absurd (omega arith)
 
 module _ {text : List ℕ} {at : ℕ} {kid : Kid} (go : Searching text at kid) where
   pub searching-done : kid ≡ Done → NameIn text at Nothing
-  unfolding those
+  unfolding mapNames children those
   searching-done e =
-      let z : length (children "MapName" (the text at)) ≡ 0 = ap length (go .so-far ∙ ap (those (λ d. is "MapName" (nameOf d))) (walk-none (go .walk) e)) in
+      let z : length (children "MapName" (the text at)) ≡ 0 = ap length (along-done mapNames (go .along) e) in
       let o = go .one in
       absurd (omega arith)
 
   module _ {k : ℕ} (is-child : kid ≡ Child k) where
-    turn : Turn text k
-    turn = turn-at (go .walk) is-child
-
     pub searching-less : {kid₁ : Kid} → kid₁ ≡ next text k → left text kid₁ < left text kid
-    searching-less e = rw e (turn-falls (go .walk) is-child)
+    searching-less e = along-less mapNames (go .along) is-child e
 
     module _ {b : Bool} (nm : b ≡ named text k (ascii "MapName")) where
-      splits : children "MapName" (the text at) ≡ cond b (the text k ∷ those (λ d. is "MapName" (nameOf d)) (kids text (next text k))) (those (λ d. is "MapName" (nameOf d)) (kids text (next text k)))
-      unfolding those
-      splits =
-          go .so-far ∙ ap (those (λ d. is "MapName" (nameOf d))) (turn-splits (go .walk) is-child)
-          ∙ ap (λ t. cond t (the text k ∷ those (λ d. is "MapName" (nameOf d)) (kids text (next text k))) (those (λ d. is "MapName" (nameOf d)) (kids text (next text k)))) (sym (nm ∙ name-is-law "MapName" (turn .stands)))
+      splits : mapNames tt (the text k ∷ kids text (next text k))
+          ≡ cond b (the text k ∷ mapNames tt (kids text (next text k))) (mapNames tt (kids text (next text k)))
+      unfolding mapNames those
+      splits = rw (sym (name-is-law "MapName" (along-stands mapNames (go .along) is-child)) ∙ sym nm)
 
       pub searching-hit : b ≡ true → NameIn text at (At k)
+      unfolding mapNames children
       searching-hit t =
-          let s : children "MapName" (the text at) ≡ the text k ∷ those (λ d. is "MapName" (nameOf d)) (kids text (next text k)) = splits ∙ rw t in
+          let rest : List Element = mapNames tt (kids text (next text k)) in
+          let s : children "MapName" (the text at) ≡ the text k ∷ rest = along-here mapNames (go .along) is-child ∙ splits ∙ rw t in
           let o = go .one in
           let n = ap length s in
-          let z : length (those (λ d. is "MapName" (nameOf d)) (kids text (next text k))) ≡ 0 = omega arith in
-          record { found = k; is-found = refl; stands = turn .stands; only = s ∙ ap (λ l. the text k ∷ l) (no-length _ z) }
+          let z : length rest ≡ 0 = omega arith in
+          record {
+            found = k;
+            is-found = refl;
+            stands = along-stands mapNames (go .along) is-child;
+            only = s ∙ ap (λ l. the text k ∷ l) (no-length rest z);
+          }
 
       pub searching-miss : b ≡ false → {kid₁ : Kid} → kid₁ ≡ next text k → Searching text at kid₁
-      searching-miss t e = rw e (record { walk = turn .then; one = go .one; so-far = splits ∙ rw t })
+      searching-miss t e = record { along = along-next mapNames (go .along) is-child (splits ∙ rw t) e; one = go .one }
 
 pub ruleset searching = (searching-start, searching-done, searching-less, searching-hit, searching-miss, needs)
 

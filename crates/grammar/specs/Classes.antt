@@ -6,9 +6,9 @@ use native.Mathlib.Omega.{arith}
 use mathlib.Core.Bool.{Bool, true, false, _&&_, _||_, not}
 use lib.Dec.{eqb, leb, ltb}
 use borrow.Author.Tests.{eqb-true, eqb-false}
+use Rattle.lists.specs.Booleans.{and-left, and-right}
 use Rattle.grammar.specs.Bytes.{ascii, blank, letter, nameStart, nameByte, quote, special}
 use Rattle.grammar.specs.Characters.{lead1, lead2, continues}
-use Rattle.grammar.specs.Facts.{and-left, and-right}
 
 -- the byte is one of the list
 unfoldable pub oneOf : List ℕ → ℕ → Bool

@@ -8,13 +8,14 @@ use lib.Dec.{eqb, leb}
 use lib.ListN.{length, length-append}
 use native.Mathlib.Omega.{arith}
 use borrow.Author.Tests.{eq-eqb, ne-eqb, not-true}
+use Rattle.lists.specs.Booleans.{or-left, not-so}
 use Rattle.grammar.specs.Bytes.{_⊹_, ascii, blank, nameStart, nameByte, letter, quote, special, Each, no-byte, a-byte, Sequence, no-more, one-more, begins}
 use Rattle.grammar.specs.Document.{Attribute, attribute, Element, element, Contents, nothing, child, joined}
 use Rattle.grammar.specs.Grammar
 use Rattle.grammar.specs.Grammar.{Name, Gap, Equals, Reference, TextCharacter, Attributes, Comment, WritesElement, WritesContents, Setting, Encoding, Declaration, Aside, Writes}
 use Rattle.grammar.specs.Read.{Read, fail, got, Reader, bind, test, mark, byte, span, stops, alt, all-of, test-complete, mark-complete, mark-other, byte-complete, byte-other, span-complete, Item, all-of-complete, with-fuel, seen-complete}
-use Rattle.grammar.specs.Facts.{and-left, or-left, or-right, refute, blank-in, nameStart-in}
-use Rattle.grammar.specs.Tokens.{not-false, name-complete, gap-complete, equals-complete, blanks-end-name, high-no-blank, quote-ends-blanks, text-complete, text-long, ends-blanks, attributes-complete, attributes-end-name, comment-complete}
+use Rattle.grammar.specs.Facts.{blank-in, nameStart-in}
+use Rattle.grammar.specs.Tokens.{name-complete, gap-complete, equals-complete, blanks-end-name, high-no-blank, quote-ends-blanks, text-complete, text-long, ends-blanks, attributes-complete, attributes-end-name, comment-complete}
 use Rattle.grammar.specs.Parser.{name-at, attributes-at, ends, closing, comment-at, Look, at-close, at-comment, at-element, at-text, look, look₂, look-by, look-if, empty-at, full-at, element-at, contents-by, contents-at, setting-at, asking, encoding-if, declaration-if, declaration-at, blank-at, remarked-at, aside-at, no-aside, end-at, document-at, answer, parse}
 
 -- an element begins with `<` and the first byte of a name
@@ -165,7 +166,7 @@ character-read {d} {c} {b} {w} {s} k e ih = record {
       let fits : length s < m = omega (arith, text-long k, length-append w s) in
       let clear : begins (ascii "]]>") (w ++ (s ++ (60 ∷ 47 ∷ r))) ≡ false =
       rw append-assoc at (begins-apart (ascii "]]>") (w ++ s) (47 ∷ r) (a-byte refl (a-byte refl (a-byte refl no-byte))) e) in
-      rw (append-assoc w s, contents-suc, text-looks k, test-complete (not-false clear) (w ++ (s ++ (60 ∷ 47 ∷ r))), text-complete k, ih .reads m fits r);
+      rw (append-assoc w s, contents-suc, text-looks k, test-complete (not-so clear) (w ++ (s ++ (60 ∷ 47 ∷ r))), text-complete k, ih .reads m fits r);
 }
 
 inner-read : {d : ℕ} {e : Element} {c : Contents} {w s : List ℕ} → ElementRead d e w → ContentsRead d c s → ContentsRead d (child e c) (w ⊹ s)

@@ -1,37 +1,14 @@
 -- The classes of bytes lie apart: bounds on each, from which `omega` tells any two apart.
-use mathlib.Core.Path.{_≡_, refl, ap}
+use mathlib.Core.Path.{_≡_, ap}
 use Prim.Native.Nat.{ℕ, _≤_, _<_}
-use mathlib.Core.Bool.{Bool, true, false, _&&_, _||_, not}
+use mathlib.Core.Bool.{true, _&&_, not}
 use lib.Dec.{eqb, leb}
 use native.Mathlib.Omega.{arith}
 use borrow.Author.Tests.{leb-true, eqb-true}
+pub use Rattle.lists.specs.Booleans.{and-left, and-right, or-elim, or-left, or-right, refute}
 use Rattle.grammar.specs.Bytes.{between, blank, letter, nameStart, nameByte, quote, special}
 use Rattle.grammar.specs.Characters.{lead1, lead2, lead3, lead4, continues}
 use Rattle.grammar.specs.Parser.{closing}
-
-pub and-left : (a b : Bool) → (a && b) ≡ true → a ≡ true
-and-left true b e = refl
-and-left false b e = e
-
-pub and-right : (a b : Bool) → (a && b) ≡ true → b ≡ true
-and-right true b e = e
-and-right false b e = cc
-
-pub or-elim : (P : Type 0) (a b : Bool) → (a || b) ≡ true → (a ≡ true → P) → (b ≡ true → P) → P
-or-elim P true b e f g = f refl
-or-elim P false b e f g = g e
-
-pub or-left : (a b : Bool) → (a || b) ≡ false → a ≡ false
-or-left true b e = e
-or-left false b e = refl
-
-pub or-right : (a b : Bool) → (a || b) ≡ false → b ≡ false
-or-right true b e = cc
-or-right false b e = e
-
-pub refute : (t : Bool) → (t ≡ true → ⊥) → t ≡ false
-refute true h = absurd (h refl)
-refute false h = refl
 
 -- x is one of the numbers from lo to hi
 abbrev pub Within : ℕ → ℕ → ℕ → Type 0

@@ -8,8 +8,8 @@ use Prim.Native.Nat.{ℕ, zero, suc, _+_, _≤_, _<_}
 use mathlib.Core.Bool.{Bool, true, false, _&&_, _||_, not}
 use lib.Dec.{eqb, leb}
 use lib.ListN.{length, length-append}
-use native.Mathlib.Omega.{arith}
 use borrow.Author.Tests.{leb-true, eq-eqb, eqb-true, not-true}
+use Rattle.lists.specs.Booleans.{and-left, and-right, clash}
 use Rattle.grammar.specs.Bytes.{_⊹_, ascii, blank, nameStart, nameByte, quote, special, Each, no-byte, a-byte, Sequence, no-more, one-more, begins}
 use Rattle.grammar.specs.Characters.{Character, utf8-1, utf8-2, utf8-3, utf8-4, lead1, lead2, lead3, lead4, continues, noncharacter}
 use Rattle.grammar.specs.Document.{Attribute, attribute, Element, element, Contents, nothing, child, joined, together}
@@ -17,7 +17,6 @@ use Rattle.grammar.specs.Grammar
 use Rattle.grammar.specs.Grammar.{Name, Gap, Equals, Reference, TextCharacter, ValueCharacter, Value, WritesAttribute, Absent, Distinct, Attributes, Remark, Comment, WritesElement, WritesContents, Setting, Encoding, Declaration, Aside, Writes}
 use Rattle.grammar.specs.Read.{Read, fail, got, Reader, bind, test, mark, byte, span, alt, all-of, Ok, failed, good, bind-ok, ok-map, ok-got, alt-ok, Takes, test-sound, mark-sound, byte-sound, span-sound, all-of-sound, seen-sound}
 use Rattle.grammar.specs.Parser
-use Rattle.grammar.specs.Facts.{and-left, and-right}
 use Rattle.grammar.specs.Parser.{name-at, gap-at, equals-at, Width, one, two, three, four, width, rest-by, rest-at, literal-at, said, reference-at, text-at, space-at, value-byte, value-character-at, value-at, attribute-at, ends, closing, same, absent, distinct, attributes-at, no-dash, plain-at, dashed-at, remark-at, comment-at, Look, at-close, at-comment, at-element, at-text, look, empty-at, full-at, element-at, contents-by, contents-at, setting-at, asking, encoding-if, declaration-if, declaration-at, blank-at, remarked-at, aside-at, no-aside, end-at, document-at, answer, parse}
 
 pub name-sound : (s : List ℕ) → Ok (λ n r. (s ≡ n ++ r) × Name n) (name-at s)
@@ -141,7 +140,7 @@ absent-sound n (attribute m v ∷ l) e =
     Grammar.absent-more (λ (q : n ≡ m). different (not-true (same n m) (and-left (not (same n m)) (absent n l) e)) q) (absent-sound n l (and-right (not (same n m)) (absent n l) e))
   where
     different : same n m ≡ false → n ≡ m → ⊥
-    different f q = let g : same n m ≡ true = rw (← q) (same-refl n) in let z : _≡_ {A = ℕ} 0 1 = cc in omega arith
+    different f q = let g : same n m ≡ true = rw (← q) (same-refl n) in clash (cc)
 
 distinct-sound : (l : List Attribute) → distinct l ≡ true → Distinct l
 unfolding distinct
@@ -289,7 +288,7 @@ document-sound n s =
 
 answer-sound : {s : List ℕ} {m : Read Element} {e : Element} → Ok (λ e r. Writes e s) m → answer m ≡ some e → Writes e s
 unfolding answer
-answer-sound failed q = let z : _≡_ {A = ℕ} 0 1 = cc in absurd (omega arith)
+answer-sound failed q = clash (cc)
 answer-sound {s} {e = e} (good {a} h) q = let one : a ≡ e = cc in rw one at h
 
 pub parse-sound : (s : List ℕ) (e : Element) → parse s ≡ some e → Writes e s

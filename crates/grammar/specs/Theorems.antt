@@ -5,7 +5,7 @@ use mathlib.Core.List.{List}
 use mathlib.Core.Option.{Option, some}
 use mathlib.Core.Option
 use Prim.Native.Nat.{ℕ}
-use native.Mathlib.Omega.{arith}
+use Rattle.lists.specs.Booleans.{clash}
 use Rattle.grammar.specs.Document.{Element}
 use Rattle.grammar.specs.Grammar.{Writes}
 use Rattle.grammar.specs.Erased.{Node, erased, erasedIn, WritesDocument, documentOf}
@@ -24,7 +24,7 @@ unambiguous h k = let p = parse-complete h in let q = parse-complete k in cc
 -- THE PAPER'S DOCUMENTS
 document-by : (s : List ℕ) (d : Node) (m : Option Element) → parse s ≡ m → erasedIn m ≡ some d → WritesDocument d s
 unfolding erasedIn
-document-by s d Option.none e h = let z : _≡_ {A = ℕ} 0 1 = cc in absurd (omega arith)
+document-by s d Option.none e h = clash (cc)
 document-by s d (some x) e h = record { root = x; writes = parse-sound s x e; same = cc }
 
 document-sound : (s : List ℕ) (d : Node) → documentOf s ≡ some d → WritesDocument d s

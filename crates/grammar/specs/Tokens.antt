@@ -8,17 +8,15 @@ use lib.Dec.{eqb, leb}
 use lib.ListN.{length, length-append}
 use native.Mathlib.Omega.{arith}
 use borrow.Author.Tests.{leb-true, le-leb, lt-leb, eq-eqb, ne-eqb, eqb-true, not-true}
+use Rattle.lists.specs.Booleans.{and-left, and-right, or-right, refute, not-so}
 use Rattle.grammar.specs.Bytes.{_⊹_, ascii, blank, nameStart, nameByte, quote, special, Each, no-byte, a-byte, Sequence, no-more, one-more, begins, letter}
 use Rattle.grammar.specs.Characters.{Character, utf8-1, utf8-2, utf8-3, utf8-4, lead1, lead2, lead3, lead4, continues, noncharacter}
 use Rattle.grammar.specs.Document.{Attribute, attribute, together}
 use Rattle.grammar.specs.Grammar
 use Rattle.grammar.specs.Grammar.{Name, Gap, Equals, Reference, TextCharacter, ValueCharacter, Value, WritesAttribute, Absent, Distinct, Attributes, Remark, Comment}
 use Rattle.grammar.specs.Read.{Read, fail, got, Reader, bind, test, mark, byte, span, stops, alt, all-of, test-complete, mark-complete, mark-other, byte-complete, byte-other, span-complete, Item, all-of-complete}
-use Rattle.grammar.specs.Facts.{and-left, and-right, or-left, or-right, refute, blank-in, nameStart-in, nameByte-in, quote-in, closing-in, lead1-in, lead2-in, lead3-in, lead4-in}
+use Rattle.grammar.specs.Facts.{blank-in, nameStart-in, nameByte-in, quote-in, closing-in, lead1-in, lead2-in, lead3-in, lead4-in}
 use Rattle.grammar.specs.Parser.{name-at, gap-at, equals-at, Width, one, two, three, four, width, width-by, rest-by, rest-at, literal-at, said, reference-at, text-at, space-at, value-byte, value-character-at, value-at, attribute-at, ends, closing, same, absent, distinct, attributes-at, no-dash, plain-at, dashed-at, remark-at, comment-at}
-
-pub not-false : {t : Bool} → t ≡ false → not t ≡ true
-not-false e = rw e
 
 pub name-complete : {n : List ℕ} → Name n → (r : List ℕ) → stops nameByte r ≡ true → name-at (n ++ r) ≡ got n r
 unfolding name-at bind
@@ -36,7 +34,7 @@ equals-complete (Grammar.equals {u} {v} h₁ h₂) r e =
 
 -- where a name ends, and where blanks end
 pub blank-ends-name : (a : ℕ) → blank a ≡ true → not (nameByte a) ≡ true
-blank-ends-name a h = not-false (refute (nameByte a) λ e. let x = nameByte-in a e in let y = blank-in a h in omega arith)
+blank-ends-name a h = not-so (refute (nameByte a) λ e. let x = nameByte-in a e in let y = blank-in a h in omega arith)
 
 pub blanks-end-name : {u : List ℕ} → Each blank u → (r : List ℕ) → stops nameByte r ≡ true → stops nameByte (u ++ r) ≡ true
 unfolding stops
@@ -52,11 +50,11 @@ high-no-blank a h = refute (blank a) λ e. let x = blank-in a e in omega arith
 
 pub quote-ends-blanks : (q : ℕ) → quote q ≡ true → (r : List ℕ) → stops blank (q ∷ r) ≡ true
 unfolding stops
-quote-ends-blanks q h r = let x = quote-in q h .0 in not-false (high-no-blank q (omega arith))
+quote-ends-blanks q h r = let x = quote-in q h .0 in not-so (high-no-blank q (omega arith))
 
 pub name-ends-blanks : {n : List ℕ} → Name n → (r : List ℕ) → stops blank (n ++ r) ≡ true
 unfolding stops
-name-ends-blanks (Grammar.name {a} h₁ h₂ h₃) r = let x = nameStart-in a h₁ in not-false (high-no-blank a (omega arith))
+name-ends-blanks (Grammar.name {a} h₁ h₂ h₃) r = let x = nameStart-in a h₁ in not-so (high-no-blank a (omega arith))
 
 -- characters
 width-1 : (a : ℕ) → a ≤ 127 → width a ≡ one
@@ -85,7 +83,7 @@ rest-complete (utf8-2 {a} {b} h k) r =
 rest-complete (utf8-3 {a} {b} {c} h k n) r =
     let x = lead3-in a b h in
     let w : width a ≡ three = width-3 a (omega arith) (omega arith) in
-    rw (w, byte-complete (lead3 a) b h (c ∷ r), byte-complete continues c k r, test-complete (not-false n) r)
+    rw (w, byte-complete (lead3 a) b h (c ∷ r), byte-complete continues c k r, test-complete (not-so n) r)
 rest-complete (utf8-4 {a} {b} {c} {d} h k l) r =
     let x = lead4-in a b h in
     let w : width a ≡ four = width-4 a (omega arith) in
@@ -115,7 +113,7 @@ reference-other a e s =
 pub text-complete : {b w : List ℕ} → TextCharacter b w → (r : List ℕ) → text-at (w ++ r) ≡ got b r
 unfolding text-at alt special
 text-complete (TextCharacter.literal {a} {w} h e) r =
-    rw (reference-other a (or-right (eqb a 60) (eqb a 38) e) (w ++ r)) (literal-complete (λ a. not (special a)) h (not-false e) r)
+    rw (reference-other a (or-right (eqb a 60) (eqb a 38) e) (w ++ r)) (literal-complete (λ a. not (special a)) h (not-so e) r)
 text-complete (TextCharacter.reference k) r = rw (reference-complete k r)
 
 -- a reference begins with `&`
@@ -251,9 +249,9 @@ attributes-end-name (Grammar.attributes t h k) r e = sequence-ends-name t r e
 -- comments
 remark-reads : {b w : List ℕ} → Remark b w → (r : List ℕ) → remark-at (w ++ r) ≡ got b r
 unfolding remark-at plain-at dashed-at alt bind no-dash
-remark-reads (Grammar.plain {a} {w} h e) r = rw (literal-complete no-dash h (not-false e) r)
+remark-reads (Grammar.plain {a} {w} h e) r = rw (literal-complete no-dash h (not-so e) r)
 remark-reads (Grammar.dashed {a} {w} h e) r =
-    rw (literal-other no-dash 45 refl (a ∷ (w ++ r)), mark-complete (ascii "-") (a ∷ (w ++ r)), literal-complete no-dash h (not-false e) r)
+    rw (literal-other no-dash 45 refl (a ∷ (w ++ r)), mark-complete (ascii "-") (a ∷ (w ++ r)), literal-complete no-dash h (not-so e) r)
 
 remark-goes : {b w : List ℕ} → Remark b w → (r : List ℕ) → begins (ascii "--") (w ++ r) ≡ false
 unfolding begins

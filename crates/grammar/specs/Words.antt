@@ -7,11 +7,12 @@ use mathlib.Core.Bool.{Bool, true, false, _&&_, _||_}
 use lib.Dec.{eqb}
 use native.Mathlib.Omega.{arith}
 use borrow.Author.Tests.{eqb-true, ne-eqb}
+use Rattle.lists.specs.Booleans.{and-right, or-elim, clash}
 use Rattle.grammar.specs.Bytes.{_⊹_, ascii, blank, between, Sequence, no-more, one-more, begins}
 use Rattle.grammar.specs.Characters.{Character, utf8-1, utf8-2, utf8-3, utf8-4, lead1, lead3, lead4, continues}
 use Rattle.grammar.specs.Grammar
 use Rattle.grammar.specs.Grammar.{Remark}
-use Rattle.grammar.specs.Facts.{and-left, and-right, or-elim, within, lead2-in, lead3-in, lead4-in}
+use Rattle.grammar.specs.Facts.{within, lead2-in, lead3-in, lead4-in}
 
 -- the bytes `k` begin at no place of the text
 pub data Nowhere (k : List ℕ) : List ℕ → Type 0 where
@@ -99,7 +100,7 @@ Both w = (Nowhere (ascii "--") (w ++ ascii "-") → Produced w) × (Nowhere (asc
 
 no-dashes : (s : List ℕ) → begins (ascii "--") (45 ∷ 45 ∷ s) ≡ false → ⊥
 unfolding begins
-no-dashes s e = let z : _≡_ {A = ℕ} 0 1 = cc in omega arith
+no-dashes s e = clash (cc)
 
 both-dash : (s : List ℕ) → Both s → Both (45 ∷ s)
 both-dash s ih = (ih .1, λ n. absurd (no-dashes (s ++ ascii "-") (nowhere-first n)))

@@ -52,6 +52,9 @@ pub and-no : (a b : Bool) → b ≡ false → (a && b) ≡ false
 and-no true b h = h
 and-no false b h = refl
 
+pub not-so : {t : Bool} → t ≡ false → not t ≡ true
+not-so h = rw h
+
 -- ---- Equations.
 
 pub and-true : (a : Bool) → (a && true) ≡ a
@@ -83,6 +86,18 @@ or-comm true true = refl
 or-comm true false = refl
 or-comm false true = refl
 or-comm false false = refl
+
+pub or-swap : (a b c : Bool) → (a || (b || c)) ≡ (b || (a || c))
+or-swap true true c = refl
+or-swap true false c = refl
+or-swap false true c = refl
+or-swap false false c = refl
+
+pub and-swap : (a b c : Bool) → (a && (b && c)) ≡ (b && (a && c))
+and-swap true true c = refl
+and-swap true false c = refl
+and-swap false true c = refl
+and-swap false false c = refl
 
 -- ---- What cannot be.
 

@@ -2,9 +2,11 @@
 use mathlib.Core.Path.{_≡_, refl, ap, ap₂, _∙_}
 use mathlib.Core.List.{List, [], _∷_, _++_}
 use mathlib.Core.Bool.{Bool, true, false, _&&_, _||_, cond}
-use Prim.Native.Nat.{suc, _+_}
+use Prim.Native.Nat.{ℕ, suc, _+_}
+use native.Mathlib.Omega.{arith}
 use lib.ListN.{length}
-use Rattle.lists.specs.Lists.{all, any, count, twoOf, each, eachIn}
+use Rattle.lists.specs.Lists.{all, any, count, twoOf, total, each, eachIn}
+use Rattle.lists.specs.Booleans.{and-assoc, or-assoc}
 
 -- ---- Tests that agree.
 
@@ -52,6 +54,11 @@ module _ {A B : Type 0} (g : A → B) where
   count-each p [] = refl
   count-each p (a ∷ l) = ap (λ n. cond (p (g a)) 1 0 + n) (count-each p l)
 
+  pub total-each : (f : B → ℕ) (l : List A) → total f (each g l) ≡ total (λ a. f (g a)) l
+  unfolding total each
+  total-each f [] = refl
+  total-each f (a ∷ l) = ap (λ n. f (g a) + n) (total-each f l)
+
   pub two-each : (r : B → B → Bool) (l : List A) → twoOf r (each g l) ≡ twoOf (λ a b. r (g a) (g b)) l
   unfolding twoOf each
   two-each r [] = refl
@@ -90,11 +97,17 @@ module _ {A B C : Type 0} (g : A → B) where
 pub any-append : {A : Type 0} (p : A → Bool) (k l : List A) → any p (k ++ l) ≡ (any p k || any p l)
 unfolding any
 any-append p [] l = refl
-any-append p (a ∷ k) l = go (p a) (any-append p k l)
-  where
-    go : (b : Bool) → any p (k ++ l) ≡ (any p k || any p l) → (b || any p (k ++ l)) ≡ (b || any p k || any p l)
-    go true h = refl
-    go false h = h
+any-append p (a ∷ k) l = ap (λ b. p a || b) (any-append p k l) ∙ or-assoc (p a) (any p k) (any p l)
+
+pub all-append : {A : Type 0} (p : A → Bool) (k l : List A) → all p (k ++ l) ≡ (all p k && all p l)
+unfolding all
+all-append p [] l = refl
+all-append p (a ∷ k) l = ap (λ b. p a && b) (all-append p k l) ∙ and-assoc (p a) (all p k) (all p l)
+
+pub count-append : {A : Type 0} (p : A → Bool) (k l : List A) → count p (k ++ l) ≡ count p k + count p l
+unfolding count
+count-append p [] l = omega arith
+count-append p (a ∷ k) l = let h = count-append p k l in omega arith
 
 pub any-in : {A B : Type 0} (p : B → Bool) (f : A → List B) (l : List A) → any p (eachIn f l) ≡ any (λ a. any p (f a)) l
 unfolding any eachIn

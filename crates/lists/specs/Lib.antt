@@ -4,3 +4,7 @@ pub mod Quantifiers
 pub mod Laws
 pub mod Refusals
 pub mod RefusalLaws
+pub mod Tables
+pub mod Ranges
+pub mod Filling
+pub mod Permuted

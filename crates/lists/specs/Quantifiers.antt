@@ -2,32 +2,14 @@
 use mathlib.Core.Path.{_≡_, refl, sym, ap, _∙_}
 use mathlib.Core.Logic.{_↔_}
 use mathlib.Core.List.{List, [], _∷_, _++_}
-use mathlib.Core.Bool.{Bool, true, false, _&&_, _||_, not, cond, false≢true, true≢false}
+use mathlib.Core.Bool.{Bool, true, false, _||_, not, cond, false≢true, true≢false}
 use Prim.Native.Nat.{ℕ, zero, suc, _+_, _<_, _≤_, suc-le-suc, zero-le}
 use native.Mathlib.Nat.{le-of-suc-le-suc, not-suc-le-zero, le-refl}
 use native.Mathlib.Decide.{ℕ-discrete}
 use native.Mathlib.Omega.{arith}
 use lib.ListN.{length, getD}
 use Rattle.lists.specs.Lists.{all, any, count, twoOf, allBelow}
-
-or-first : (a b : Bool) → a ≡ true → (a || b) ≡ true
-or-first true b h = refl
-or-first false b h = absurd (false≢true h)
-
-or-second : (a : Bool) {b : Bool} → b ≡ true → (a || b) ≡ true
-or-second true h = refl
-or-second false h = h
-
-and-both : {a b : Bool} → a ≡ true → b ≡ true → (a && b) ≡ true
-and-both h k = rw (h, k) refl
-
-and-first : (a b : Bool) → (a && b) ≡ true → a ≡ true
-and-first true b h = refl
-and-first false b h = h
-
-and-second : (a b : Bool) → (a && b) ≡ true → b ≡ true
-and-second true b h = h
-and-second false b h = absurd (false≢true h)
+use Rattle.lists.specs.Booleans.{and-left, and-right, and-both, or-first, or-second}
 
 module _ {A : Type 0} (d : A) where
   -- some place of the list passes
@@ -63,8 +45,8 @@ module _ {A : Type 0} (d : A) where
   all-places : (p : A → Bool) (l : List A) → all p l ≡ true → EveryPlace p l
   unfolding all
   all-places p [] h i u = absurd (not-suc-le-zero u)
-  all-places p (a ∷ l) h zero u = and-first (p a) (all p l) h
-  all-places p (a ∷ l) h (suc i) u = all-places p l (and-second (p a) (all p l) h) i (le-of-suc-le-suc u)
+  all-places p (a ∷ l) h zero u = and-left (p a) (all p l) h
+  all-places p (a ∷ l) h (suc i) u = all-places p l (and-right (p a) (all p l) h) i (le-of-suc-le-suc u)
 
   places-all : (p : A → Bool) (l : List A) → EveryPlace p l → all p l ≡ true
   unfolding all
@@ -162,10 +144,10 @@ module _ {A : Type 0} (d : A) where
 below-all : (n : ℕ) (p : ℕ → Bool) → allBelow n p ≡ true → (i : ℕ) → i < n → p i ≡ true
 unfolding allBelow
 below-all zero p h i u = absurd (not-suc-le-zero u)
-below-all (suc n) p h i u = go (ℕ-discrete i n) (below-all n p (and-second (p n) (allBelow n p) h) i)
+below-all (suc n) p h i u = go (ℕ-discrete i n) (below-all n p (and-right (p n) (allBelow n p) h) i)
   where
     go : Dec (i ≡ n) → (i < n → p i ≡ true) → p i ≡ true
-    go (yes e) f = rw e (and-first (p n) (allBelow n p) h)
+    go (yes e) f = rw e (and-left (p n) (allBelow n p) h)
     go (no w) f = f (omega arith)
 
 all-below : (n : ℕ) (p : ℕ → Bool) → ((i : ℕ) → i < n → p i ≡ true) → allBelow n p ≡ true

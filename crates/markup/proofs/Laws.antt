@@ -2,7 +2,6 @@
 use mathlib.Core.Path.{_≡_, refl, ap, sym, _∙_}
 use mathlib.Core.List.{List, [], _∷_, _++_}
 use Prim.Native.Nat.{ℕ, _+_, _-_, _≤_, _<_}
-use native.Mathlib.Omega.{arith}
 use mathlib.Core.Bool.{Bool, true, false, _&&_}
 use lib.Dec.{eqb}
 use lib.ListN.{length, drop, length-drop}
@@ -11,9 +10,6 @@ use Rattle.grammar.specs.Read.{Read, fail, got, Reader, bind, mark, test, Ok, f
 use Rattle.tokens.specs.Step.{stepped, Tails, Went, went, arrives, refuses, fell, at-byte, at-end}
 use Rattle.tokens.specs.declared.Step.{Step}
 use Rattle.tokens.specs.declared.Step.the-variants.{To, No}
-
-pub no-to : {R : Type 0} {j : ℕ} → No ≡ To j → R
-no-to e = let z : _≡_ {A = ℕ} 0 1 = cc in absurd (omega arith)
 
 -- the first of two readers fails
 pub stuck : {A B : Type 0} (n : ℕ) (m : Read A) (f : A → List ℕ → Read B) {r : Step} → r ≡ stepped n m → r ≡ No → No ≡ stepped n (bind m f)

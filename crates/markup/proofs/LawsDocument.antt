@@ -10,6 +10,7 @@ use mathlib.Core.Bool.{Bool, true, false}
 use lib.Dec.{eqb}
 use lib.ListN.{length, drop, length-drop}
 use borrow.Author.Tests.{eqb-true, eqb-false}
+use Rattle.lists.specs.Booleans.{clash}
 use Rattle.grammar.specs.Document.{Element}
 use Rattle.grammar.specs.Grammar.{Writes}
 use Rattle.grammar.specs.Read.{Read, fail, got, Reader, bind, all-of, all-of-sound}
@@ -45,18 +46,18 @@ module _ (text : List ℕ) where
   refused : whole-at text ≡ fail → WellFormed text false
   unfolding parse answer
   refused h = record {
-    accepts = λ e. let z : _≡_ {A = ℕ} 0 1 = cc in absurd (omega arith);
+    accepts = λ e. clash (cc);
     refuses = λ _ e w.
         let p = parse-complete w in
         let q : parse text ≡ Option.none = rw (whole-is text, h) in
-        let z : _≡_ {A = ℕ} 0 1 = cc in omega arith;
+        clash (cc);
   }
 
   accepted : {e : Element} {r : List ℕ} → whole-at text ≡ got e r → WellFormed text true
   unfolding parse answer
   accepted {e} h = record {
     accepts = λ _. (e, parse-sound text e (rw (whole-is text, h)));
-    refuses = λ e. let z : _≡_ {A = ℕ} 0 1 = cc in absurd (omega arith);
+    refuses = λ e. clash (cc);
   }
 
   module _ {r₁ : Step} (q₁ : r₁ ≡ stepped (length text) (prologue-at text)) where

@@ -6,6 +6,7 @@ use native.Mathlib.Omega.{arith}
 use borrow.Author.Needs.{needs}
 use mathlib.Core.Bool.{Bool, true, false}
 use lib.ListN.{length, drop, getD, length-append, length-drop}
+use Rattle.lists.specs.Booleans.{clash}
 use Rattle.grammar.specs.Bytes.{ascii, blank}
 use Rattle.grammar.specs.Document.{Attribute, Element, element, Contents, nothing, child}
 use Rattle.grammar.specs.Read.{Read, fail, got, Reader, bind, alt, mark, mark-complete, mark-other, mark-sound, span, seen, before, Ok, failed, good, ok-got, ok-map, bind-ok}
@@ -53,14 +54,14 @@ module _ (d n : ℕ) (s : List ℕ) where
   turn-of (got l r) e = turn-by l r e (look r) refl
 
 is-close : {d n j : ℕ} {s : List ℕ} {b : Between} → Turn d n s b → b ≡ Between.Close j → To j ≡ stepped n (contents d s)
-is-close (bad e) q = let z : _≡_ {A = ℕ} 0 1 = cc in absurd (omega arith)
+is-close (bad e) q = clash (cc)
 is-close (close r e) q = cc
-is-close (start l r h e) q = let z : _≡_ {A = ℕ} 0 1 = cc in absurd (omega arith)
+is-close (start l r h e) q = clash (cc)
 
 is-bad : {d n : ℕ} {s : List ℕ} {b : Between} → Turn d n s b → b ≡ Between.Bad → No ≡ stepped n (contents d s)
 is-bad (bad e) q = sym e
-is-bad (close r e) q = let z : _≡_ {A = ℕ} 0 1 = cc in absurd (omega arith)
-is-bad (start l r h e) q = let z : _≡_ {A = ℕ} 0 1 = cc in absurd (omega arith)
+is-bad (close r e) q = clash (cc)
+is-bad (start l r h e) q = clash (cc)
 
 -- an element begins at `j`, behind the pieces at `i`
 record Starts (d : ℕ) (text : List ℕ) (i j : ℕ) : Type 0 where
@@ -69,8 +70,8 @@ record Starts (d : ℕ) (text : List ℕ) (i j : ℕ) : Type 0 where
 
 is-start : {d : ℕ} {text : List ℕ} {i j : ℕ} {b : Between} → Turn d (length text) (drop i text) b → b ≡ Between.Start j → Starts d text i j
 unfolding stepped
-is-start (bad e) q = let z : _≡_ {A = ℕ} 0 1 = cc in absurd (omega arith)
-is-start (close r e) q = let z : _≡_ {A = ℕ} 0 1 = cc in absurd (omega arith)
+is-start (bad e) q = clash (cc)
+is-start (close r e) q = clash (cc)
 is-start {d} {text} {i} {j} (start l r h e) q =
     let place : j ≡ length text - length r = cc in
     let there : To j ≡ stepped (length text) (pieces-at (drop i text)) = rw (h, place) in
@@ -162,13 +163,13 @@ module _ (d n : ℕ) (s : List ℕ) where
 
 opens-bad : {d n : ℕ} {s : List ℕ} {o : Opened} → Opens d n s o → o ≡ Opened.Bad → No ≡ stepped n (element-at contents (suc d) s)
 opens-bad (bad e) q = sym e
-opens-bad (empty r e) q = let z : _≡_ {A = ℕ} 0 1 = cc in absurd (omega arith)
-opens-bad (full h r k e) q = let z : _≡_ {A = ℕ} 0 1 = cc in absurd (omega arith)
+opens-bad (empty r e) q = clash (cc)
+opens-bad (full h r k e) q = clash (cc)
 
 opens-empty : {d n i : ℕ} {s : List ℕ} {o : Opened} → Opens d n s o → o ≡ Opened.Empty i → To i ≡ stepped n (element-at contents (suc d) s)
-opens-empty (bad e) q = let z : _≡_ {A = ℕ} 0 1 = cc in absurd (omega arith)
+opens-empty (bad e) q = clash (cc)
 opens-empty (empty r e) q = cc
-opens-empty (full h r k e) q = let z : _≡_ {A = ℕ} 0 1 = cc in absurd (omega arith)
+opens-empty (full h r k e) q = clash (cc)
 
 -- the contents begin at `i`
 record Begins (d : ℕ) (text : List ℕ) (at i : ℕ) : Type 0 where
@@ -178,8 +179,8 @@ record Begins (d : ℕ) (text : List ℕ) (at i : ℕ) : Type 0 where
 
 opens-full : {d : ℕ} {text : List ℕ} {at i : ℕ} {o : Opened} → Opens d (length text) (drop at text) o → o ≡ Opened.Full i → Begins d text at i
 unfolding stepped
-opens-full (bad e) q = let z : _≡_ {A = ℕ} 0 1 = cc in absurd (omega arith)
-opens-full (empty r e) q = let z : _≡_ {A = ℕ} 0 1 = cc in absurd (omega arith)
+opens-full (bad e) q = clash (cc)
+opens-full (empty r e) q = clash (cc)
 opens-full {d} {text} {at} {i} (full h r k e) q =
     let place : i ≡ length text - length r = cc in
     let there : To i ≡ stepped (length text) (start-at (drop at text)) = rw (k, place) in

@@ -7,11 +7,11 @@ use borrow.Author.Needs.{needs}
 use mathlib.Core.Bool.{Bool, true, false, _&&_, _||_, not}
 use lib.Dec.{eqb}
 use lib.ListN.{length, drop, getD, length-append, length-drop}
-use borrow.Author.Tests.{eq-eqb, ne-eqb, not-true, not-false}
+use borrow.Author.Tests.{eq-eqb, ne-eqb, not-true}
+use Rattle.lists.specs.Booleans.{and-left, and-right, or-left, clash}
 use Rattle.grammar.specs.Bytes.{ascii, blank, begins, special, Each, no-byte, a-byte}
 use Rattle.grammar.specs.Characters.{utf8-1, lead1}
 use Rattle.grammar.specs.Grammar.{TextCharacter}
-use Rattle.grammar.specs.Facts.{and-left, and-right, or-left}
 use Rattle.grammar.specs.Read.{Read, fail, got, Reader, bind, alt, byte, test, test-complete, mark, span, span-sound, Ok, failed, good, ok-got, ok-map}
 use Rattle.grammar.specs.Parser.{Look, at-close, at-comment, at-element, at-text, look, look-if, look₂, look-by, text-at, reference-at, said, literal-at, comment-at}
 use Rattle.grammar.specs.Tokens.{text-complete, reference-other}
@@ -65,20 +65,20 @@ module _ (s : List ℕ) (at : ℕ) where
 front-is : (l k : Look) → front l ≡ front k → l ≡ k
 unfolding front
 front-is at-close at-close e = refl
-front-is at-close at-comment e = let z : _≡_ {A = ℕ} 0 1 = cc in absurd (omega arith)
-front-is at-close at-element e = let z : _≡_ {A = ℕ} 0 1 = cc in absurd (omega arith)
-front-is at-close at-text e = let z : _≡_ {A = ℕ} 0 1 = cc in absurd (omega arith)
-front-is at-comment at-close e = let z : _≡_ {A = ℕ} 0 1 = cc in absurd (omega arith)
+front-is at-close at-comment e = clash (cc)
+front-is at-close at-element e = clash (cc)
+front-is at-close at-text e = clash (cc)
+front-is at-comment at-close e = clash (cc)
 front-is at-comment at-comment e = refl
-front-is at-comment at-element e = let z : _≡_ {A = ℕ} 0 1 = cc in absurd (omega arith)
-front-is at-comment at-text e = let z : _≡_ {A = ℕ} 0 1 = cc in absurd (omega arith)
-front-is at-element at-close e = let z : _≡_ {A = ℕ} 0 1 = cc in absurd (omega arith)
-front-is at-element at-comment e = let z : _≡_ {A = ℕ} 0 1 = cc in absurd (omega arith)
+front-is at-comment at-element e = clash (cc)
+front-is at-comment at-text e = clash (cc)
+front-is at-element at-close e = clash (cc)
+front-is at-element at-comment e = clash (cc)
 front-is at-element at-element e = refl
-front-is at-element at-text e = let z : _≡_ {A = ℕ} 0 1 = cc in absurd (omega arith)
-front-is at-text at-close e = let z : _≡_ {A = ℕ} 0 1 = cc in absurd (omega arith)
-front-is at-text at-comment e = let z : _≡_ {A = ℕ} 0 1 = cc in absurd (omega arith)
-front-is at-text at-element e = let z : _≡_ {A = ℕ} 0 1 = cc in absurd (omega arith)
+front-is at-element at-text e = clash (cc)
+front-is at-text at-close e = clash (cc)
+front-is at-text at-comment e = clash (cc)
+front-is at-text at-element e = clash (cc)
 front-is at-text at-text e = refl
 
 -- a character, or a reference
@@ -190,9 +190,9 @@ look-open [] = starts
 look-open (b ∷ s) = marked-by (eqb b 47) (eqb b 33)
 
 no-text : {l : Look} → Marked l → l ≡ at-text → ⊥
-no-text closes e = let z : _≡_ {A = ℕ} 0 1 = cc in omega arith
-no-text remarks e = let z : _≡_ {A = ℕ} 0 1 = cc in omega arith
-no-text starts e = let z : _≡_ {A = ℕ} 0 1 = cc in omega arith
+no-text closes e = clash (cc)
+no-text remarks e = clash (cc)
+no-text starts e = clash (cc)
 
 -- a piece behind `<`
 module _ (text : List ℕ) (at : ℕ) {f : Front} (q : f ≡ front (look (drop at text))) where
@@ -242,33 +242,6 @@ module _ (text : List ℕ) (at : ℕ) {f : Front} (q : f ≡ front (look (drop a
   unfolding front halted
   halt-text e = halts-as at-text e
 
--- plain bytes
-span-on : (p : ℕ → Bool) (n a : ℕ) (s : List ℕ) → p a ≡ true → stepped n (span p (a ∷ s)) ≡ stepped n (span p s)
-unfolding span
-span-on p n a s e = rw (e, span) (stepped-value n (span p s) (λ w. a ∷ w))
-
-span-off : (p : ℕ → Bool) (a : ℕ) (s : List ℕ) → p a ≡ false → span p (a ∷ s) ≡ got [] (a ∷ s)
-unfolding span
-span-off p a s e = rw (e, span)
-
-abbrev pub Scanning : (ℕ → Bool) → List ℕ → ℕ → ℕ → Type 0
-Scanning p text at i = stepped (length text) (span p (drop at text)) ≡ stepped (length text) (span p (drop i text))
-
-module _ (p : ℕ → Bool) (text : List ℕ) (at i : ℕ) (inv : Scanning p text at i) where
-  pub scan-all : length text ≤ i → To (length text) ≡ stepped (length text) (span p (drop at text))
-  unfolding span stepped
-  scan-all h = let z : length text - 0 ≡ length text = omega arith in sym (inv ∙ rw (at-end text i h) (ap To z))
-
-  module _ (h : i < length text) {t : Bool} (b : t ≡ p (getD text i 0)) where
-    pub scan-on : not t ≡ false → Scanning p text at (i + 1)
-    scan-on e = inv ∙ rw (at-byte text i h) (span-on p (length text) (getD text i 0) (drop (i + 1) text) (sym b ∙ not-false t e))
-
-    pub scan-off : not t ≡ true → To i ≡ stepped (length text) (span p (drop at text))
-    scan-off e =
-        let k : i ≤ length text = omega arith in
-        let here : span p (drop i text) ≡ got [] (drop i text) = rw (at-byte text i h) (span-off p (getD text i 0) (drop (i + 1) text) (sym b ∙ not-true t e)) in
-        arrives text (span p (drop i text)) i k here ∙ sym inv
-
 -- one piece further
 between-bind : (n : ℕ) (p : Piece) (m : Read (List Piece)) → between n (bind m (λ l r. got (p ∷ l) r)) ≡ between n m
 unfolding between bind
@@ -278,15 +251,15 @@ between-bind n p (got l r) = refl
 halts-piece : (l : Look) (s : List ℕ) → halts l ≡ true → piece-by l s ≡ fail
 unfolding halts piece-by
 halts-piece at-close s e = refl
-halts-piece at-comment s e = let z : _≡_ {A = ℕ} 0 1 = cc in absurd (omega arith)
+halts-piece at-comment s e = clash (cc)
 halts-piece at-element s e = refl
-halts-piece at-text s e = let z : _≡_ {A = ℕ} 0 1 = cc in absurd (omega arith)
+halts-piece at-text s e = clash (cc)
 
 halted-on : (l : Look) (i : ℕ) → halts l ≡ false → Between.Bad ≡ halted l i
 unfolding halts halted
-halted-on at-close i e = let z : _≡_ {A = ℕ} 0 1 = cc in absurd (omega arith)
+halted-on at-close i e = clash (cc)
 halted-on at-comment i e = refl
-halted-on at-element i e = let z : _≡_ {A = ℕ} 0 1 = cc in absurd (omega arith)
+halted-on at-element i e = clash (cc)
 halted-on at-text i e = refl
 
 module _ (n : ℕ) (s : List ℕ) where
@@ -296,7 +269,7 @@ module _ (n : ℕ) (s : List ℕ) where
 
   between-piece : {p : Piece} {r : List ℕ} → piece-at s ≡ got p r → (t : Bool) → pause s ≡ t → between n (pieces-at s) ≡ between n (pieces-at r)
   unfolding bind
-  between-piece {p} {r} e true h = let f = halting h in let z : _≡_ {A = ℕ} 0 1 = cc in absurd (omega arith)
+  between-piece {p} {r} e true h = let f = halting h in clash (cc)
   between-piece {p} {r} e false h = rw (pieces-go s h, e) (between-bind n p (pieces-at r))
 
   between-fail : piece-at s ≡ fail → (t : Bool) → pause s ≡ t → halted (look s) (n - length s) ≡ between n (pieces-at s)
@@ -364,7 +337,5 @@ pub ruleset tagged = (piece-close, piece-start, piece-comment, piece-text, needs
 pub ruleset pieces = (piece-none, piece-byte, needs)
 
 pub ruleset halting-at = (halt-close, halt-start, halt-comment, halt-text, needs)
-
-pub ruleset scanning = (scan-all, scan-on, scan-off, needs)
 
 pub ruleset passing = (between-on, between-less, between-halt, needs)

@@ -4,13 +4,14 @@ use mathlib.Core.List.{List, [], _∷_, _++_}
 use Prim.Native.Nat.{ℕ, suc, _+_, _-_, _≤_, _<_}
 use native.Mathlib.Omega.{arith}
 use borrow.Author.Needs.{needs}
-use mathlib.Core.Bool.{Bool, true, false, _&&_, _||_, not}
+use mathlib.Core.Bool.{Bool, true, false, _||_, not}
 use lib.Dec.{eqb}
 use lib.ListN.{length, drop, getD, length-append, length-drop}
 use borrow.Author.Tests.{eq-eqb, ne-eqb, not-true, not-false, eqb-true}
+use Rattle.lists.specs.Booleans.{and-left, clash, and-false}
 use Rattle.grammar.specs.Bytes.{ascii, blank, quote, begins, Each, no-byte, a-byte}
 use Rattle.grammar.specs.Read.{Read, fail, got, Reader, bind, alt, test, mark, mark-complete, mark-other, byte, byte-complete, byte-other, span, span-sound, stops, all-of, many-step, Ok, failed, good, ok-got, ok-map, bind-ok}
-use Rattle.grammar.specs.Facts.{and-left, and-right, blank-in, refute}
+use Rattle.grammar.specs.Facts.{blank-in}
 use Rattle.grammar.specs.Sound.{comment-sound, setting-sound}
 use Rattle.grammar.specs.Parser.{declaration-at, declaration-if, no-aside, aside-at, blank-at, remarked-at, comment-at, setting-at, encoding-if, ends, asking, gap-at, equals-at}
 use Rattle.grammar.specs.Unfuelled.{all-of-step, less}
@@ -56,7 +57,7 @@ span-ends p (a ∷ s) = go (p a) refl (span-ends p s)
 -- `<` is no blank
 open-no-blank : (s : List ℕ) → begins (ascii "<!") s ≡ true → aside-at s ≡ remarked-at s
 unfolding begins aside-at blank-at alt bind blank
-open-no-blank [] e = let z : _≡_ {A = ℕ} 0 1 = cc in absurd (omega arith)
+open-no-blank [] e = clash (cc)
 open-no-blank (a ∷ s) e =
     let q = eqb-true a 60 (and-left (eqb a 60) _ e) in
     let other : blank a ≡ false = rw q in
@@ -68,10 +69,6 @@ aside-turn n s e =
     let on : no-aside s ≡ false = rw e (and-false (stops blank s)) in
     rw (asides-go s on, open-no-blank s e, bind-assoc (comment-at s))
     (stepped-each n (comment-at s) _ _ λ _ r. stepped-value n (asides-at r) (λ l. [] ∷ l))
-  where
-    and-false : (t : Bool) → (t && false) ≡ false
-    and-false true = refl
-    and-false false = refl
 
 abbrev pub Asides : List ℕ → ℕ → ℕ → Type 0
 Asides text at i = stepped (length text) (asides-at (drop at text)) ≡ stepped (length text) (asides-at (drop i text))
@@ -135,9 +132,6 @@ module _ (text : List ℕ) (at : ℕ) (value : List ℕ) where
         on : {x : Step} → x ≡ stepped (length text) (mark (getD text at 0 ∷ []) (drop i text)) → x ≡ stepped (length text) (quoted-at value (drop at text))
         on l = follows (mark value) (mark-tails value) text (at + 1) (λ _ r. mark (getD text at 0 ∷ []) r) q i k (λ _ _. l) ∙ ap (stepped (length text)) (sym inner)
 
-        pub quoted-inside : i ≤ length text
-        quoted-inside = went (mark value) text (at + 1) i (mark-tails value (drop (at + 1) text)) (sym k ∙ q) .inside
-
         pub quoted-cut : length text ≤ i → No ≡ stepped (length text) (quoted-at value (drop at text))
         unfolding mark
         quoted-cut l = on (refuses (length text) (mark (getD text at 0 ∷ []) (drop i text)) (rw (at-end text i l)))
@@ -185,7 +179,7 @@ module _ (text : List ℕ) (at : ℕ) (key value : List ℕ) where
 -- the encoding
 ends-some : (p : ℕ → Bool) (s : List ℕ) → ends p s ≡ true → 0 < length s
 unfolding ends
-ends-some p [] e = let z : _≡_ {A = ℕ} 0 1 = cc in absurd (omega arith)
+ends-some p [] e = clash (cc)
 ends-some p (a ∷ s) e = omega arith
 
 module _ (text : List ℕ) (at : ℕ) {t : Bool} (q : t ≡ ends asking (drop at text)) where

@@ -34,17 +34,17 @@ pub fn front_at(text: &[u8], at: usize) -> Front
     if text.len() <= at {
         return Front::Close;
     }
-    if text[at] != 60 {
+    if text[at] != b'<' {
         return Front::Text;
     }
     if text.len() <= at + 1 {
         return Front::Start;
     }
     let b = text[at + 1];
-    if b == 47 {
+    if b == b'/' {
         return Front::Close;
     }
-    if b == 33 {
+    if b == b'!' {
         return Front::Comment;
     }
     Front::Start
@@ -58,10 +58,10 @@ pub fn text_end(text: &[u8], at: usize) -> Step
         return Step::No;
     }
     let b = text[at];
-    if b == 38 {
+    if b == b'&' {
         return reference_end(text, at);
     }
-    if b == 60 {
+    if b == b'<' {
         return Step::No;
     }
     character_end(text, at)
@@ -99,10 +99,10 @@ pub fn piece_end(text: &[u8], at: usize) -> Step
         return Step::No;
     }
     let b = text[at];
-    if b == 60 {
+    if b == b'<' {
         return remark_end(text, at);
     }
-    if b == 93 {
+    if b == b']' {
         return bracket_end(text, at);
     }
     text_end(text, at)
@@ -112,8 +112,8 @@ pub fn piece_end(text: &[u8], at: usize) -> Step
 pub fn is_plain(b: u8) -> bool
     ensures { λ r. ⌜ r ≡ plain b ⌝ }
 {
-    (((b == 32) | ((b == 9) | ((b == 10) | (b == 13)))) | ((32 <= b) & (b <= 127)))
-        & (!((b == 60) | (b == 38)) & !(b == 93))
+    (((b == b' ') | ((b == b'\t') | ((b == b'\n') | (b == b'\r')))) | ((32 <= b) & (b <= 127)))
+        & (!((b == b'<') | (b == b'&')) & !(b == b']'))
 }
 
 // Where plain bytes end.

@@ -1,13 +1,14 @@
 -- THE GATHERED MODELS, as lists: what the arrays hold is what the map's models are.
 use mathlib.Core.Path.{_≡_, refl, sym, ap, ap₂, _∙_}
-use mathlib.Core.List.{List, [], _∷_}
+use mathlib.Core.List.{List}
 use mathlib.Core.Bool.{Bool}
-use Prim.Native.Nat.{ℕ, zero, suc, _+_, _<_, _≤_}
+use Prim.Native.Nat.{ℕ, zero, suc, _<_, _≤_}
 use native.Mathlib.Omega.{arith}
 use lib.Dec.{eqb}
 use lib.ListN.{length, getD}
 use Rattle.lists.specs.Lists.{table, each, count, total, allBelow}
-use Rattle.lists.specs.Laws.{count-each, count-same}
+use Rattle.lists.specs.Laws.{count-each, total-each}
+use Rattle.lists.specs.Ranges.{Range, holds, inRange, sumOf, tiling, counting-up}
 use Rattle.grammar.specs.Look.{attr}
 use Rattle.nodes.specs.Places.{the}
 use Rattle.numbers.specs.Numbers.{value}
@@ -17,7 +18,7 @@ use Rattle.maps.specs.Kinds.{model-facts}
 use Rattle.models.specs.Brain.{BrainAt, brain-models, brain-sum, whole-within}
 use Rattle.models.specs.Gathered.{HoldsAt, gathered, Sized, Gathered}
 use Rattle.models.specs.Tables.{each-take, each-table, table-below, size-of-table, entry-of-table}
-use Rattle.models.specs.Ranges.{counting-up, ranging, rangeOf, rangesOf, sumOf, tiling, Ranged}
+use Rattle.models.specs.Ranges.{ranging, rangeOf, rangesOf, Ranged}
 use Rattle.models.specs.declared.gather.Models.{Models}
 
 -- what each entry holds
@@ -69,18 +70,17 @@ held-ranged {text} {m} h = record {
     limits : (i : ℕ) → i < m .count → (1 ≤ value (attr "IndexCount" (the text (getD (m .at) i 0)))) × (value (attr "IndexCount" (the text (getD (m .at) i 0))) ≤ 1048576)
     limits i u = whole-within 1 1048576 (attr "IndexCount" (the text (getD (m .at) i 0))) (model-facts (h .holds i u .model .good) .count)
 
--- a model of which only the range is kept
-plain : Model → Model
+-- the range of a model
+plain : Model → Range
 plain x = ranging (x .offset) (x .count)
 
-plain-covers : (n : ℕ) (x : Model) → covers n (plain x) ≡ covers n x
-unfolding covers plain ranging
-plain-covers n x = refl
+plain-covers : (n : ℕ) (l : List Model) → count (inRange n) (each plain l) ≡ count (covers n) l
+unfolding covers holds plain ranging
+plain-covers n l = count-each plain (inRange n) l
 
 plain-sum : (l : List Model) → sumOf (each plain l) ≡ total (λ x. x .count) l
-unfolding sumOf total each plain ranging
-plain-sum [] = refl
-plain-sum (x ∷ l) = ap (λ n. x .count + n) (plain-sum l)
+unfolding sumOf plain ranging
+plain-sum l = total-each plain (λ r. r .size) l
 
 below-same : (n : ℕ) {p q : ℕ → Bool} → ((i : ℕ) → p i ≡ q i) → allBelow n p ≡ allBelow n q
 unfolding allBelow
@@ -90,8 +90,8 @@ below-same (suc n) h = rw (h n, below-same n h)
 plain-tiling : (l : List Model) → tiling (each plain l) ≡ allBelow (total (λ x. x .count) l) (λ n. eqb (count (covers n) l) 1)
 unfolding tiling
 plain-tiling l =
-    ap (λ k. allBelow k (λ n. eqb (count (covers n) (each plain l)) 1)) (plain-sum l)
-    ∙ below-same (total (λ x. x .count) l) (λ n. ap (λ c. eqb c 1) (count-each plain (covers n) l ∙ count-same (plain-covers n) l))
+    ap (λ k. allBelow k (λ n. eqb (count (inRange n) (each plain l)) 1)) (plain-sum l)
+    ∙ below-same (total (λ x. x .count) l) (λ n. ap (λ c. eqb c 1) (plain-covers n l))
 
 held-plain : {text : List ℕ} {m : Models} → Holding text m → rangesOf m ≡ each plain (modelsAt text m)
 unfolding rangesOf modelsAt rangeOf plain modelAt
@@ -107,7 +107,7 @@ held-total {text} {map} h = brain-sum (the text map) (h .brain .is-brain) ∙ sy
 pub held-counting : {text : List ℕ} {map : ℕ} {m : Models} → BrainHeld text map m → Counting (models (mapOf (the text map)))
 unfolding modelsAt modelAt table
 held-counting {text} {map} {m} h =
-    rw (held-models h) (counting-up (λ i. modelOf (the text (getD (m .at) i 0))) 0 (m .count)
+    rw (held-models h) (counting-up (λ (x : Model). x .count) (λ i. modelOf (the text (getD (m .at) i 0))) 0 (m .count)
     (λ k u v. (let x = h .held .holds k (omega arith) in let w = held-ranged (holding (h .held)) .least k (omega arith) in omega (arith, x .length-is))))
 
 pub held-tiling : {text : List ℕ} {map : ℕ} {m : Models} → BrainHeld text map m

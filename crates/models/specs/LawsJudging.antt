@@ -7,13 +7,14 @@ use native.Mathlib.Omega.{arith}
 use lib.Dec.{eqb}
 use lib.ListN.{getD}
 use borrow.Author.Needs.{needs}
+use Rattle.lists.specs.Ranges.{tiling}
 use Rattle.lists.specs.Lists.{countUp, all, any, count, allBelow}
 use Rattle.nodes.specs.Places.{the}
 use Rattle.cifti.specs.Maps.{Voxel, Model, Map, modelOf, mapOf, models, lengthOf, covers, volumeOf}
 use Rattle.cifti.specs.Conditions.{listsCount, uneven, beyond}
 use Rattle.models.specs.Brain.{BrainAt}
 use Rattle.models.specs.Tables.{up-one, up-done, up-all}
-use Rattle.models.specs.Ranges.{rangesOf, tiling, Ranged}
+use Rattle.models.specs.Ranges.{rangesOf, Ranged}
 use Rattle.models.specs.Held.{Holding, holding, BrainHeld, modelAt, modelsAt, held-models, held-ranged, held-tiling}
 use Rattle.models.specs.Listings.{Known}
 use Rattle.models.specs.LawsVerdicts.{or-on, or-none}

@@ -11,16 +11,15 @@ use lib.ListN.{getD}
 use borrow.Author.Needs.{needs}
 use borrow.Author.Tests.{eq-eqb, ne-eqb, lt-ltb, le-ltb}
 use Rattle.lists.specs.Lists.{countUp, total}
-use Rattle.cifti.specs.Maps.{Model}
-use Rattle.maps.specs.Chain.{beginsAt}
+use Rattle.lists.specs.Ranges.{Range, sumOf, beginsAt}
 use Rattle.models.specs.Tables.{up-one, up-done, up-all}
 use Rattle.models.specs.Gathered.{Sized}
 use Rattle.models.specs.declared.gather.Models.{Models}
-use Rattle.models.specs.Ranges.{ranging, rangeOf, rangesOf, sumOf, Ranged, rangeIf}
+use Rattle.models.specs.Ranges.{ranging, rangeOf, rangesOf, Ranged, rangeIf}
 
 -- ---- The turns of the loops over the arrays.
 
-pub ahead : Models → ℕ → List Model
+pub ahead : Models → ℕ → List Range
 ahead m i = countUp (rangeOf m) i (m .count - i)
 
 ahead-all : (m : Models) → ahead m 0 ≡ rangesOf m
@@ -36,7 +35,7 @@ unfolding ahead
 ahead-none m i h = up-done (rangeOf m) i (m .count) h
 
 -- the sum
-sum-one : (x : Model) (l : List Model) → sumOf (x ∷ l) ≡ x .count + sumOf l
+sum-one : (x : Range) (l : List Range) → sumOf (x ∷ l) ≡ x .size + sumOf l
 unfolding sumOf total
 sum-one x l = refl
 
@@ -44,9 +43,9 @@ sum-none : sumOf [] ≡ 0
 unfolding sumOf total
 sum-none = refl
 
-pub range-count : (m : Models) (i : ℕ) → (rangeOf m i) .count ≡ getD (m .length) i 0
+pub range-size : (m : Models) (i : ℕ) → (rangeOf m i) .size ≡ getD (m .length) i 0
 unfolding rangeOf ranging
-range-count m i = refl
+range-size m i = refl
 
 range-offset : (m : Models) (i : ℕ) → (rangeOf m i) .offset ≡ getD (m .offset) i 0
 unfolding rangeOf ranging
@@ -79,13 +78,13 @@ module _ {m : Models} {n i : ℕ} (go : Adding m n i) where
           ranged = go .ranged;
           within = omega arith;
           bound = omega (arith, go .ranged .most i h, go .bound);
-          same-sum = omega (arith, go .same-sum, s, range-count m i);
+          same-sum = omega (arith, go .same-sum, s, range-size m i);
         }
 
 pub ruleset adding = (adding-start, adding-done, adding-place, adding-room, adding-on, needs)
 
 -- where a range begins
-begins-one : (c : ℕ) (x : Model) (l : List Model) → beginsAt c (x ∷ l) ≡ cond (eqb (x .offset) c) (some x) (beginsAt c l)
+begins-one : (c : ℕ) (x : Range) (l : List Range) → beginsAt c (x ∷ l) ≡ cond (eqb (x .offset) c) (some x) (beginsAt c l)
 unfolding beginsAt
 begins-one c x l = refl
 

@@ -6,6 +6,7 @@ use native.Mathlib.Omega.{arith}
 use mathlib.Core.Bool.{Bool, true, false}
 use borrow.Author.Needs.{needs}
 use lib.ListN.{length, drop, length-drop}
+use Rattle.lists.specs.Booleans.{clash}
 use Rattle.grammar.specs.Bytes.{blank}
 use Rattle.grammar.specs.Read.{Read, fail, got, span, ok-got}
 use Rattle.grammar.specs.Parser.{comment-at, Look, at-close, at-comment, at-element, at-text, look}
@@ -27,7 +28,7 @@ use Rattle.markup.specs.declared.pieces.Front.the-variants as front-is
 use Rattle.nodes.specs.declared.scan.Tag.{Tag}
 use Rattle.nodes.specs.declared.scan.Tag.the-variants as tag-is
 use Rattle.nodes.proofs.LawsScan.{looks-close, looks-comment, looks-start, looks-text}
-use Rattle.nodes.proofs.LawsSkip.{clash, place, Lies, lies, opens-at, bare-at, no-tag}
+use Rattle.nodes.proofs.LawsSkip.{place, Lies, lies, opens-at, bare-at, no-tag}
 
 module _ (text : List ℕ) (at : ℕ) {words : Bool} {r : ℕ} where
   pub gap-words : words ≡ true → r ≡ length text - length (to-tag (drop at text)) → r ≡ length text - length (past-gap words (drop at text))

@@ -6,6 +6,7 @@ use native.Mathlib.Omega.{arith}
 use mathlib.Core.Bool.{Bool, true, false}
 use borrow.Author.Needs.{needs}
 use lib.ListN.{length, drop, length-drop}
+use Rattle.lists.specs.Booleans.{clash}
 use Rattle.grammar.specs.Read.{Read, fail, got, bind, byte, ok-got}
 use Rattle.grammar.specs.Parser.{name-at, gap-at, equals-at, value-at, ends, closing, same}
 use Rattle.tokens.specs.Step.{stepped, at-end, fell, Went, went}
@@ -31,7 +32,7 @@ fail-each fail f g k e = refl
 fail-each (got a r) f g k e = k a r e
 
 no-pure : {A B : Type 0} {a : A} {b : B} {r : List ℕ} → got a r ≡ fail → got b r ≡ fail
-no-pure e = let z : _≡_ {A = ℕ} 0 1 = cc in absurd (omega arith)
+no-pure e = clash (cc)
 
 missed : (s : List ℕ) → tokens-keys.key-at s ≡ fail → key-at s ≡ fail
 unfolding tokens-keys.key-at key-at

@@ -5,6 +5,7 @@ use Prim.Native.Nat.{ℕ, _-_, _<_}
 use native.Mathlib.Omega.{arith}
 use borrow.Author.Needs.{needs}
 use lib.ListN.{length, drop, length-drop}
+use Rattle.lists.specs.Booleans.{clash}
 use Rattle.grammar.specs.Read.{Read, fail, got, ok-got}
 use Rattle.grammar.specs.Parser.{comment-at, Look, at-close, at-comment, at-element, at-text, look}
 use Rattle.grammar.specs.Sound.{comment-sound}
@@ -107,7 +108,7 @@ module _ (text : List ℕ) {x : Step} (k : x ≡ stepped (length text) (prologue
   root-there {j} z = go (prologue-at text) (sym k ∙ z)
     where
       go : (m : Read (List (List ℕ))) → stepped (length text) m ≡ To j → Child j ≡ root-by (length text) m
-      go fail e = let z : _≡_ {A = ℕ} 0 1 = cc in absurd (omega arith)
+      go fail e = clash (cc)
       go (got u r) e = let q : length text - length r ≡ j = cc in cc
 
 pub ruleset rooting = (root-none, root-there, needs)

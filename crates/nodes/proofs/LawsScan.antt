@@ -10,7 +10,7 @@ use lib.Dec.{eqb}
 use borrow.Author.Needs.{needs}
 use borrow.Author.Tests.{eq-eqb, ne-eqb, eqb-false, not-true, not-false}
 use lib.ListN.{length, drop, getD, length-drop}
-use Rattle.grammar.specs.Facts.{and-left, and-right}
+use Rattle.lists.specs.Booleans.{and-left, and-right, and-true, and-assoc, clash}
 use Rattle.grammar.specs.Bytes.{quote}
 use Rattle.grammar.specs.Read.{got, bind, mark, test}
 use Rattle.grammar.specs.Parser.{closing, Look, at-close, at-comment, at-element, at-text, look}
@@ -30,9 +30,6 @@ pub front-look : (l : Look) (f : Front) → f ≡ front l → {k : Look} → f �
 unfolding front
 front-look l f e {k} q = same l k (sym e ∙ q)
   where
-    clash : {A : Type 0} → _≡_ {A = ℕ} 0 1 → A
-    clash z = absurd (omega arith)
-
     same : (l k : Look) → front l ≡ front k → l ≡ k
     same at-close at-close q = refl
     same at-close at-comment q = clash (cc)
@@ -112,14 +109,6 @@ pub record Blocking (text : List ℕ) (b at k : ℕ) (free : Bool) : Type 0 wher
   pub within : k ≤ 16
   pub inside : at + 16 ≤ length text
   pub same-block : lacks b 16 (drop at text) ≡ (free && lacks b (16 - k) (drop (at + k) text))
-
-and-true : (b : Bool) → (b && true) ≡ b
-and-true true = refl
-and-true false = refl
-
-and-assoc : (a b c : Bool) → (a && (b && c)) ≡ ((a && b) && c)
-and-assoc true b c = refl
-and-assoc false b c = refl
 
 pub block-start : {text : List ℕ} (b : ℕ) {at : ℕ} → at + 16 ≤ length text → Blocking text b at 0 true
 block-start {text} b {at} h = record { within = omega arith; inside = h; same-block = let e : at + 0 ≡ at = omega arith in rw e }

@@ -6,6 +6,7 @@ use native.Mathlib.Omega.{arith}
 use mathlib.Core.Bool.{Bool, true, false}
 use borrow.Author.Needs.{needs}
 use lib.ListN.{length, drop, length-drop}
+use Rattle.lists.specs.Booleans.{clash}
 use Rattle.grammar.specs.Read.{Read, fail, got, bind, Ok, good, ok-got}
 use Rattle.grammar.specs.Parser.{comment-at, Look, at-close, at-comment, at-element, at-text, look}
 use Rattle.grammar.specs.Sound.{comment-sound}
@@ -24,9 +25,6 @@ use Rattle.nodes.specs.declared.scan.Tag.the-variants as tag-is
 use Rattle.nodes.specs.declared.scan.Sign.{Sign}
 use Rattle.nodes.specs.declared.scan.Sign.the-variants as sign-is
 use Rattle.nodes.proofs.LawsScan.{looks-close, looks-comment, looks-start, looks-text}
-
-pub clash : {A : Type 0} → _≡_ {A = ℕ} 0 1 → A
-clash z = absurd (omega arith)
 
 pub place : (text : List ℕ) (k : ℕ) → k ≤ length text → length text - length (drop k text) ≡ k
 place text k h = simp length-drop (omega arith)

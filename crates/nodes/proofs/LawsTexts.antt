@@ -7,6 +7,7 @@ use mathlib.Core.Bool.{Bool, true, false, not, _&&_}
 use borrow.Author.Needs.{needs}
 use borrow.Author.Tests.{ne-eqb, not-true, not-false}
 use lib.ListN.{length, drop, getD, length-drop}
+use Rattle.lists.specs.Booleans.{clash}
 use Rattle.grammar.specs.Bytes.{blank}
 use Rattle.grammar.specs.Read.{Read, fail, got, before, Ok, good}
 use Rattle.grammar.specs.Parser.{reference-at, comment-at, Look, at-close, at-comment, at-element, at-text, look}
@@ -36,9 +37,6 @@ use Rattle.nodes.specs.declared.scan.Tag.{Tag}
 use Rattle.nodes.specs.declared.scan.Tag.the-variants as tag-is
 use Rattle.nodes.proofs.LawsScan.{looks-close, looks-comment, looks-start, looks-text}
 use Rattle.nodes.proofs.LawsSkip.{opens-at, bare-at, no-tag, lies}
-
-clash : {A : Type 0} → _≡_ {A = ℕ} 0 1 → A
-clash z = absurd (omega arith)
 
 -- WHERE CONTENTS BEGIN
 module _ (text : List ℕ) (at : ℕ) {x : Tag} (k : x ≡ tagged (length text) (tag-at (drop at text))) where

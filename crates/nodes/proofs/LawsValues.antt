@@ -8,6 +8,7 @@ use lib.Dec.{eqb}
 use borrow.Author.Needs.{needs}
 use borrow.Author.Tests.{eq-eqb, ne-eqb}
 use lib.ListN.{length, drop, getD, length-drop}
+use Rattle.lists.specs.Booleans.{clash}
 use Rattle.grammar.specs.Bytes.{blank}
 use Rattle.grammar.specs.Read.{Read, fail, got}
 use Rattle.grammar.specs.Parser.{reference-at, same}
@@ -24,9 +25,6 @@ use Rattle.nodes.specs.declared.Found.{Found}
 use Rattle.nodes.specs.declared.Found.the-variants.{At, Nothing}
 use Rattle.nodes.specs.declared.Char.{Char}
 use Rattle.nodes.specs.declared.Char.the-variants.{Byte, End}
-
-clash : {A : Type 0} → _≡_ {A = ℕ} 0 1 → A
-clash z = absurd (omega arith)
 
 else-byte : (n : ℕ) (m : Read (List ℕ)) (x : Next) {d j : ℕ} → referred n m ≡ reference-is.Is d j → Byte d j ≡ as-char n (or-else m x)
 unfolding referred as-char or-else

@@ -5,23 +5,16 @@ use Prim.Native.Nat.{ℕ, zero, suc, _≤_, _<_}
 use native.Mathlib.Omega.{arith}
 use mathlib.Core.Bool.{not}
 use lib.ListN.{length, length-append}
+use Rattle.lists.specs.Booleans.{clash}
 use Rattle.grammar.specs.Bytes.{ascii, blank, begins}
 use Rattle.grammar.specs.Document.{Contents}
 use Rattle.grammar.specs.Read.{Read, fail, got, Reader, bind, seen, alt, Ok, failed, good, mark-sound, span-sound, test-sound}
 use Rattle.grammar.specs.Parser.{Look, at-close, at-comment, at-element, at-text, look, comment-at, empty-at, full-at, element-at, contents-by}
-use Rattle.grammar.specs.Sound.{name-sound, attributes-sound, comment-sound, text-sound, element-sound, contents-sound}
+use Rattle.grammar.specs.Sound.{name-sound, attributes-sound, comment-sound, text-sound}
 use Rattle.grammar.specs.Tokens.{text-long}
-use Rattle.grammar.specs.Complete.{comment-long, element-long}
+use Rattle.grammar.specs.Complete.{comment-long}
 use Rattle.grammar.specs.Unfuelled.{less, contents, contents-step}
-use Rattle.tokens.specs.Step.{Tails, tails}
-
-pub element-tails : (d : ℕ) (s : List ℕ) → Ok (Tails s) (element-at contents d s)
-unfolding contents
-element-tails d s = tails (element-sound contents (λ d s. contents-sound (suc (length s)) d s) d s)
-
-pub element-eats : (d : ℕ) (s : List ℕ) → Ok (λ _ r. length r < length s) (element-at contents d s)
-unfolding contents
-element-eats d s = less (λ e w h. element-long h) (element-sound contents (λ d s. contents-sound (suc (length s)) d s) d s)
+pub use Rattle.markup.specs.Row.{element-tails, element-eats}
 
 pub comment-eats : (s : List ℕ) → Ok (λ _ r. length r < length s) (comment-at s)
 comment-eats s = less (λ _ w h. comment-long h) (comment-sound s)
@@ -89,7 +82,7 @@ contents-below zero d e s h k = absurd (omega arith)
 contents-below (suc n) d e s h k = rw (contents-step d s, contents-step e s) (by-below n (contents-below n) d e (look s) s (omega arith) k)
 
 below-got : {A : Type 0} {m n : Read A} {a : A} {r : List ℕ} → Below m n → m ≡ got a r → n ≡ got a r
-below-got fails e = let z : _≡_ {A = ℕ} 0 1 = cc in absurd (omega arith)
+below-got fails e = clash (cc)
 below-got equal e = e
 
 pub contents-deeper : (d : ℕ) (s : List ℕ) {c : Contents} {r : List ℕ} → d ≤ 16 → contents d s ≡ got c r → contents 16 s ≡ got c r

@@ -9,8 +9,8 @@ use mathlib.Core.Bool.{Bool, true, false, _&&_, _||_, not, cond}
 use lib.ListN.{length, drop}
 use lib.Dec.{eqb, leb}
 use borrow.Author.Tests.{not-true, eqb-true, eq-eqb, ne-eqb}
+use Rattle.lists.specs.Booleans.{and-left, and-right, both-ways}
 use Rattle.grammar.specs.Document.{Attribute, attribute}
-use Rattle.grammar.specs.Facts.{and-left, and-right}
 use Rattle.grammar.specs.Look.{attributesOf}
 use Rattle.grammar.specs.Read.{got, test, all-of, ok-got, test-sound}
 use Rattle.grammar.specs.Parser.{same, absent, distinct, attributes-at, attribute-at, ends, closing}
@@ -46,9 +46,6 @@ same-is (a ∷ n) (b ∷ m) e =
     let x = eqb-true a b (and-left (eqb a b) (same n m) e) in
     let y = same-is n m (and-right (eqb a b) (same n m) e) in cc
 
-clash : {A : Type 0} {t : Bool} → t ≡ true → t ≡ false → A
-clash e f = let z : _≡_ {A = ℕ} 0 1 = cc in absurd (omega arith)
-
 -- a name that is absent is the name of none
 none-called : (w : List ℕ) (l : List Attribute) → absent w l ≡ true → count (called w) l ≡ 0
 unfolding absent count called
@@ -60,7 +57,7 @@ none-called w (attribute n v ∷ l) e =
     go true q ih =
         let x : n ≡ w = same-is n w q in
         let y : same w n ≡ true = ap (same w) x ∙ same-refl w in
-        clash y (not-true (same w n) (and-left (not (same w n)) (absent w l) e))
+        both-ways y (not-true (same w n) (and-left (not (same w n)) (absent w l) e))
     go false q ih = omega (arith, ih)
 
 -- where names are distinct, one attribute at most has the name
@@ -95,7 +92,7 @@ unfolding called-one called any
 split-one w ws (attribute n v) e = go (same n w) refl (any (λ u. same n u) ws) refl
   where
     go : (t : Bool) → same n w ≡ t → (u : Bool) → any (λ u. same n u) ws ≡ u → cond (t || u) 1 0 ≡ cond t 1 0 + cond u 1 0
-    go true q true r = clash r (no-later w n ws e q)
+    go true q true r = both-ways r (no-later w n ws e q)
     go true q false r = refl
     go false q true r = refl
     go false q false r = refl
@@ -132,7 +129,7 @@ eqb-more a b = go (eqb a b) refl
   where
     go : (t : Bool) → eqb a b ≡ t → t ≡ eqb (1 + a) (suc b)
     go true q = let e = eqb-true a b q in sym (eq-eqb (1 + a) (suc b) (omega arith))
-    go false q = sym (ne-eqb (1 + a) (suc b) λ e. let s : a ≡ b = omega arith in clash (eq-eqb a b s) q)
+    go false q = sym (ne-eqb (1 + a) (suc b) λ e. let s : a ≡ b = omega arith in both-ways (eq-eqb a b s) q)
 
 -- all pass exactly where as many pass as there are
 pub all-count : {A : Type 0} (p : A → Bool) (l : List A) → all p l ≡ eqb (count p l) (length l)

@@ -7,6 +7,7 @@ use mathlib.Core.Bool.{Bool, true, false, _&&_}
 use lib.Dec.{eqb}
 use borrow.Author.Tests.{ne-eqb}
 use lib.ListN.{length, drop}
+use Rattle.lists.specs.Booleans.{clash}
 use Rattle.lists.specs.Lists.{all}
 use Rattle.grammar.specs.Bytes.{blank, special, Each, no-byte, a-byte}
 use Rattle.grammar.specs.Facts.{blank-in}
@@ -31,9 +32,6 @@ use Rattle.nodes.specs.declared.Kid.{Kid}
 use Rattle.nodes.specs.declared.Kid.the-variants.{Child, Done}
 use Rattle.nodes.specs.declared.ahead.Ahead.{Ahead}
 use Rattle.nodes.specs.declared.ahead.Ahead.the-variants as ahead-is
-
-clash : {A : Type 0} → _≡_ {A = ℕ} 0 1 → A
-clash z = absurd (omega arith)
 
 -- of contents whose characters are blank or not, which are left so, and have this next child
 pub data Facing (text : List ℕ) (words blanks : Bool) (leaves : Read (Unit {0})) : Kid → Ahead → Type 0 where

@@ -9,6 +9,7 @@ pub mod Children
 pub mod Ahead
 pub mod Leaving
 pub mod Walk
+pub mod Along
 pub mod Names
 pub mod Attributes
 pub mod Exactly

@@ -6,6 +6,7 @@ use native.Mathlib.Omega.{arith}
 use mathlib.Core.Bool.{Bool, true, false, not, _&&_, _||_}
 use lib.Dec.{eqb}
 use borrow.Author.Tests.{eq-eqb, ne-eqb, not-true}
+use Rattle.lists.specs.Booleans.{or-elim, and-right, or-left, clash, not-so}
 use Rattle.grammar.specs.Bytes.{blank, letter, nameStart, nameByte, quote, special, Each, no-byte, a-byte, Sequence, no-more, one-more}
 use Rattle.grammar.specs.Characters.{Character, utf8-1, utf8-2, utf8-3, utf8-4, continues, lead3, lead4}
 use Rattle.grammar.specs.Document.{Attribute}
@@ -13,7 +14,7 @@ use Rattle.grammar.specs.Grammar
 use Rattle.grammar.specs.Grammar.{Name, Gap, gap, Equals, equals, Reference, TextCharacter, ValueCharacter, Value, value, WritesAttribute, written, Attributes}
 use Rattle.grammar.specs.Read.{got}
 use Rattle.grammar.specs.Parser.{closing}
-use Rattle.grammar.specs.Facts.{or-elim, and-right, or-left, blank-in, quote-in, nameStart-in, nameByte-in, within}
+use Rattle.grammar.specs.Facts.{blank-in, quote-in, nameStart-in, nameByte-in, within}
 use Rattle.grammar.specs.Bytes.{between}
 use Rattle.nodes.specs.Places.{pick}
 use Rattle.nodes.specs.Scan.{to-tag, past-tag, quoting, finishes, finish, tag-from}
@@ -45,9 +46,6 @@ other q a = not (eqb a q)
 is-other : (q a : ℕ) → (a ≡ q → ⊥) → other q a ≡ true
 unfolding other
 is-other q a f = rw (ne-eqb a q f)
-
-not-so : {t : Bool} → t ≡ false → not t ≡ true
-not-so e = rw e
 
 each-map : {p q : ℕ → Bool} {w : List ℕ} → ((a : ℕ) → p a ≡ true → q a ≡ true) → Each p w → Each q w
 each-map f no-byte = no-byte
@@ -131,7 +129,7 @@ unfolding calm closing quote
 is-calm a f g h k = rw (ne-eqb a 62 f, ne-eqb a 47 g, ne-eqb a 34 h, ne-eqb a 39 k)
 
 impossible : true ≡ false → ⊥
-impossible e = let z : _≡_ {A = ℕ} 0 1 = cc in omega arith
+impossible e = clash (cc)
 
 no-name-end : nameByte 62 ≡ true → ⊥
 unfolding nameByte letter

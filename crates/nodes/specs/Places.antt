@@ -8,6 +8,7 @@ use lib.Dec.{leb}
 use borrow.Author.Tests.{leb-true, leb-false}
 use lib.ListN.{length, drop, length-append, length-drop, drop-of-length-le}
 use lib.Seq.{drop-drop, drop-append-seam, drop-length}
+use Rattle.lists.specs.Booleans.{clash}
 use Rattle.grammar.specs.Document.{Element, element, nothing}
 use Rattle.grammar.specs.Read.{Read, fail, got, Reader, bind, Ok, ok-got}
 use Rattle.grammar.specs.Parser.{element-at}
@@ -54,7 +55,7 @@ pub record Bound {A B : Type 0} (m : Read A) (f : A → List ℕ → Read B) (b 
 
 pub unbind : {A B : Type 0} (m : Read A) (f : A → List ℕ → Read B) {b : B} {r : List ℕ} → bind m f ≡ got b r → Bound m f b r
 unfolding bind
-unbind fail f e = let z : _≡_ {A = ℕ} 0 1 = cc in absurd (omega arith)
+unbind fail f e = clash (cc)
 unbind (got a r₁) f e = record { value = a; rest = r₁; reads = refl; then = e }
 
 -- the end of a text
@@ -91,8 +92,3 @@ tail-more {text} {s} w r e t =
 
 pub tail-read : {A : Type 0} {text s r : List ℕ} {m : Read A} {a : A} → Ok (Tails s) m → m ≡ got a r → Tail text s → Tail text r
 tail-read {text = text} {s} {r} {m} {a} h e t = let k = ok-got (rw e at h) in tail-more (k .0) r (k .1) t
-
--- a part of a text
-pub record Span (text : List ℕ) (a e : ℕ) : Type 0 where
-  pub ahead : a ≤ e
-  pub inside : e ≤ length text

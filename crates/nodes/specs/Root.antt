@@ -5,6 +5,7 @@ use mathlib.Core.Option.{some}
 use Prim.Native.Nat.{ℕ, _-_, _<_}
 use native.Mathlib.Omega.{arith}
 use lib.ListN.{length, drop}
+use Rattle.lists.specs.Booleans.{clash}
 use Rattle.grammar.specs.Document.{Element}
 use Rattle.grammar.specs.Read.{Read, fail, got, bind, all-of}
 use Rattle.grammar.specs.Parser.{declaration-at, no-aside, aside-at, element-at, contents-at, document-at, end-at, answer, parse}
@@ -35,7 +36,7 @@ whole-tail text = let z : length text - length text ≡ 0 = omega arith in recor
 
 answered : (m : Read Element) (e : Element) → answer m ≡ some e → (r : List ℕ) × (m ≡ got e r)
 unfolding answer
-answered fail e h = let z : _≡_ {A = ℕ} 0 1 = cc in absurd (omega arith)
+answered fail e h = clash (cc)
 answered (got x r) e h = (r, let q : x ≡ e = cc in ap (λ x. got x r) q)
 
 rooted-at : (text s₂ s₃ : List ℕ) (e : Element) (bs : List (List ℕ)) → prologue-at text ≡ got bs s₂ → Tail text s₂ → element₁₆ s₂ ≡ got e s₃ → Rooted text e

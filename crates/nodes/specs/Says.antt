@@ -7,6 +7,7 @@ use mathlib.Core.Bool.{false}
 use lib.Dec.{eqb}
 use borrow.Author.Tests.{ne-eqb}
 use lib.ListN.{length}
+use Rattle.lists.specs.Booleans.{or-right, or-left}
 use Rattle.grammar.specs.Bytes.{special}
 use Rattle.grammar.specs.Characters.{Character, utf8-1, utf8-2, utf8-3, utf8-4}
 use Rattle.grammar.specs.Document.{Element, Contents, nothing, child, run, joined}
@@ -17,7 +18,6 @@ use Rattle.grammar.specs.Read.{Read, fail, got, Ok, good}
 use Rattle.grammar.specs.Parser.{reference-at, comment-at, Look, at-close, at-comment, at-element, at-text, look, look-if}
 use Rattle.grammar.specs.Sound.{reference-sound}
 use Rattle.grammar.specs.Tokens.{reference-complete, reference-other, reference-ampersand, Ampersand, ampersand}
-use Rattle.grammar.specs.Facts.{or-right, or-left}
 use Rattle.grammar.specs.Unfuelled.{less, contents}
 use Rattle.tokens.specs.Leaves.{first-byte}
 use Rattle.nodes.specs.Places.{element₁₆}

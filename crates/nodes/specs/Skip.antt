@@ -6,6 +6,7 @@ use native.Mathlib.Omega.{arith}
 use mathlib.Core.Bool.{Bool, true, false}
 use lib.Dec.{eqb}
 use lib.ListN.{length, length-append}
+use Rattle.lists.specs.Booleans.{clash}
 use Rattle.grammar.specs.Bytes.{ascii, blank}
 use Rattle.grammar.specs.Document.{Attribute, Element, Contents}
 use Rattle.grammar.specs.Read.{Read, got, bind, mark, span, ok-got, mark-sound, span-sound, test}
@@ -30,13 +31,13 @@ tag-here (a ∷ s) l e f = go (eqb a 60) e
     go false q = absurd (f (sym q))
 
 pub no-text : {l : Look} → l ≡ at-close → l ≡ at-text → ⊥
-no-text e f = let z : _≡_ {A = ℕ} 0 1 = cc in omega arith
+no-text e f = clash (cc)
 
 pub no-text-comment : {l : Look} → l ≡ at-comment → l ≡ at-text → ⊥
-no-text-comment e f = let z : _≡_ {A = ℕ} 0 1 = cc in omega arith
+no-text-comment e f = clash (cc)
 
 pub no-text-element : {l : Look} → l ≡ at-element → l ≡ at-text → ⊥
-no-text-element e f = let z : _≡_ {A = ℕ} 0 1 = cc in omega arith
+no-text-element e f = clash (cc)
 
 -- the tag of an element
 pub tag-read : {s : List ℕ} {e : Element} {r : List ℕ} (p : Spelled s e r) → tag-at s ≡ tag-from 0 (p .behind-blanks)

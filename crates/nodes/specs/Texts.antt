@@ -5,6 +5,7 @@ use Prim.Native.Nat.{ℕ, _+_, _-_, _≤_, _<_}
 use native.Mathlib.Omega.{arith}
 use mathlib.Core.Bool.{Bool, true, false}
 use lib.ListN.{length, drop, length-drop}
+use Rattle.lists.specs.Booleans.{clash}
 use Rattle.grammar.specs.Document.{Attribute, Element}
 use Rattle.grammar.specs.Look.{contentsOf, characters, textOf}
 use Rattle.grammar.specs.Read.{Read, fail, got, Ok, good}
@@ -105,24 +106,24 @@ steps-by text i front r j p t s e =
 
 letter-law : (text : List ℕ) (i : ℕ) (x : Move) → step (drop i text) ≡ x → Tailed text x → Shorter (drop i text) x → {b j : ℕ} → as-text (length text) x ≡ Letter b j → Steps text i (b ∷ []) j
 unfolding as-text say
-letter-law text i stop e t s h = let z : _≡_ {A = ℕ} 0 1 = cc in absurd (omega arith)
-letter-law text i (skip r) e t s h = let z : _≡_ {A = ℕ} 0 1 = cc in absurd (omega arith)
+letter-law text i stop e t s h = clash (cc)
+letter-law text i (skip r) e t s h = clash (cc)
 letter-law text i (char c r) e (char-tailed t) (char-short s) {b} {j} h =
     let w : c ≡ b = cc in
     steps-by text i (b ∷ []) r j (cc) t s (rw (says-step (drop i text), e, w))
 
 skip-law : (text : List ℕ) (i : ℕ) (x : Move) → step (drop i text) ≡ x → Tailed text x → Shorter (drop i text) x → {j : ℕ} → as-text (length text) x ≡ Skip j → Steps text i [] j
 unfolding as-text say
-skip-law text i stop e t s h = let z : _≡_ {A = ℕ} 0 1 = cc in absurd (omega arith)
-skip-law text i (char c r) e t s h = let z : _≡_ {A = ℕ} 0 1 = cc in absurd (omega arith)
+skip-law text i stop e t s h = clash (cc)
+skip-law text i (char c r) e t s h = clash (cc)
 skip-law text i (skip r) e (skip-tailed t) (skip-short s) {j} h =
     steps-by text i [] r j (cc) t s (rw (says-step (drop i text), e))
 
 stop-law : (s : List ℕ) (n : ℕ) (x : Move) → step s ≡ x → as-text n x ≡ Stop → says s ≡ []
 unfolding as-text say
 stop-law s n stop e h = rw (says-step s, e)
-stop-law s n (skip r) e h = let z : _≡_ {A = ℕ} 0 1 = cc in absurd (omega arith)
-stop-law s n (char b r) e h = let z : _≡_ {A = ℕ} 0 1 = cc in absurd (omega arith)
+stop-law s n (skip r) e h = clash (cc)
+stop-law s n (char b r) e h = clash (cc)
 
 module _ (text : List ℕ) (i : ℕ) {a : Text} (e : a ≡ text-step text i) where
   pub text-letter : {b j : ℕ} → a ≡ Letter b j → Steps text i (b ∷ []) j

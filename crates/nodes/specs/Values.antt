@@ -7,6 +7,7 @@ use mathlib.Core.Bool.{Bool, true, false}
 use lib.Dec.{eqb}
 use borrow.Author.Tests.{ne-eqb}
 use lib.ListN.{length, drop, getD, length-drop}
+use Rattle.lists.specs.Booleans.{and-left, or-right, clash}
 use Rattle.grammar.specs.Bytes.{blank, quote, special, begins}
 use Rattle.grammar.specs.Characters.{Character, utf8-1, utf8-2, utf8-3, utf8-4}
 use Rattle.grammar.specs.Document.{together}
@@ -17,7 +18,7 @@ use Rattle.grammar.specs.Parser.{reference-at, value-character-at, value-at}
 use Rattle.grammar.specs.Sound.{reference-sound, value-character-sound}
 use Rattle.grammar.specs.Tokens.{reference-complete, reference-other, reference-ampersand, Ampersand, ampersand, value-character-long, high-no-blank}
 use lib.Seq.{drop-drop, getD-drop}
-use Rattle.grammar.specs.Facts.{and-left, or-right, blank-in, quote-in}
+use Rattle.grammar.specs.Facts.{blank-in, quote-in}
 use Rattle.grammar.specs.Unfuelled.{less, all-of-step}
 use Rattle.tokens.specs.Step.{Tails}
 use Rattle.tokens.specs.Leaves.{first-byte, reference-tails}
@@ -160,7 +161,7 @@ values-more q s e = rw (values-step q s, e)
 
 ended : (q : ℕ) (s : List ℕ) → begins (q ∷ []) s ≡ true → tells q s ≡ []
 unfolding begins next-byte tell
-ended q [] e = let z : _≡_ {A = ℕ} 0 1 = cc in absurd (omega arith)
+ended q [] e = clash (cc)
 ended q (a ∷ s) e = rw (tells-step q (a ∷ s), and-left (eqb a q) _ e)
 
 one-character : (q : ℕ) → quote q ≡ true → (s b r : List ℕ) → value-character-at q s ≡ got b r → tells q s ≡ b ++ tells q r
@@ -241,7 +242,7 @@ pub record Decodes (text : List ℕ) (q i b j : ℕ) : Type 0 where
 
 char-law : (text : List ℕ) (q i : ℕ) (n : Next) → next-byte q (drop i text) ≡ n → Tailed text n → Shorter (drop i text) n → {b j : ℕ} → as-char (length text) n ≡ Byte b j → Decodes text q i b j
 unfolding as-char tell
-char-law text q i no-byte e t s h = let z : _≡_ {A = ℕ} 0 1 = cc in absurd (omega arith)
+char-law text q i no-byte e t s h = clash (cc)
 char-law text q i (a-byte c r) e (one-tailed t) (one-short s) {b} {j} h =
     let p : j ≡ length text - length r = cc in
     let w : c ≡ b = cc in
@@ -260,7 +261,7 @@ decoded-byte text q i e z = char-law text q i (next-byte q (drop i text)) refl (
 end-law : (q : ℕ) (s : List ℕ) (k : ℕ) (n : Next) → next-byte q s ≡ n → as-char k n ≡ End → tells q s ≡ []
 unfolding as-char tell
 end-law q s k no-byte e h = rw (tells-step q s, e)
-end-law q s k (a-byte b r) e h = let z : _≡_ {A = ℕ} 0 1 = cc in absurd (omega arith)
+end-law q s k (a-byte b r) e h = clash (cc)
 
 pub decoded-end : (text : List ℕ) (q i : ℕ) {c : Char} → c ≡ decoded-at text i q → c ≡ End → tells q (drop i text) ≡ []
 unfolding decoded-at

@@ -12,7 +12,7 @@ pub fn name_is(text: &[u8], at: usize, word: &[u8]) -> bool
     if text.len() <= at {
         return false;
     }
-    if text[at] != 60 {
+    if text[at] != b'<' {
         return false;
     }
     match name_end(text, at + 1) {

@@ -61,9 +61,9 @@ fn past_blocks(text: &[u8], at: usize, sign: u8) -> usize
 pub fn to_tag(text: &[u8], at: usize) -> usize
     ensures { λ r. ⌜ r ≡ length (now (text .entry)) - length (to-tag (drop at (now (text .entry)))) ⌝ }
 {
-    let mut i = past_blocks(text, at, 60);
+    let mut i = past_blocks(text, at, b'<');
     while i < text.len() {
-        if text[i] == 60 {
+        if text[i] == b'<' {
             return i;
         }
         i += 1;
@@ -77,7 +77,7 @@ pub fn past_tag(text: &[u8], at: usize) -> Step
 {
     let mut i = at;
     while i < text.len() {
-        if text[i] == 62 {
+        if text[i] == b'>' {
             return Step::To(i + 1);
         }
         i += 1;
@@ -104,7 +104,7 @@ fn quoted(q: u8, b: u8) -> u8
 fn ends_tag(q: u8, b: u8) -> bool
     ensures { λ r. ⌜ r ≡ finishes q b ⌝ }
 {
-    (q == 0) & ((b == 62) | (b == 47))
+    (q == 0) & ((b == b'>') | (b == b'/'))
 }
 
 // Behind a tag that ends with the byte at `at`.
@@ -112,13 +112,13 @@ fn finish_at(text: &[u8], at: usize) -> Tag
     requires { ⌜ at < length (now text) ⌝ }
     ensures { λ r. ⌜ r ≡ tagged (length (now (text .entry))) (finish (getD (now (text .entry)) at 0) (drop (at + 1) (now (text .entry)))) ⌝ }
 {
-    if text[at] == 62 {
+    if text[at] == b'>' {
         return Tag::Open(at + 1);
     }
     if text.len() <= at + 1 {
         return Tag::No;
     }
-    if text[at + 1] == 62 {
+    if text[at + 1] == b'>' {
         return Tag::Bare(at + 2);
     }
     Tag::No

@@ -37,13 +37,13 @@ fn letter_at(text: &[u8], at: usize) -> Text
         return Text::Stop;
     }
     let b = text[at];
-    if b == 38 {
+    if b == b'&' {
         match reference_at(text, at) {
             Reference::Is(c, j) => {
                 return Text::Letter(c, j);
             }
             Reference::No => {
-                return Text::Letter(38, at + 1);
+                return Text::Letter(b'&', at + 1);
             }
         }
     }

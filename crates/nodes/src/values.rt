@@ -21,18 +21,18 @@ pub fn decoded(text: &[u8], at: usize, quote: u8) -> Char
     if b == quote {
         return Char::End;
     }
-    if b == 38 {
+    if b == b'&' {
         match reference_at(text, at) {
             Reference::Is(c, j) => {
                 return Char::Byte(c, j);
             }
             Reference::No => {
-                return Char::Byte(38, at + 1);
+                return Char::Byte(b'&', at + 1);
             }
         }
     }
     if is_blank(b) {
-        return Char::Byte(32, at + 1);
+        return Char::Byte(b' ', at + 1);
     }
     Char::Byte(b, at + 1)
 }

@@ -8,8 +8,8 @@ use borrow.Author.Needs.{needs}
 use borrow.Author.Tests.{le-leb, lt-leb}
 use lib.Dec.{leb}
 use lib.ListN.{length, getD}
+use Rattle.lists.specs.Booleans.{and-left, and-right}
 use Rattle.grammar.specs.Bytes.{between}
-use Rattle.grammar.specs.Facts.{and-left, and-right}
 use Rattle.grammar.specs.Look.{Word}
 use Rattle.lists.specs.Lists.{all, each, count}
 use Rattle.nodes.specs.Values.{value-there}

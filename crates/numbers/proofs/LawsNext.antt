@@ -8,8 +8,9 @@ use borrow.Author.Needs.{needs}
 use borrow.Author.Tests.{eq-eqb, ne-eqb, eqb-false, not-true, not-false}
 use lib.Dec.{eqb}
 use lib.ListN.{length, getD}
+use Rattle.lists.specs.Booleans.{and-left, clash}
 use Rattle.grammar.specs.Bytes.{blank, special}
-use Rattle.grammar.specs.Facts.{blank-in, and-left}
+use Rattle.grammar.specs.Facts.{blank-in}
 use Rattle.lists.specs.Lists.{all}
 use Rattle.grammar.specs.Look.{Word}
 use Rattle.nodes.specs.declared.Char.{Char}
@@ -226,7 +227,7 @@ module _ {text : List ℕ} {at value next : ℕ} (b : Begun text at value next) 
     slow-bad e q = sym (go (stream Contents text (run .next)) refl (sym e ∙ q))
       where
         go : (w : Word) → stream Contents text (run .next) ≡ w → wordEnds w ≡ false → nextNumber text at ≡ Bad
-        go [] k h = let z : _≡_ {A = ℕ} 0 1 = cc in absurd (omega arith)
+        go [] k h = clash (cc)
         go (c ∷ x) k h = next-bad text at er k h
 
     module _ (z : run .count ≡ 0) {c : Char} (ec : c ≡ letterAt text (run .next)) where

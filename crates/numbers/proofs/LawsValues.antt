@@ -8,8 +8,8 @@ use borrow.Author.Needs.{needs}
 use borrow.Author.Tests.{eq-eqb, ne-eqb, le-leb, lt-leb}
 use lib.Dec.{eqb, leb}
 use lib.ListN.{length, drop, getD, drop-of-length-le}
+use Rattle.lists.specs.Booleans.{clash}
 use Rattle.grammar.specs.Bytes.{between}
-use Rattle.grammar.specs.Facts.{and-left, and-right}
 use Rattle.grammar.specs.Look.{Word}
 use Rattle.lists.specs.Lists.{all, each, count}
 use Rattle.nodes.specs.Values.{value-there, value-begins, tells, tells-none}
@@ -20,7 +20,7 @@ use Rattle.numbers.specs.Cuts.{Parts, parts-some}
 use Rattle.numbers.specs.Stream.{charAt, stream}
 use Rattle.numbers.specs.StreamLaws.{Moves, char-byte, char-end}
 use Rattle.numbers.specs.Parted.{numeral, Parted, part-comma, part-last, part-no}
-use Rattle.numbers.specs.Forms.{one-zero, parts-one, numeral-two, numeral-first, numeral-below, numeral-single}
+use Rattle.numbers.specs.Forms.{parts-one, numeral-two, numeral-first, numeral-below, numeral-single}
 use Rattle.numbers.specs.Answers.{wholeIn, listedIn, betweenIn, lengthsOf, threeIn, exponentFrom, exponentIn, signIf}
 use Rattle.numbers.specs.declared.Source.{Source}
 use Rattle.numbers.specs.declared.Source.the-variants.{Value, Contents}
@@ -66,17 +66,17 @@ module _ {source : Source} {text : List ℕ} {most lo hi at : ℕ} where
       let v : value x ≡ n = cc in
       let w : k ≡ j = cc in
       record { word = x; valued = v; right = f; are = rw w at e; ahead = omega arith; inside = omega arith }
-  says-comma (part-last x f e) {n} {j} q = one-zero (CommaSays source text most lo hi at n j) (cc)
-  says-comma (part-no x l f e) {n} {j} q = one-zero (CommaSays source text most lo hi at n j) (cc)
+  says-comma (part-last x f e) {n} {j} q = clash (cc)
+  says-comma (part-no x l f e) {n} {j} q = clash (cc)
 
   pub says-last : {r : Part} → Parted source text most lo hi at r → {n : ℕ} → r ≡ Last n → LastSays source text most lo hi at n
-  says-last (part-comma x f e a i) {n} q = one-zero (LastSays source text most lo hi at n) (cc)
+  says-last (part-comma x f e a i) {n} q = clash (cc)
   says-last (part-last x f e) {n} q = let v : value x ≡ n = cc in record { word = x; valued = v; right = f; are = e }
-  says-last (part-no x l f e) {n} q = one-zero (LastSays source text most lo hi at n) (cc)
+  says-last (part-no x l f e) {n} q = clash (cc)
 
   pub says-no : {r : Part} → Parted source text most lo hi at r → r ≡ No → NoSays source text most lo hi at
-  says-no (part-comma x f e a i) q = one-zero (NoSays source text most lo hi at) (cc)
-  says-no (part-last x f e) q = one-zero (NoSays source text most lo hi at) (cc)
+  says-no (part-comma x f e a i) q = clash (cc)
+  says-no (part-last x f e) q = clash (cc)
   says-no (part-no x l f e) q = record { word = x; others = l; wrong = f; are = e }
 
   -- the whole of it is a number if it is the last and right

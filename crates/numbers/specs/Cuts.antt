@@ -1,7 +1,7 @@
 -- Words cut into parts, as a reader that goes on byte by byte meets them; digits in a row.
 use mathlib.Core.Path.{_≡_, refl, sym, ap, _∙_}
 use mathlib.Core.List.{List, [], _∷_, _++_, append-assoc, append-nil}
-use mathlib.Core.Bool.{Bool, true, false, _&&_, _||_, not, cond, false≢true, true≢false, and-false, and-true}
+use mathlib.Core.Bool.{Bool, true, false, _||_, not, cond, false≢true, true≢false, and-false, and-true}
 use Prim.Native.Nat.{ℕ, zero, suc, _+_, _*_, _-_, _^_, _<_, _≤_}
 use native.Mathlib.Omega.{arith}
 use native.Mathlib.Nat.{pow-suc, pow-le-pow-right}
@@ -9,8 +9,10 @@ use native.Mathlib.Numerals.{add-one}
 use lib.Dec.{eqb, leb}
 use lib.ListN.{length, length-append}
 use borrow.Author.Tests.{le-leb, lt-leb, leb-true, leb-false, ne-eqb}
+pub use Rattle.lists.specs.Laws.{all-append}
+use Rattle.lists.specs.Booleans.{and-left, and-right}
 use Rattle.grammar.specs.Bytes.{blank, between}
-use Rattle.grammar.specs.Facts.{and-left, and-right, within, blank-in}
+use Rattle.grammar.specs.Facts.{within, blank-in}
 use Rattle.grammar.specs.Look.{Word}
 use Rattle.lists.specs.Lists.{all, those}
 use Rattle.numbers.specs.Numbers.{digit, digits, number, value, parts, onFirst, comma, point, filled, words}
@@ -108,15 +110,6 @@ digits-uncut f [] h = none
 digits-uncut f (a ∷ u) h = more (f a (and-left (digit a) _ h)) (digits-uncut f u (and-right (digit a) _ h))
 
 -- digits in a row: what they write
-pub all-append : (p : ℕ → Bool) (u v : Word) → all p (u ++ v) ≡ (all p u && all p v)
-unfolding all
-all-append p [] v = refl
-all-append p (a ∷ u) v = go (p a) (all-append p u v)
-  where
-    go : (x : Bool) → all p (u ++ v) ≡ (all p u && all p v) → (x && all p (u ++ v)) ≡ ((x && all p u) && all p v)
-    go true h = h
-    go false h = refl
-
 pub number-append : (n : ℕ) (u v : Word) → number n (u ++ v) ≡ number (number n u) v
 unfolding number
 number-append n [] v = refl

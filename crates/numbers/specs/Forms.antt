@@ -7,16 +7,13 @@ use native.Mathlib.Omega.{arith}
 use lib.Dec.{eqb, leb}
 use lib.ListN.{length}
 use borrow.Author.Tests.{le-leb, leb-true}
+use Rattle.lists.specs.Booleans.{and-left, refute, clash}
 use Rattle.grammar.specs.Bytes.{between}
-use Rattle.grammar.specs.Facts.{and-left, and-right, refute}
 use Rattle.grammar.specs.Look.{Word}
 use Rattle.lists.specs.Lists.{all}
 use Rattle.numbers.specs.Numbers.{digit, digits, value, parts, onFirst, comma}
 use Rattle.numbers.specs.Cuts.{Parts, parts-some, digit-no-comma, digits-split, value-below, powers}
 use Rattle.numbers.specs.Parted.{numeral}
-
-pub one-zero : (P : Type 0) → _≡_ {A = ℕ} 0 1 → P
-one-zero P e = absurd (omega arith)
 
 never-nothing : (p : ℕ → Bool) (w : Word) → parts p w ≡ [] → _≡_ {A = ℕ} 0 1
 never-nothing p w e = let k = parts-some p w in let q = k .are in cc
@@ -30,7 +27,7 @@ parts-one p (a ∷ w) x e = go (p a) refl (λ y f. parts-one p w y f)
     go : (t : Bool) → p a ≡ t → ((y : Word) → parts p w ≡ y ∷ [] → w ≡ y) → a ∷ w ≡ x
     go true h ih =
         let q : [] ∷ parts p w ≡ x ∷ [] = sym (rw h refl) ∙ e in
-        one-zero (a ∷ w ≡ x) (never-nothing p w (cc))
+        clash (never-nothing p w (cc))
     go false h ih =
         let k = parts-some p w in
         let q : (a ∷ k .first) ∷ k .others ≡ x ∷ [] = sym (rw (h, k .are) refl) ∙ e in
@@ -41,11 +38,11 @@ parts-one p (a ∷ w) x e = go (p a) refl (λ y f. parts-one p w y f)
 -- a word of two parts or more is not all digits
 pub parts-two : (p : ℕ → Bool) → ((a : ℕ) → digit a ≡ true → p a ≡ false) → (w x y : Word) (l : List Word) → parts p w ≡ x ∷ y ∷ l → all digit w ≡ false
 unfolding parts onFirst all
-parts-two p f [] x y l e = one-zero (all digit [] ≡ false) (cc)
+parts-two p f [] x y l e = clash (cc)
 parts-two p f (a ∷ w) x y l e = go (p a) refl (λ x₁ g. parts-two p f w x₁ y l g)
   where
     go : (t : Bool) → p a ≡ t → ((x₁ : Word) → parts p w ≡ x₁ ∷ y ∷ l → all digit w ≡ false) → (digit a && all digit w) ≡ false
-    go true h ih = let n : digit a ≡ false = refute (digit a) λ d. (let q = f a d in let z : _≡_ {A = ℕ} 0 1 = cc in omega arith) in rw n refl
+    go true h ih = let n : digit a ≡ false = refute (digit a) λ d. (let q = f a d in clash (cc)) in rw n refl
     go false h ih =
         let k = parts-some p w in
         let q : (a ∷ k .first) ∷ k .others ≡ x ∷ y ∷ l = sym (rw (h, k .are) refl) ∙ e in

@@ -8,8 +8,8 @@ use native.Mathlib.Numerals.{add-one}
 use lib.Dec.{eqb}
 use lib.ListN.{length, drop, getD, length-drop}
 use lib.Seq.{drop-cons}
+use Rattle.lists.specs.Booleans.{or-left, or-right, and-left}
 use Rattle.grammar.specs.Bytes.{blank, special}
-use Rattle.grammar.specs.Facts.{or-left, or-right, and-left}
 use Rattle.grammar.specs.Look.{Word}
 use Rattle.grammar.specs.Parser.{look, look-if}
 use Rattle.grammar.specs.Tokens.{reference-other}

@@ -1,21 +1,19 @@
 -- THE LIST POSITION NEVER RESTARTS: the n-th number that `next_number` hands out, from a place on, is the n-th of the list that is written from there on.
 use mathlib.Core.Path.{_≡_, refl, sym, ap, _∙_}
-use mathlib.Core.List.{List, [], _∷_}
-use mathlib.Core.Bool.{Bool, true, false, _&&_, cond, and-false}
+use mathlib.Core.List.{List}
+use mathlib.Core.Bool.{Bool, true, false, cond}
 use Prim.Native.Nat.{ℕ, zero, suc, _+_, _≤_, _<_}
 use native.Mathlib.Omega.{arith}
-use lib.Dec.{leb}
 use lib.ListN.{length, drop, getD}
-use borrow.Author.Tests.{le-leb}
+use Rattle.lists.specs.Booleans.{clash}
 use Rattle.grammar.specs.Bytes.{between}
-use Rattle.grammar.specs.Facts.{and-left, and-right}
 use Rattle.grammar.specs.Look.{Word, textOf}
 use Rattle.lists.specs.Lists.{all, each}
 use Rattle.nodes.specs.Places.{Stands, the}
 use Rattle.nodes.specs.Says.{says}
 use Rattle.nodes.specs.Texts.{inside, text-of, text-law, text-some}
 use Rattle.nodes.specs.declared.Found.the-variants.{At}
-use Rattle.numbers.specs.Numbers.{digits, value, words, values, whole, wholes}
+use Rattle.numbers.specs.Numbers.{digits, words, values, whole}
 use Rattle.numbers.specs.Answers.{nextNumber}
 use Rattle.numbers.specs.Walk.{Handed, Wrong, number-law, end-law, bad-law}
 use Rattle.numbers.specs.declared.Next.{Next}
@@ -53,8 +51,8 @@ nth zero text i {v} {j} e =
 nth (suc n) text i {v} {j} e = go (nextNumber text i) refl (sym (handed-suc n text i) ∙ e) λ k q. nth n text k q
   where
     go : (x : Next) → nextNumber text i ≡ x → after x (handed n text) ≡ Number v j → ((k : ℕ) → handed n text k ≡ Number v j → Nth text k n v j) → Nth text i (suc n) v j
-    go End q h ih = let z : _≡_ {A = ℕ} 0 1 = cc in absurd (omega arith)
-    go Bad q h ih = let z : _≡_ {A = ℕ} 0 1 = cc in absurd (omega arith)
+    go End q h ih = clash (cc)
+    go Bad q h ih = clash (cc)
     go (Number u k) q h ih =
         let f = number-law text i refl q in
         let r = ih k h in
@@ -75,7 +73,7 @@ never-bad zero text i e = bad-form text i e
 never-bad (suc n) text i e = go (nextNumber text i) refl (sym (handed-suc n text i) ∙ e) λ k q. never-bad n text k q
   where
     go : (x : Next) → nextNumber text i ≡ x → after x (handed n text) ≡ Bad → ((k : ℕ) → handed n text k ≡ Bad → inForm (says (drop k text)) ≡ false) → inForm (says (drop i text)) ≡ false
-    go End q h ih = let z : _≡_ {A = ℕ} 0 1 = cc in absurd (omega arith)
+    go End q h ih = clash (cc)
     go Bad q h ih = bad-form text i q
     go (Number u k) q h ih = first-form text i q ∙ ih k h
 
@@ -85,7 +83,7 @@ ended zero text i e = let h = end-law text i refl e in rw h (refl, omega arith)
 ended (suc n) text i e = go (nextNumber text i) refl (sym (handed-suc n text i) ∙ e) λ k q. ended n text k q
   where
     go : (x : Next) → nextNumber text i ≡ x → after x (handed n text) ≡ End → ((k : ℕ) → handed n text k ≡ End → (inForm (says (drop k text)) ≡ true) × (length (values (says (drop k text))) ≤ n)) → (inForm (says (drop i text)) ≡ true) × (length (values (says (drop i text))) ≤ suc n)
-    go Bad q h ih = let z : _≡_ {A = ℕ} 0 1 = cc in absurd (omega arith)
+    go Bad q h ih = clash (cc)
     go End q h ih = let f = end-law text i refl q in rw f (refl, omega arith)
     go (Number u k) q h ih =
         let f = number-law text i refl q in
@@ -113,23 +111,7 @@ all-handed n text i f l = go (answers n text i)
     go : Answer text i n → (j : ℕ) × (handed n text i ≡ Number (getD (values (says (drop i text))) n 0) j)
     go (a-number {v = v} {j = j} e h) = (j, e ∙ ap (λ z. Number z j) (sym (h .valued)))
     go (the-end e g h) = absurd (omega arith)
-    go (out-of-form e h) = let z : _≡_ {A = ℕ} 0 1 = cc in absurd (omega arith)
-
-pub then-end : (n : ℕ) (text : List ℕ) (i : ℕ) → inForm (says (drop i text)) ≡ true → length (values (says (drop i text))) ≤ n → handed n text i ≡ End
-then-end n text i f l = go (answers n text i)
-  where
-    go : Answer text i n → handed n text i ≡ End
-    go (a-number e h) = absurd (omega (arith, h .counted))
-    go (the-end e g h) = e
-    go (out-of-form e h) = let z : _≡_ {A = ℕ} 0 1 = cc in absurd (omega arith)
-
-pub then-bad : (text : List ℕ) (i : ℕ) → inForm (says (drop i text)) ≡ false → handed (length (values (says (drop i text)))) text i ≡ Bad
-then-bad text i f = go (answers (length (values (says (drop i text)))) text i)
-  where
-    go : Answer text i (length (values (says (drop i text)))) → handed (length (values (says (drop i text)))) text i ≡ Bad
-    go (a-number e h) = absurd (omega (arith, h .counted))
-    go (the-end e g h) = let z : _≡_ {A = ℕ} 0 1 = cc in absurd (omega arith)
-    go (out-of-form e h) = e
+    go (out-of-form e h) = clash (cc)
 
 text-is : {text : List ℕ} {at i : ℕ} → Stands text at → inside text at ≡ At i → says (drop i text) ≡ textOf (the text at)
 text-is {text} {at} {i} st e = sym (text-some text at e) ∙ text-law st
@@ -137,20 +119,3 @@ text-is {text} {at} {i} st e = sym (text-some text at e) ∙ text-law st
 -- THE SAME, OF THE DOCUMENT: the n-th number handed out from where the contents begin is the n-th of the element's text.
 pub of-the-document : {text : List ℕ} {at i : ℕ} → Stands text at → inside text at ≡ At i → (n : ℕ) {v j : ℕ} → handed n text i ≡ Number v j → getD (values (textOf (the text at))) n 0 ≡ v
 of-the-document {text} {at} {i} st e n h = ap (λ w. getD (values w) n 0) (sym (text-is st e)) ∙ nth n text i h .valued
-
--- Whole numbers up to `most`: in form, and none above it.
-pub wholes-are : (most : ℕ) (w : Word) → wholes most w ≡ (inForm w && all (λ v. leb v most) (values w))
-unfolding wholes inForm values all each whole
-wholes-are most w = go (words w)
-  where
-    split : (a b x y : Bool) → ((a && b) && (x && y)) ≡ ((a && x) && (b && y))
-    split false b x y = refl
-    split true true x y = refl
-    split true false x y = sym (and-false x)
-
-    one : (x : Word) → whole 0 most x ≡ (digits 1 7 x && leb (value x) most)
-    one x = rw (le-leb 0 (value x) (omega arith)) refl
-
-    go : (l : List Word) → all (whole 0 most) l ≡ (all (digits 1 7) l && all (λ v. leb v most) (each value l))
-    go [] = refl
-    go (x ∷ l) = rw (one x, go l) (split (digits 1 7 x) (leb (value x) most) (all (digits 1 7) l) (all (λ v. leb v most) (each value l)))

@@ -6,6 +6,7 @@ use Prim.Native.Nat.{ℕ, zero, suc, _+_, _*_, _-_, _^_, _≤_, _<_}
 use native.Mathlib.Omega.{arith}
 use native.Mathlib.Numerals.{add-one}
 use lib.ListN.{length, drop}
+use Rattle.lists.specs.Booleans.{clash}
 use Rattle.grammar.specs.Bytes.{blank}
 use Rattle.grammar.specs.Look.{Word}
 use Rattle.lists.specs.Lists.{all}
@@ -78,12 +79,12 @@ letter-says (suc n) text i h = rw (within-suc n text i) (go (text-step text i) r
     go (Skip j) e ih = let s = text-skip text i refl e in further j s (letterWithin n text j) (ih j (omega (arith, s .ahead, s .inside-text)))
 
 letter-moves : (text : List ℕ) (i : ℕ) (c : Char) → LetterSays text i c → {b j : ℕ} → c ≡ Byte b j → Moves Contents text i b j
-letter-moves text i End h e = let z : _≡_ {A = ℕ} 0 1 = cc in absurd (omega arith)
+letter-moves text i End h e = clash (cc)
 letter-moves text i (Byte b j) h {b = b₁} {j = j₁} e = let p : b ≡ b₁ = cc in let q : j ≡ j₁ = cc in rw (p, q) at h
 
 letter-ends : (text : List ℕ) (i : ℕ) (c : Char) → LetterSays text i c → c ≡ End → says (drop i text) ≡ []
 letter-ends text i End h e = h
-letter-ends text i (Byte b j) h e = let z : _≡_ {A = ℕ} 0 1 = cc in absurd (omega arith)
+letter-ends text i (Byte b j) h e = clash (cc)
 
 -- THE NEXT BYTE, of either source
 pub char-byte : (source : Source) (text : List ℕ) (i : ℕ) {c : Char} → c ≡ charAt source text i → {b j : ℕ} → c ≡ Byte b j → Moves source text i b j
@@ -170,7 +171,7 @@ digits-law source text (suc m) n k i = go (charAt source text i) refl λ n₁ k�
         nothing-ran source text (suc m) n k i λ c x q l. (let z : b ≡ c = first-is (sym (s .splits) ∙ q) in rw z at d)
 
     go : (c : Char) → charAt source text i ≡ c → ((n₁ k₁ j : ℕ) → Ran source text m n₁ k₁ j (digitsAt source text m n₁ k₁ j)) → Ran source text (suc m) n k i (digitsBy c (record { value = n; count = k; next = i }) (λ b j. digitsAt source text m (n * 10 + (b - 48)) (k + 1) j))
-    go End e ih = nothing-ran source text (suc m) n k i λ b x q l. (let s = char-end source text i refl e in let z : _≡_ {A = ℕ} 0 1 = cc in absurd (omega arith))
+    go End e ih = nothing-ran source text (suc m) n k i λ b x q l. (let s = char-end source text i refl e in clash (cc))
     go (Byte b j) e ih = tested b j e (digit b) refl (ih (n * 10 + (b - 48)) (k + 1) j)
 
 -- A RUN OF BLANKS: the words ahead stay, and what is ahead begins with none

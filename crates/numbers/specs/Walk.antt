@@ -5,6 +5,7 @@ use mathlib.Core.Bool.{Bool, true, false, _&&_, cond}
 use Prim.Native.Nat.{ℕ, zero, suc, _+_, _-_, _^_, _≤_, _<_}
 use native.Mathlib.Omega.{arith}
 use lib.ListN.{length, drop, getD}
+use Rattle.lists.specs.Booleans.{clash}
 use Rattle.grammar.specs.Bytes.{blank}
 use Rattle.grammar.specs.Look.{Word}
 use Rattle.lists.specs.Lists.{all, those, each}
@@ -27,9 +28,6 @@ pub record First (w v : Word) (l : List Word) : Type 0 where
   pub rest : words (drop (leading blank w + length v) w) ≡ l
   pub fits : leading blank w + length v ≤ length w
   pub some : 0 < length v
-
-nothing-first : (P : Type 0) (v : Word) (l : List Word) → [] ≡ v ∷ l → P
-nothing-first P v l e = let z : _≡_ {A = ℕ} 0 1 = cc in absurd (omega arith)
 
 rest-of : (w f : Word) (o : List Word) → parts blank w ≡ f ∷ o → (words (drop (length f) w) ≡ those filled o) × (length f ≤ length w)
 unfolding parts onFirst words those filled
@@ -63,7 +61,7 @@ first-here a w v l h e =
 
 pub first-is : (w v : Word) (l : List Word) → words w ≡ v ∷ l → First w v l
 unfolding leading
-first-is [] v l e = nothing-first (First [] v l) v l (sym words-none ∙ e)
+first-is [] v l e = let empty : [] ≡ v ∷ l = sym words-none ∙ e in clash (cc)
 first-is (a ∷ w) v l e = go (blank a) refl (λ h. first-is w v l h)
   where
     go : (t : Bool) → blank a ≡ t → (words w ≡ v ∷ l → First w v l) → First (a ∷ w) v l
@@ -160,21 +158,21 @@ module _ (text : List ℕ) (i : ℕ) {r : Next} (e : r ≡ nextNumber text i) wh
     where
       go : (x : Next) → Tells text i x → x ≡ Number v j → Handed text i v j
       go x (tells-number {v = u} {j = k} h) q = let p : u ≡ v = cc in let s : k ≡ j = cc in rw (p, s) at h
-      go x (tells-end h) q = let z : _≡_ {A = ℕ} 0 1 = cc in absurd (omega arith)
-      go x (tells-bad h) q = let z : _≡_ {A = ℕ} 0 1 = cc in absurd (omega arith)
+      go x (tells-end h) q = clash (cc)
+      go x (tells-bad h) q = clash (cc)
 
   pub end-law : r ≡ End → words (says (drop i text)) ≡ []
   end-law q = go r told q
     where
       go : (x : Next) → Tells text i x → x ≡ End → words (says (drop i text)) ≡ []
-      go x (tells-number h) q = let z : _≡_ {A = ℕ} 0 1 = cc in absurd (omega arith)
+      go x (tells-number h) q = clash (cc)
       go x (tells-end h) q = h
-      go x (tells-bad h) q = let z : _≡_ {A = ℕ} 0 1 = cc in absurd (omega arith)
+      go x (tells-bad h) q = clash (cc)
 
   pub bad-law : r ≡ Bad → Wrong text i
   bad-law q = go r told q
     where
       go : (x : Next) → Tells text i x → x ≡ Bad → Wrong text i
-      go x (tells-number h) q = let z : _≡_ {A = ℕ} 0 1 = cc in absurd (omega arith)
-      go x (tells-end h) q = let z : _≡_ {A = ℕ} 0 1 = cc in absurd (omega arith)
+      go x (tells-number h) q = clash (cc)
+      go x (tells-end h) q = clash (cc)
       go x (tells-bad h) q = h

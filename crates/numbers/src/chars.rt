@@ -58,21 +58,21 @@ pub(crate) fn digits(text: &[u8], at: usize, source: Source, most: u64, before: 
     while k < most {
         match char_at(text, i, source) {
             Char::Byte(b, j) => {
-                if b < 48 {
+                if b < b'0' {
                     return Run {
                         value: n,
                         count: k,
                         next: i,
                     };
                 }
-                if 57 < b {
+                if b'9' < b {
                     return Run {
                         value: n,
                         count: k,
                         next: i,
                     };
                 }
-                n = n * 10 + wide(b - 48);
+                n = n * 10 + wide(b - b'0');
                 k += 1;
                 i = j;
             }

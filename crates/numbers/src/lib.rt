@@ -111,7 +111,7 @@ fn part_at(text: &[u8], at: usize, source: Source, most: u64, lo: u64, hi: u64) 
     }
     match char_at(text, run.next, source) {
         Char::Byte(b, j) => {
-            if b == 44 {
+            if b == b',' {
                 return Part::Comma(run.value, j);
             }
             Part::No
@@ -222,7 +222,7 @@ pub fn exponent_value(text: &[u8], at: usize, most: u64) -> Exponent
     let source = Source::Value(text[at]);
     match char_at(text, at + 1, source) {
         Char::Byte(b, j) => {
-            if b == 45 {
+            if b == b'-' {
                 return exponent_from(text, j, source, most, true);
             }
             exponent_from(text, at + 1, source, most, false)

@@ -53,13 +53,13 @@ fn plain_digits(text: &[u8], at: usize, stop: usize) -> Run
     let mut i = at;
     while i < stop {
         let b = text[i];
-        if b < 48 {
+        if b < b'0' {
             return run_of(n, at, i);
         }
-        if 57 < b {
+        if b'9' < b {
             return run_of(n, at, i);
         }
-        n = n * 10 + wide(b - 48);
+        n = n * 10 + wide(b - b'0');
         i += 1;
     }
     run_of(n, at, i)

@@ -52,7 +52,7 @@ pub fn pure_decimal(text: &[u8], at: usize, source: Source, negative: bool) -> S
     }
     match char_at(text, run.next, source) {
         Char::Byte(b, j) => {
-            if b == 46 {
+            if b == b'.' {
                 return places_at(text, j, source, negative, run.value, run.count);
             }
             if tokens::classes::is_blank(b) {
@@ -82,10 +82,10 @@ pub fn decimal_at(text: &[u8], at: usize, source: Source) -> Spelling
 {
     match char_at(text, at, source) {
         Char::Byte(b, j) => {
-            if b == 45 {
+            if b == b'-' {
                 return pure_decimal(text, j, source, true);
             }
-            if b == 43 {
+            if b == b'+' {
                 return pure_decimal(text, j, source, false);
             }
             pure_decimal(text, at, source, false)

@@ -1,9 +1,9 @@
 // The ranges of a map's models: condition 11's second half, by a chain over the arrays.
 use models::gather::Models;
 ghost use mathlib.Core.Path.{_≡_};
-ghost use Rattle.maps.specs.Chain.{beginsAt};
+ghost use Rattle.lists.specs.Ranges.{beginsAt, sumOf, tiling};
 ghost use Rattle.models.specs.Gathered.{Sized};
-ghost use Rattle.models.specs.Ranges.{Ranged, rangesOf, rangeIf, sumOf, tiling};
+ghost use Rattle.models.specs.Ranges.{Ranged, rangesOf, rangeIf};
 
 // How many indices the models count.
 fn sum(models: Models) -> u64

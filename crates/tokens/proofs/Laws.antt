@@ -4,12 +4,13 @@ use mathlib.Core.List.{List, [], _∷_}
 use Prim.Native.Nat.{ℕ, suc, _+_, _-_, _≤_, _<_}
 use native.Mathlib.Omega.{arith}
 use mathlib.Core.Bool.{Bool, true, false, not, _||_, _&&_}
+use borrow.Author.Needs.{needs}
 use borrow.Author.Tests.{not-true, not-false, eq-eqb, ne-eqb, le-leb, lt-leb}
 use lib.Dec.{eqb, leb}
 use lib.ListN.{length, drop, getD, length-append, length-drop}
+use Rattle.lists.specs.Booleans.{and-right, refute, clash}
 use Rattle.grammar.specs.Bytes.{ascii, blank, nameStart, nameByte}
 use Rattle.grammar.specs.Read.{Read, fail, got, bind, span, byte, test, mark, ok-got, span-sound, byte-complete, byte-other, mark-complete, mark-other, test-complete}
-use Rattle.grammar.specs.Facts.{and-right, refute}
 use Rattle.grammar.specs.Parser.{gap-at, equals-at, name-at, ends, closing, asking, same}
 use Rattle.tokens.specs.Step.{stepped, at-byte, at-end, arrives, refuses, Went, went}
 use Rattle.tokens.specs.Until.{stepped-value}
@@ -50,6 +51,8 @@ module _ (p : ℕ → Bool) (text : List ℕ) (at i : ℕ) (go : Spanning p text
     span-stops e =
         let q : span p (drop i text) ≡ got [] (drop i text) = rw (at-byte text i h) (span-off p (getD text i 0) (drop (i + 1) text) (sym is ∙ not-true t e)) in
         arrives text (span p (drop i text)) i (omega arith) q ∙ sym (go .same-end)
+
+pub ruleset spanning = (span-start, span-all, span-more, span-stops, needs)
 
 -- the span that a call has found
 pub spanned : (p : ℕ → Bool) (text : List ℕ) (at to : ℕ) → To to ≡ stepped (length text) (span p (drop at text)) → Went (span p) text at to
@@ -218,8 +221,8 @@ pub record Matching (s t : List ℕ) (i : ℕ) : Type 0 where
 same-long : (s t : List ℕ) → same s t ≡ true → length s ≡ length t
 unfolding same
 same-long [] [] e = refl
-same-long [] (b ∷ t) e = let z : _≡_ {A = ℕ} 0 1 = cc in absurd (omega arith)
-same-long (a ∷ s) [] e = let z : _≡_ {A = ℕ} 0 1 = cc in absurd (omega arith)
+same-long [] (b ∷ t) e = clash (cc)
+same-long (a ∷ s) [] e = clash (cc)
 same-long (a ∷ s) (b ∷ t) e = ap suc (same-long s t (and-right (eqb a b) (same s t) e))
 
 pub equal-long : (s t : List ℕ) → (length s ≡ length t → ⊥) → false ≡ same s t

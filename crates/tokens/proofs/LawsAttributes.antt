@@ -10,6 +10,7 @@ use lib.Dec.{leb, ltb}
 use mathlib.Core.Logic.{_⊎_, inl, inr}
 use lib.ListN.{length, drop, getD, set, length-append, length-set}
 use lib.Seq.{getD-set-same, getD-set-other}
+use Rattle.lists.specs.Booleans.{clash, and-false, and-no}
 use Rattle.grammar.specs.Document.{Attribute, attribute}
 use Rattle.grammar.specs.Read.{Read, fail, got, Reader, bind, test, all-of, many-step, test-complete}
 use Rattle.grammar.specs.Parser.{attribute-at, attributes-at, ends, closing, same, absent, distinct}
@@ -77,18 +78,10 @@ absent-in : (n m v : List ℕ) (d l : List Attribute) → same n m ≡ true → 
 unfolding absent
 absent-in n m v [] l e = rw e
 absent-in n m v (attribute x y ∷ d) l e = rw (absent-in n m v d l e) (and-false (not (same n x)))
-  where
-    and-false : (t : Bool) → (t && false) ≡ false
-    and-false true = refl
-    and-false false = refl
-
-and-no : (a b : Bool) → b ≡ false → (a && b) ≡ false
-and-no true b e = e
-and-no false b e = refl
 
 twice : (m v : List ℕ) (done l : List Attribute) → among m (names done) ≡ true → distinct (done ++ (attribute m v ∷ l)) ≡ false
 unfolding distinct names among
-twice m v [] l e = let z : _≡_ {A = ℕ} 0 1 = cc in absurd (omega arith)
+twice m v [] l e = clash (cc)
 twice m v (attribute x y ∷ d) l e = go (same x m) refl (twice m v d l) e
   where
     go : (t : Bool) → same x m ≡ t → (among m (names d) ≡ true → distinct (d ++ (attribute m v ∷ l)) ≡ false) → (t || among m (names d)) ≡ true
@@ -103,7 +96,7 @@ absent-more n m v [] e f = rw f
 absent-more n m v (attribute x y ∷ d) e f = go (same n x) e (absent-more n m v d)
   where
     go : (t : Bool) → (not t && absent n d) ≡ true → (absent n d ≡ true → same n m ≡ false → absent n (d ++ (attribute m v ∷ [])) ≡ true) → (not t && absent n (d ++ (attribute m v ∷ []))) ≡ true
-    go true k ih = let z : _≡_ {A = ℕ} 0 1 = cc in absurd (omega arith)
+    go true k ih = clash (cc)
     go false k ih = ih k f
 
 new : (m v : List ℕ) (done : List Attribute) → distinct done ≡ true → among m (names done) ≡ false → distinct (done ++ (attribute m v ∷ [])) ≡ true
@@ -113,8 +106,8 @@ new m v (attribute x y ∷ d) e f = go (absent x d) (same x m) refl refl e f (ne
   where
     go : (s t : Bool) → absent x d ≡ s → same x m ≡ t → (s && distinct d) ≡ true → (t || among m (names d)) ≡ false → (distinct d ≡ true → among m (names d) ≡ false → distinct (d ++ (attribute m v ∷ [])) ≡ true)
         → (absent x (d ++ (attribute m v ∷ [])) && distinct (d ++ (attribute m v ∷ []))) ≡ true
-    go false t p q k l ih = let z : _≡_ {A = ℕ} 0 1 = cc in absurd (omega arith)
-    go true true p q k l ih = let z : _≡_ {A = ℕ} 0 1 = cc in absurd (omega arith)
+    go false t p q k l ih = clash (cc)
+    go true true p q k l ih = clash (cc)
     go true false p q k l ih = rw (absent-more x m v d p q) (ih k l)
 
 names-more : (done : List Attribute) (m v : List ℕ) → names (done ++ (attribute m v ∷ [])) ≡ names done ++ (m ∷ [])
@@ -198,7 +191,7 @@ here-inside text i e = go (either i (length text))
   where
     go : (i < length text) ⊎ (length text ≤ i) → i ≤ length text
     go (inl h) = omega arith
-    go (inr h) = let q : drop i text ≡ [] = at-end text i h in let z : ends closing [] ≡ true = rw q at e in let z : _≡_ {A = ℕ} 0 1 = cc in absurd (omega arith)
+    go (inr h) = let q : drop i text ≡ [] = at-end text i h in let z : ends closing [] ≡ true = rw q at e in clash (cc)
 
 -- an attribute that was read
 attribute-went : (text : List ℕ) (i from to end : ℕ) → Named text i from to end → Went attribute-at text i end

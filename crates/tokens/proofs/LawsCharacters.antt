@@ -3,10 +3,11 @@ use mathlib.Core.Path.{_≡_, refl, sym, _∙_}
 use mathlib.Core.List.{List, [], _∷_}
 use Prim.Native.Nat.{ℕ, _+_, _-_, _≤_, _<_}
 use native.Mathlib.Omega.{arith}
-use mathlib.Core.Bool.{Bool, true, false, not, _&&_, _||_}
+use mathlib.Core.Bool.{Bool, true, false, not, _&&_}
 use borrow.Author.Tests.{not-true, not-false, le-leb, lt-leb}
 use lib.Dec.{eqb}
 use lib.ListN.{length, drop, getD}
+use Rattle.lists.specs.Booleans.{clash, or-true}
 use Rattle.grammar.specs.Bytes.{between, begins, blank}
 use Rattle.grammar.specs.Facts.{within}
 use Rattle.grammar.specs.Characters.{lead1, lead2, lead3, lead4, continues, noncharacter}
@@ -35,13 +36,13 @@ begins-passed (a ∷ k) (b ∷ s) = go (eqb b a) (begins-passed k s)
 
 stepped-passed : {A : Type 0} (n : ℕ) (m : Read A) {j : ℕ} → To j ≡ stepped n m → passed m ≡ true
 unfolding stepped passed
-stepped-passed n fail e = let z : _≡_ {A = ℕ} 0 1 = cc in absurd (omega arith)
+stepped-passed n fail e = clash (cc)
 stepped-passed n (got a r) e = refl
 
 stepped-stuck : {A : Type 0} (n : ℕ) (m : Read A) → No ≡ stepped n m → passed m ≡ false
 unfolding stepped passed
 stepped-stuck n fail e = refl
-stepped-stuck n (got a r) e = let z : _≡_ {A = ℕ} 0 1 = cc in absurd (omega arith)
+stepped-stuck n (got a r) e = clash (cc)
 
 pub starts-so : (text : List ℕ) (at : ℕ) (word : List ℕ) {r : Step} {j : ℕ} → r ≡ stepped (length text) (mark word (drop at text)) → r ≡ To j → true ≡ begins word (drop at text)
 starts-so text at word q e = sym (begins-passed word (drop at text) ∙ stepped-passed (length text) (mark word (drop at text)) (sym e ∙ q))
@@ -241,9 +242,5 @@ pub plain-step : (text : List ℕ) (at : ℕ) → at < length text → {t : Bool
 unfolding lead1
 plain-step text at h is e =
     let low = within 32 127 (getD text at 0) (sym is ∙ e) .1 in
-    let fits : lead1 (getD text at 0) ≡ true = rw (sym is ∙ e) (or-so (blank (getD text at 0))) in
+    let fits : lead1 (getD text at 0) ≡ true = rw (sym is ∙ e) (or-true (blank (getD text at 0))) in
     one-good text at h low refl fits
-  where
-    or-so : (a : Bool) → (a || true) ≡ true
-    or-so true = refl
-    or-so false = refl

@@ -3,10 +3,11 @@ use mathlib.Core.Path.{_≡_, refl, ap, sym, _∙_}
 use mathlib.Core.List.{List, [], _∷_}
 use Prim.Native.Nat.{ℕ, _+_, _-_, _≤_, _<_}
 use native.Mathlib.Omega.{arith}
-use mathlib.Core.Bool.{Bool, true, false, _&&_}
+use mathlib.Core.Bool.{Bool, true, false}
 use borrow.Author.Tests.{eq-eqb, ne-eqb}
 use lib.Dec.{eqb}
 use lib.ListN.{length, drop, getD}
+use Rattle.lists.specs.Booleans.{and-true}
 use Rattle.grammar.specs.Bytes.{ascii, between, begins}
 use Rattle.grammar.specs.Read.{Read, fail, got, bind, byte, mark, alt, mark-other, mark-complete}
 use Rattle.grammar.specs.Parser.{literal-at, no-dash, plain-at, dashed-at, remark-at, comment-at}
@@ -36,10 +37,6 @@ module _ (text : List ℕ) (at : ℕ) where
       pub dashes-two : at + 1 < length text → eqb (getD text (at + 1) 0) 45 ≡ begins (ascii "--") (drop at text)
       unfolding begins
       dashes-two k = sym (rw (at-byte text at h, at-byte text (at + 1) k, eq-eqb (getD text at 0) 45 e) (and-true (eqb (getD text (at + 1) 0) 45)))
-        where
-          and-true : (t : Bool) → (t && true) ≡ t
-          and-true true = refl
-          and-true false = refl
 
 -- one character, or a dash and one
 plain-at-step : (n a : ℕ) (s : List ℕ) → (a ≡ 45 → ⊥) → stepped n (plain-at (a ∷ s)) ≡ stepped n (character-at (a ∷ s))

@@ -5,6 +5,7 @@ use Prim.Native.Nat.{ℕ, suc, _+_, _-_, _≤_, _<_}
 use native.Mathlib.Omega.{arith}
 use mathlib.Core.Bool.{Bool, true, false, _||_}
 use lib.ListN.{length, getD}
+use Rattle.lists.specs.Booleans.{or-true, or-false, or-assoc}
 use Rattle.grammar.specs.Parser.{same}
 use Rattle.tokens.specs.Noted.{part, among, noted, Within}
 
@@ -15,15 +16,7 @@ pub record Noting (text starts ends : List ℕ) (n from to k : ℕ) : Type 0 whe
 pub among-more : (w : List ℕ) (l : List (List ℕ)) (m : List ℕ) → among w (l ++ (m ∷ [])) ≡ (among w l || same m w)
 unfolding among
 among-more w [] m = or-false (same m w)
-  where
-    or-false : (t : Bool) → (t || false) ≡ t
-    or-false true = refl
-    or-false false = refl
 among-more w (x ∷ l) m = rw (among-more w l m) (or-assoc (same x w) (among w l) (same m w))
-  where
-    or-assoc : (a b c : Bool) → (a || (b || c)) ≡ ((a || b) || c)
-    or-assoc true b c = refl
-    or-assoc false b c = refl
 
 pub noting-start : (text starts ends : List ℕ) (n from to : ℕ) → Noting text starts ends n from to n
 noting-start text starts ends n from to = let l : n ≤ n = omega arith in record { left = l; same-yet = refl }
@@ -43,17 +36,9 @@ module _ (text starts ends : List ℕ) (n from to k : ℕ) (go : Noting text sta
     module _ {t : Bool} (is : t ≡ same (part (getD starts (k - 1) 0) (getD ends (k - 1) 0) text) (part from to text)) where
       pub noting-hit : t ≡ true → true ≡ among (part from to text) (noted text starts ends n)
       noting-hit e = sym (go .same-yet ∙ last ∙ rw (sym is ∙ e) (or-true (among (part from to text) (noted text starts ends (k - 1)))))
-        where
-          or-true : (a : Bool) → (a || true) ≡ true
-          or-true true = refl
-          or-true false = refl
 
       pub noting-miss : t ≡ false → Noting text starts ends n from to (k - 1)
-      noting-miss e = record { left = omega (arith, go .left); same-yet = go .same-yet ∙ last ∙ rw (sym is ∙ e) (or-none (among (part from to text) (noted text starts ends (k - 1)))) }
-        where
-          or-none : (a : Bool) → (a || false) ≡ a
-          or-none true = refl
-          or-none false = refl
+      noting-miss e = record { left = omega (arith, go .left); same-yet = go .same-yet ∙ last ∙ rw (sym is ∙ e) (or-false (among (part from to text) (noted text starts ends (k - 1)))) }
 
 -- the places of a noted name
 module _ (text starts ends : List ℕ) (n from to : ℕ) (w : Within text starts ends n from to) (k : ℕ) (go : Noting text starts ends n from to k) (h : 0 < k) where

@@ -2,8 +2,8 @@
 use mathlib.Core.Path.{_≡_, refl, sym, _∙_}
 use mathlib.Core.List.{List}
 use Prim.Native.Nat.{ℕ, _-_, _<_}
-use native.Mathlib.Omega.{arith}
 use lib.ListN.{length, drop}
+use Rattle.lists.specs.Booleans.{clash}
 use Rattle.grammar.specs.Bytes.{ascii}
 use Rattle.grammar.specs.Read.{Read, fail, got, bind, mark, alt}
 use Rattle.grammar.specs.Parser.{said, reference-at}
@@ -16,23 +16,23 @@ use Rattle.tokens.specs.declared.characters.Reference.the-variants as re
 
 by-mark : (n : ℕ) (m : Read (Unit {0})) (v : List ℕ) (x : Read (List ℕ)) {j : ℕ} → To j ≡ stepped n m → reference.Is (first-byte v) j ≡ referred n (alt (bind m (λ _ r. got v r)) x)
 unfolding stepped referred alt bind
-by-mark n fail v x e = let z : _≡_ {A = ℕ} 0 1 = cc in absurd (omega arith)
+by-mark n fail v x e = clash (cc)
 by-mark n (got a r) v x {j} e = let q : j ≡ n - length r = cc in rw q
 
 by-none : (n : ℕ) (m : Read (Unit {0})) (v : List ℕ) (x : Read (List ℕ)) → No ≡ stepped n m → alt (bind m (λ _ r. got v r)) x ≡ x
 unfolding stepped alt bind
 by-none n fail v x e = refl
-by-none n (got a r) v x e = let z : _≡_ {A = ℕ} 0 1 = cc in absurd (omega arith)
+by-none n (got a r) v x e = clash (cc)
 
 by-last : (n : ℕ) (m : Read (Unit {0})) (v : List ℕ) {j : ℕ} → To j ≡ stepped n m → reference.Is (first-byte v) j ≡ referred n (bind m (λ _ r. got v r))
 unfolding stepped referred bind
-by-last n fail v e = let z : _≡_ {A = ℕ} 0 1 = cc in absurd (omega arith)
+by-last n fail v e = clash (cc)
 by-last n (got a r) v {j} e = let q : j ≡ n - length r = cc in rw q
 
 by-end : (n : ℕ) (m : Read (Unit {0})) (v : List ℕ) → No ≡ stepped n m → reference.No ≡ referred n (bind m (λ _ r. got v r))
 unfolding stepped referred bind
 by-end n fail v e = refl
-by-end n (got a r) v e = let z : _≡_ {A = ℕ} 0 1 = cc in absurd (omega arith)
+by-end n (got a r) v e = clash (cc)
 
 module _ (text : List ℕ) (at : ℕ) where
   -- the word `&`..`;` was looked for
@@ -94,10 +94,10 @@ module _ (text : List ℕ) (at : ℕ) where
 -- the position alone
 pub behind : (n : ℕ) (m : Read (List ℕ)) {r : Reference} {b j : ℕ} → r ≡ referred n m → r ≡ reference.Is b j → To j ≡ stepped n m
 unfolding stepped referred
-behind n fail q e = let z : _≡_ {A = ℕ} 0 1 = cc in absurd (omega arith)
+behind n fail q e = clash (cc)
 behind n (got v r) {j = j} q e = let k : j ≡ n - length r = cc in rw k
 
 pub missing : (n : ℕ) (m : Read (List ℕ)) {r : Reference} → r ≡ referred n m → r ≡ reference.No → No ≡ stepped n m
 unfolding stepped referred
 missing n fail q e = refl
-missing n (got v r) q e = let z : _≡_ {A = ℕ} 0 1 = cc in absurd (omega arith)
+missing n (got v r) q e = clash (cc)

@@ -7,8 +7,8 @@ use mathlib.Core.Bool.{Bool, true, false, not, _&&_, _||_}
 use borrow.Author.Tests.{not-true, not-false, eq-eqb, ne-eqb, eqb-false}
 use lib.Dec.{eqb}
 use lib.ListN.{length, drop, getD}
+use Rattle.lists.specs.Booleans.{and-left, and-right, or-left, or-right, clash}
 use Rattle.grammar.specs.Bytes.{ascii, between, blank, quote, special, begins}
-use Rattle.grammar.specs.Facts.{and-left, and-right, or-left, or-right}
 use Rattle.grammar.specs.Document.{together}
 use Rattle.grammar.specs.Read.{Read, fail, got, bind, byte, mark, alt, all-of, mark-other, mark-complete, byte-complete, byte-other}
 use Rattle.grammar.specs.Parser.{said, reference-at, space-at, literal-at, value-byte, value-character-at, value-at}
@@ -51,7 +51,7 @@ not-in-value q b e = go (eqb b 60) (eqb b 38) (eqb b q) e
     go true y z e = refl
     go false true true e = refl
     go false false true e = refl
-    go false y false e = let z : _≡_ {A = ℕ} 0 1 = cc in absurd (omega arith)
+    go false y false e = clash (cc)
 
 amp-out : (q : ℕ) → value-byte q 38 ≡ false
 unfolding value-byte special

@@ -5,6 +5,7 @@ use Prim.Native.Nat.{ℕ, _+_, _-_, _≤_, _<_}
 use native.Mathlib.Omega.{arith}
 use lib.ListN.{length, drop, length-append, length-drop}
 use lib.Seq.{take-at}
+use Rattle.lists.specs.Booleans.{clash}
 use Rattle.grammar.specs.Bytes.{ascii, blank}
 use Rattle.grammar.specs.Document.{Attribute, attribute}
 use Rattle.grammar.specs.Read.{Read, fail, got, Reader, bind, _>>=_, _>>_, pure, mark, span, Ok, good, bind-ok, ok-got, mark-sound, span-sound}
@@ -56,18 +57,6 @@ head-tails s =
     bind-ok (attributes-sound r₂) λ l r₃ h₃.
     bind-ok (span-sound blank r₃) λ u r₄ h₄.
     good (ascii "<" ++ (n ++ (h₃ .0 ++ u)), simp append-assoc (let e₂ = h₂ .0 in let e₃ = h₃ .1 in let e₄ = h₄ .0 in cc))
-
-pub head-eats : (s : List ℕ) → Ok (λ _ r. length r < length s) (head-at s)
-unfolding head-at
-head-eats s =
-    bind-ok (mark-sound (ascii "<") s) λ _ r₁ e₁.
-    bind-ok (name-sound r₁) λ n r₂ h₂.
-    bind-ok (attributes-sound r₂) λ l r₃ h₃.
-    bind-ok (span-sound blank r₃) λ u r₄ h₄.
-    good (omega (arith, ap length e₁, length-append n r₂, ap length (h₂ .0), length-append (h₃ .0) r₃, ap length (h₃ .1), length-append u r₄, ap length (h₄ .0)))
-
-pub attribute-tails : (s : List ℕ) → Ok (Tails s) (attribute-at s)
-attribute-tails s = tails (attribute-sound s)
 
 pub attribute-eats : (s : List ℕ) → Ok (λ _ r. length r < length s) (attribute-at s)
 attribute-eats s = less (λ _ w h. attribute-long h) (attribute-sound s)
@@ -188,7 +177,7 @@ pub key-found : (text : List ℕ) (at : ℕ) {r : Key} {from to end : ℕ} → r
 key-found text at {r} {from} {to} {end} q e = go (key-goes text at)
   where
     go : KeyGoes text at → Keyed text at from to end
-    go (no-key k) = let n = key-not text at k in let z : _≡_ {A = ℕ} 0 1 = cc in absurd (omega arith)
+    go (no-key k) = let n = key-not text at k in clash (cc)
     go (a-key {from = f} {to = t} {end = n} k) =
         let i = key-is text at k in
         let e₁ : f ≡ from = cc in let e₂ : t ≡ to = cc in let e₃ : n ≡ end = cc in
@@ -199,13 +188,13 @@ key-missed text at {r} q e = go (key-goes text at)
   where
     go : KeyGoes text at → key-at (drop at text) ≡ fail
     go (no-key k) = k
-    go (a-key k) = let i = key-is text at k in let z : _≡_ {A = ℕ} 0 1 = cc in absurd (omega arith)
+    go (a-key k) = let i = key-is text at k in clash (cc)
 
 pub named-found : (text : List ℕ) (at : ℕ) {r : Key} {from to end : ℕ} → r ≡ keyed (length text) (named-at (drop at text)) → r ≡ key.Is from to end → Named text at from to end
 named-found text at {r} {from} {to} {end} q e = go (named-goes text at)
   where
     go : NamedGoes text at → Named text at from to end
-    go (not-named k) = let n = named-not text at k in let z : _≡_ {A = ℕ} 0 1 = cc in absurd (omega arith)
+    go (not-named k) = let n = named-not text at k in clash (cc)
     go (is-named {from = f} {to = t} {end = n} k) =
         let i = named-is text at k in
         let e₁ : f ≡ from = cc in let e₂ : t ≡ to = cc in let e₃ : n ≡ end = cc in
@@ -216,7 +205,7 @@ named-missed text at {r} q e = go (named-goes text at)
   where
     go : NamedGoes text at → named-at (drop at text) ≡ fail
     go (not-named k) = k
-    go (is-named k) = let i = named-is text at k in let z : _≡_ {A = ℕ} 0 1 = cc in absurd (omega arith)
+    go (is-named k) = let i = named-is text at k in clash (cc)
 
 -- what the grammar's reader of an attribute finds there
 same-places : (n : ℕ) (s : List ℕ) → stepped n (attribute-at s) ≡ stepped n (named-at s)

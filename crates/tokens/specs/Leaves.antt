@@ -1,14 +1,13 @@
 -- Readers that are parts of the grammar's, and what each reader leaves.
-use mathlib.Core.Path.{_≡_, refl, ap}
+use mathlib.Core.Path.{_≡_, refl}
 use mathlib.Core.List.{List, [], _∷_}
 use Prim.Native.Nat.{ℕ, _-_, _<_}
 use mathlib.Core.Bool.{Bool, true, false}
-use lib.ListN.{length, length-append}
-use native.Mathlib.Omega.{arith}
+use lib.ListN.{length}
 use Rattle.grammar.specs.Bytes.{ascii, begins}
-use Rattle.grammar.specs.Read.{Read, fail, got, Reader, bind, mark, span, Ok, good, bind-ok, ok-map, mark-sound, span-sound, byte-sound, byte-complete, byte-other}
-use Rattle.grammar.specs.Parser.{name-at, gap-at, equals-at, literal-at, reference-at, value-character-at, value-at, remark-at, comment-at}
-use Rattle.grammar.specs.Sound.{name-sound, gap-sound, equals-sound, rest-sound, reference-sound, value-character-sound, value-sound, remark-sound, comment-sound}
+use Rattle.grammar.specs.Read.{Read, fail, got, Reader, bind, mark, span, Ok, ok-map, mark-sound, span-sound, byte-complete, byte-other}
+use Rattle.grammar.specs.Parser.{name-at, gap-at, equals-at, literal-at, reference-at, value-character-at, value-at, remark-at}
+use Rattle.grammar.specs.Sound.{name-sound, gap-sound, equals-sound, reference-sound, value-character-sound, value-sound, remark-sound}
 use Rattle.grammar.specs.Tokens.{value-character-long, remark-long}
 use Rattle.grammar.specs.Unfuelled.{less}
 use Rattle.tokens.specs.Until.{until}
@@ -46,18 +45,6 @@ pub literal-not : (p : ℕ → Bool) (a : ℕ) (s : List ℕ) → p a ≡ false 
 unfolding literal-at bind
 literal-not p a s e = rw (byte-other p a e s)
 
-pub character-eats : (s : List ℕ) → Ok (λ _ r. length r < length s) (character-at s)
-unfolding character-at literal-at
-character-eats s =
-    bind-ok (byte-sound anything s) λ a r₁ h₁.
-    bind-ok (rest-sound a r₁) λ w r₂ h₂. good (omega (arith, ap length (h₁ .0), ap length (h₂ .0), length-append w r₂))
-
-pub character-tails : (s : List ℕ) → Ok (Tails s) (character-at s)
-unfolding character-at literal-at
-character-tails s =
-    bind-ok (byte-sound anything s) λ a r₁ h₁.
-    bind-ok (rest-sound a r₁) λ w r₂ h₂. good (a ∷ w, let e₁ = h₁ .0 in let e₂ = h₂ .0 in cc)
-
 -- the byte that a reference stands for, and the position behind the reference
 unfoldable pub first-byte : List ℕ → ℕ
 first-byte [] = 0
@@ -90,9 +77,6 @@ remark-eats s = less (λ _ w h. remark-long h) (remark-sound s)
 
 pub remark-tails : (s : List ℕ) → Ok (Tails s) (remark-at s)
 remark-tails s = tails (remark-sound s)
-
-pub comment-tails : (s : List ℕ) → Ok (Tails s) (comment-at s)
-comment-tails s = tails (comment-sound s)
 
 -- a comment behind `<!--`
 unfoldable pub comment-rest-at : Reader (Unit {0})

@@ -6,6 +6,7 @@ use native.Mathlib.Numerals.{add-one}
 use native.Mathlib.Omega.{arith}
 use lib.ListN.{length, take, drop, getD, length-append, length-drop, take-append-drop, drop-of-length-le}
 use lib.Seq.{drop-cons, drop-at}
+use Rattle.lists.specs.Booleans.{clash}
 use Rattle.grammar.specs.Read.{Read, fail, got, Reader, Ok, failed, good, ok-map, Takes}
 use Rattle.tokens.specs.declared.Step.{Step}
 use Rattle.tokens.specs.declared.Step.the-variants.{To, No}
@@ -37,7 +38,7 @@ refuses n m e = rw e
 pub fell : {A : Type 0} (n : ℕ) (m : Read A) → No ≡ stepped n m → m ≡ fail
 unfolding stepped
 fell n fail e = refl
-fell n (got a r) e = let z : _≡_ {A = ℕ} 0 1 = cc in absurd (omega arith)
+fell n (got a r) e = clash (cc)
 
 -- what a read leaves is the end of what it was given
 abbrev pub Tails : {A : Type 0} → List ℕ → A → List ℕ → Type 0
@@ -61,7 +62,7 @@ unfolding stepped
 went {A} p text at to h e = go (p (drop at text)) refl h e
   where
     go : (m : Read A) → p (drop at text) ≡ m → Ok (Tails (drop at text)) m → To to ≡ stepped (length text) m → Went p text at to
-    go _ q failed e = let z : _≡_ {A = ℕ} 0 1 = cc in absurd (omega arith)
+    go _ q failed e = clash (cc)
     go _ q (good {a} {r} k) e =
         let w = k .0 in
         let here : to ≡ length text - length r = cc in
@@ -75,7 +76,7 @@ pub went-on : {A : Type 0} {p : Reader A} {text : List ℕ} {at to : ℕ} → We
 went-on {A} {p} {text} {at} {to} w h = go (p (drop at text)) (w .reads) h
   where
     go : (m : Read A) → m ≡ got (w .value) (drop to text) → Ok (λ _ r. length r < length (drop at text)) m → at < to
-    go _ e failed = let z : _≡_ {A = ℕ} 0 1 = cc in absurd (omega arith)
+    go _ e failed = clash (cc)
     go _ e (good {r = r} k) =
         let q : r ≡ drop to text = cc in
         omega (arith, ap length q, length-drop to text, length-drop at text, w .inside)

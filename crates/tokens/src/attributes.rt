@@ -125,7 +125,7 @@ pub fn head_end(text: &[u8], at: usize) -> Step
     if text.len() <= at {
         return Step::No;
     }
-    if text[at] != 60 {
+    if text[at] != b'<' {
         return Step::No;
     }
     let Step::To(i) = name_end(text, at + 1) else {

@@ -43,7 +43,7 @@ pub fn equals_end(text: &[u8], at: usize) -> Step
     if text.len() <= i {
         return Step::No;
     }
-    if text[i] != 61 {
+    if text[i] != b'=' {
         return Step::No;
     }
     Step::To(blanks_end(text, i + 1))
@@ -90,7 +90,7 @@ pub fn tag_ends(text: &[u8], at: usize) -> bool
         return false;
     }
     let b = text[i];
-    (b == 62) | (b == 47)
+    (b == b'>') | (b == b'/')
 }
 
 // `?` stands behind the blanks at `at`.
@@ -101,5 +101,5 @@ pub fn asks(text: &[u8], at: usize) -> bool
     if text.len() <= i {
         return false;
     }
-    text[i] == 63
+    text[i] == b'?'
 }

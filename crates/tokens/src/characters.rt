@@ -126,23 +126,23 @@ pub fn reference_at(text: &[u8], at: usize) -> Reference
 {
     let amp = mark_end(text, at, b"&amp;");
     if let Step::To(j) = amp {
-        return Reference::Is(38, j);
+        return Reference::Is(b'&', j);
     }
     let lt = mark_end(text, at, b"&lt;");
     if let Step::To(j) = lt {
-        return Reference::Is(60, j);
+        return Reference::Is(b'<', j);
     }
     let gt = mark_end(text, at, b"&gt;");
     if let Step::To(j) = gt {
-        return Reference::Is(62, j);
+        return Reference::Is(b'>', j);
     }
     let quot = mark_end(text, at, b"&quot;");
     if let Step::To(j) = quot {
-        return Reference::Is(34, j);
+        return Reference::Is(b'"', j);
     }
     let apos = mark_end(text, at, b"&apos;");
     if let Step::To(j) = apos {
-        return Reference::Is(39, j);
+        return Reference::Is(b'\'', j);
     }
     Reference::No
 }

@@ -6,26 +6,27 @@ ghost use Rattle.grammar.specs.Characters.{lead1, lead2, lead3, lead4, continue
 pub fn is_blank(b: u8) -> bool
     ensures { λ r. ⌜ r ≡ blank b ⌝ }
 {
-    (b == 32) | ((b == 9) | ((b == 10) | (b == 13)))
+    (b == b' ') | ((b == b'\t') | ((b == b'\n') | (b == b'\r')))
 }
 
 pub fn is_name_start(b: u8) -> bool
     ensures { λ r. ⌜ r ≡ nameStart b ⌝ }
 {
-    (((65 <= b) & (b <= 90)) | ((97 <= b) & (b <= 122))) | (b == 95)
+    (((b'A' <= b) & (b <= b'Z')) | ((b'a' <= b) & (b <= b'z'))) | (b == b'_')
 }
 
 pub fn is_name_byte(b: u8) -> bool
     ensures { λ r. ⌜ r ≡ nameByte b ⌝ }
 {
-    (((65 <= b) & (b <= 90)) | ((97 <= b) & (b <= 122)))
-        | (((48 <= b) & (b <= 57)) | ((b == 95) | ((b == 45) | ((b == 46) | (b == 58)))))
+    (((b'A' <= b) & (b <= b'Z')) | ((b'a' <= b) & (b <= b'z')))
+        | (((b'0' <= b) & (b <= b'9'))
+            | ((b == b'_') | ((b == b'-') | ((b == b'.') | (b == b':')))))
 }
 
 pub fn is_quote(b: u8) -> bool
     ensures { λ r. ⌜ r ≡ quote b ⌝ }
 {
-    (b == 34) | (b == 39)
+    (b == b'"') | (b == b'\'')
 }
 
 // Most characters of one byte: a test that serves for speed alone.
@@ -39,7 +40,7 @@ pub fn is_plain(b: u8) -> bool
 pub fn is_lead1(a: u8) -> bool
     ensures { λ r. ⌜ r ≡ lead1 a ⌝ }
 {
-    ((a == 32) | ((a == 9) | ((a == 10) | (a == 13)))) | ((32 <= a) & (a <= 127))
+    ((a == b' ') | ((a == b'\t') | ((a == b'\n') | (a == b'\r')))) | ((32 <= a) & (a <= 127))
 }
 
 pub fn is_lead2(a: u8) -> bool

@@ -17,13 +17,13 @@ fn dashes_at(text: &[u8], at: usize) -> bool
     if text.len() <= at {
         return false;
     }
-    if text[at] != 45 {
+    if text[at] != b'-' {
         return false;
     }
     if text.len() <= at + 1 {
         return false;
     }
-    text[at + 1] == 45
+    text[at + 1] == b'-'
 }
 
 // A character of a comment, or a dash and a character that is none.
@@ -33,13 +33,13 @@ fn odd_remark_end(text: &[u8], at: usize) -> Step
     if text.len() <= at {
         return Step::No;
     }
-    if text[at] != 45 {
+    if text[at] != b'-' {
         return wide_character_end(text, at);
     }
     if text.len() <= at + 1 {
         return Step::No;
     }
-    if text[at + 1] == 45 {
+    if text[at + 1] == b'-' {
         return Step::No;
     }
     wide_character_end(text, at + 1)
@@ -53,7 +53,7 @@ fn remark_end(text: &[u8], at: usize) -> Step
         return Step::No;
     }
     let b = text[at];
-    if b == 45 {
+    if b == b'-' {
         return odd_remark_end(text, at);
     }
     if is_plain(b) {

@@ -21,13 +21,13 @@ fn odd_in_value_end(text: &[u8], at: usize, q: u8) -> Step
         return Step::No;
     }
     let b = text[at];
-    if b == 38 {
+    if b == b'&' {
         return reference_end(text, at);
     }
     if is_blank(b) {
         return Step::To(at + 1);
     }
-    if (b == 60) | (b == q) {
+    if (b == b'<') | (b == q) {
         return Step::No;
     }
     wide_character_end(text, at)
@@ -37,7 +37,7 @@ fn odd_in_value_end(text: &[u8], at: usize, q: u8) -> Step
 fn is_plain_in(b: u8, q: u8) -> bool
     ensures { λ r. ⌜ r ≡ (between 32 127 b && (not (special b) && not (eqb b q))) ⌝ }
 {
-    ((32 <= b) & (b <= 127)) & (!((b == 60) | (b == 38)) & !(b == q))
+    ((32 <= b) & (b <= 127)) & (!((b == b'<') | (b == b'&')) & !(b == q))
 }
 
 // The same, quick where the character is plain.

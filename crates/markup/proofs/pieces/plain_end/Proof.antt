@@ -1,4 +1,4 @@
-use Rattle.markup.proofs.LawsPieces.{scanning, Scanning}
+use Rattle.tokens.proofs.Laws.{spanning, Spanning}
 use Prim.Native.Nat.{_-_}
 use lib.ListN.{length}
 use Rattle.markup.specs.Pieces.{plain}
@@ -6,7 +6,7 @@ use Rattle.markup.proofs.pieces.plain_end.Statement.{statement}
 use Rattle.markup.proofs.pieces.plain_end.Tie as tie
 
 abbrev Inv-loop : tie.InvT-loop
-Inv-loop text at i₀ i = Scanning plain text at i
+Inv-loop text at i₀ i = Spanning plain text at i
 
 abbrev μ-loop : tie.MeasureT-loop
 μ-loop text at i₀ i = length text - i
@@ -17,11 +17,11 @@ plain-end-spec =
     (tie.spec
     Inv-loop
     μ-loop
-    (λ c. search scanning)
-    (λ c. search scanning)
-    (λ c κs. search scanning)
-    (λ c. search scanning)
-    (λ c. search scanning)
-    (λ c. search scanning)
-    (λ c. search scanning)
-    (λ c. search scanning))
+    (λ c. search spanning)
+    (λ c. search spanning)
+    (λ c κs. search spanning)
+    (λ c. search spanning)
+    (λ c. search spanning)
+    (λ c. search spanning)
+    (λ c. search spanning)
+    (λ c. search spanning))
