@@ -39,12 +39,18 @@
 extern "C" {
 #endif
 
-/* How many numbers an answer of dz_read takes. */
-#define DZ_ANSWER 31
-/* Numbers of one dimension in the answer; dimension d begins at 1 + DZ_DIMENSION * d. */
-#define DZ_DIMENSION 10
+/* An answer of dz_read: a head, then three dimensions; dimension d begins at DZ_HEAD + DZ_DIMENSION * d. Places that
+   are not named below are 0, and kept for what is to come.
+   Changed: an answer was 31 numbers before, a head of 1 and 10 of a dimension. The places in a dimension are the same, so
+   a caller that goes by these names, and no longer begins dimension d at 1 + 10 * d, has only to be compiled again. */
+#define DZ_HEAD 4
+#define DZ_DIMENSION 16
+#define DZ_ANSWER 52
 
-/* Places in the ten numbers of a dimension. Amounts and the exponent are in two's complement: read them
+/* Places in the head. */
+enum { DZ_NUMBER = 0 };
+
+/* Places in the numbers of a dimension. Amounts and the exponent are in two's complement: read them
    as int64_t. A decimal is its amount with so many places after the point: 2.0 is 20 with 1 place. */
 enum {
     DZ_KIND = 0,         /* one of the four kinds below; 0 where there is no such dimension */
@@ -55,8 +61,7 @@ enum {
     DZ_STEP_AMOUNT = 5,  /* series: SeriesStep */
     DZ_STEP_PLACES = 6,
     DZ_EXPONENT = 7,     /* series: SeriesExponent */
-    DZ_UNIT = 8,         /* series: 0 second, 1 hertz, 2 meter, 3 radian */
-    DZ_SPARE = 9         /* 0 */
+    DZ_UNIT = 8          /* series: 0 second, 1 hertz, 2 meter, 3 radian */
 };
 enum { DZ_NONE = 0, DZ_BRAIN = 1, DZ_SERIES = 2, DZ_SCALARS = 3 };
 
@@ -69,8 +74,8 @@ enum { DZ_NONE = 0, DZ_BRAIN = 1, DZ_SERIES = 2, DZ_SCALARS = 3 };
                    1, structure 5, payload 34 (surface: vertex number; voxel: i in 11 bits, j in 11, k in 12).
                    Room for the sum of the lengths is always enough.
    work            all zero after every call. Room for the largest of the lengths is always enough.
-   answer          [0] the number, then ten numbers for each of three dimensions, as above. Refused: [0] the
-                   number and 30 zeros. With under 31 places only the returned number tells. */
+   answer          DZ_ANSWER numbers: the head and three dimensions, as above. Refused: all 0 but the number. With
+                   fewer places only the returned number tells. */
 uint64_t dz_read(const uint8_t *text, size_t text_len,
                  const uint64_t *lengths, size_t lengths_len,
                  uint64_t *records, size_t records_len,

@@ -28,7 +28,8 @@ import sys
 __all__ = ["read", "map_name", "find", "pack", "unpack", "unfold", "Answer", "Dimension", "STRUCTURES", "UNITS"]
 
 LENGTH_LIMIT = 1048576
-ANSWER = 31
+# An answer of dz_read, by the names of include/dzwonolin.h: a head, then the numbers of three dimensions.
+HEAD, DIMENSION, ANSWER = 4, 16, 52
 KINDS = (None, "brain", "series", "scalars")
 UNITS = ("SECOND", "HERTZ", "METER", "RADIAN")
 STRUCTURES = (
@@ -130,7 +131,7 @@ def call_map_name(text, lengths, dimension, index, part):
 
 
 def _dimension(numbers):
-    kind, length, start, begin, begin_places, step, step_places, exponent, unit, _ = numbers
+    kind, length, start, begin, begin_places, step, step_places, exponent, unit = numbers[:9]
     return Dimension(KINDS[kind], length, start, (_signed(begin), begin_places), (_signed(step), step_places),
                      _signed(exponent), unit)
 
@@ -147,7 +148,7 @@ def read(text, lengths, records=None, work=None):
     number = call_read(text, _numbers(lengths), records, work, answer)
     if number:
         return Answer(number, [], [])
-    dimensions = [_dimension(answer[at:at + 10]) for at in range(1, ANSWER, 10) if answer[at]]
+    dimensions = [_dimension(answer[at:at + DIMENSION]) for at in range(HEAD, ANSWER, DIMENSION) if answer[at]]
     filled = max((d.start + d.length for d in dimensions if d.kind == "brain"), default=0)
     return Answer(0, dimensions, records[:filled])
 

@@ -15,11 +15,13 @@ def numbers(pointer, length):
 
 
 def answer_numbers(answer):
-    """An answer of the oracle as the 31 numbers of dz_read."""
-    row = [answer.number]
+    """An answer of the oracle as the 52 numbers of dz_read."""
+    rows = [[answer.number] + [0] * 3]
     for one in answer.dimensions:
-        row += [KINDS[one.kind], one.length, one.start, *one.series_start, *one.series_step, one.exponent, one.unit, 0]
-    return [n % (1 << 64) for n in row + [0] * (31 - len(row))]
+        row = [KINDS[one.kind], one.length, one.start, *one.series_start, *one.series_step, one.exponent, one.unit]
+        rows.append(row + [0] * (16 - len(row)))
+    numbers = [n % (1 << 64) for row in rows for n in row]
+    return numbers + [0] * (52 - len(numbers))
 
 
 def store(slot, values):

@@ -77,7 +77,7 @@ int main(int argc, char **argv)
     }
     qsort(times, repeats, sizeof *times, compare_times);
     for (int d = 0; d < 3; d++) {
-        const uint64_t *one = answer + 1 + DZ_DIMENSION * d;
+        const uint64_t *one = answer + DZ_HEAD + DZ_DIMENSION * d;
         if (one[DZ_KIND] == DZ_BRAIN && one[DZ_START] + one[DZ_LENGTH] > filled)
             filled = one[DZ_START] + one[DZ_LENGTH];
     }

@@ -1,33 +1,39 @@
 -- The lines of dimensions and then of records; the card as a whole.
 use mathlib.Core.Path.{_≡_, refl, sym, ap, _∙_}
 use mathlib.Core.List.{List, [], _∷_, _++_, append-assoc}
+use mathlib.Core.Bool.{Bool, true, false, cond}
+use lib.Dec.{eqb}
 use Prim.Native.Nat.{ℕ, suc, _+_, _-_, _≤_, _<_}
 use native.Mathlib.Omega.{arith}
 use native.Mathlib.Numerals.{add-one}
 use borrow.Author.Needs.{needs}
 use lib.ListN.{length, getD, drop, List·getD-append}
-use Rattle.cifti.specs.Answer.{unused}
-use Rattle.cifti.specs.Said.{Says, no-dimension, brain, series, scalars, said}
+use Rattle.cifti.specs.Answer.{kindNumber, unused}
+use Rattle.cifti.specs.declared.answer.Dimension.{Dimension}
 use Rattle.cifti.specs.declared.answer.Answer.{Answer}
 use Rattle.card.specs.declared.line.Line.{Line}
 use Rattle.card.specs.declared.line.Line.the-variants.{Accepted, Refused, End}
-use Rattle.card.specs.Card.{dimensionLine, dimensionLines, recordLines, cardBy, dimensionsOf, card}
+use Rattle.card.specs.Theorems.{one-most}
+use Rattle.card.specs.Card.{mapLine, dimensionLine, dimensionLines, recordLines, cardBy, dimensionsOf, card}
 use Rattle.card.proofs.LawsLine.{from-each, none-left}
 use Rattle.card.proofs.LawsRecords.{past-front}
 
-same-count : (d : ℕ) (s : Says) → length (dimensionLine d s) ≡ length (dimensionLine 0 s)
+same-count : (d : ℕ) (x : Dimension) → length (dimensionLine d x) ≡ length (dimensionLine 0 x)
 unfolding dimensionLine
-same-count d no-dimension = refl
-same-count d (brain l s) = refl
-same-count d (series l s t e u) = refl
-same-count d (scalars l) = refl
+same-count d x = go (eqb (kindNumber (x .kind)) 0)
+  where
+    go : (b : Bool) → length (cond b [] (mapLine d x ∷ [])) ≡ length (cond b [] (mapLine 0 x ∷ []))
+    go true = refl
+    go false = refl
 
-at-most-one : (d : ℕ) (s : Says) → length (dimensionLine d s) ≤ 1
+-- the line of a dimension that has one
+its-line : (d : ℕ) (x : Dimension) → 0 < length (dimensionLine d x) → mapLine d x ≡ getD (dimensionLine d x) 0 End
 unfolding dimensionLine
-at-most-one d no-dimension = omega arith
-at-most-one d (brain l s) = omega arith
-at-most-one d (series l s t e u) = omega arith
-at-most-one d (scalars l) = omega arith
+its-line d x = go (eqb (kindNumber (x .kind)) 0)
+  where
+    go : (b : Bool) → 0 < length (cond b [] (mapLine d x ∷ [])) → mapLine d x ≡ getD (cond b [] (mapLine d x ∷ [])) 0 End
+    go true h = absurd (omega arith)
+    go false h = refl
 
 abbrev rest : Answer → List ℕ → List Line
 rest a records = recordLines 3 0 (dimensionsOf a) records
@@ -46,30 +52,32 @@ module _ (a : Answer) (records : List ℕ) (n : ℕ) where
     unfolding dimensionLines
     pass-done h e = e ∙ sym (passing .same ∙ rw (none-left a d h) refl)
 
-    module _ (more : d < 3) {lines : ℕ} (counted : lines ≡ length (dimensionLine 0 (said (getD (a .dimensions) d unused)))) where
+    module _ (more : d < 3) {lines : ℕ} (counted : lines ≡ length (dimensionLine 0 (getD (a .dimensions) d unused))) where
       these : List Line
-      these = dimensionLine d (said (getD (a .dimensions) d unused))
+      these = dimensionLine d (getD (a .dimensions) d unused)
 
       later : List Line
       later = dimensionLines (d + 1) (drop (d + 1) (dimensionsOf a)) ++ rest a records
 
       these-count : length these ≡ lines
       unfolding these
-      these-count = same-count d (said (getD (a .dimensions) d unused)) ∙ sym counted
+      these-count = same-count d (getD (a .dimensions) d unused) ∙ sym counted
 
       opened : getD (dimensionLines 0 (dimensionsOf a) ++ rest a records) n End ≡ getD (these ++ later) left End
       unfolding these later dimensionLines
       opened =
           passing .same
           ∙ rw (from-each a d more, add-one d)
-          (ap (λ z. getD z left End) (append-assoc (dimensionLine d (said (getD (a .dimensions) d unused))) (dimensionLines (suc d) (drop (suc d) (dimensionsOf a))) (rest a records)))
+          (ap (λ z. getD z left End) (append-assoc (dimensionLine d (getD (a .dimensions) d unused)) (dimensionLines (suc d) (drop (suc d) (dimensionsOf a))) (rest a records)))
 
-      pub pass-here : left < lines → {l : Line} → l ≡ getD (dimensionLine d (said (getD (a .dimensions) d unused))) 0 End → l ≡ getD (dimensionLines 0 (dimensionsOf a) ++ rest a records) n End
+      pub pass-here : left < lines → {l : Line} → l ≡ mapLine d (getD (a .dimensions) d unused) → l ≡ getD (dimensionLines 0 (dimensionsOf a) ++ rest a records) n End
       unfolding these
       pass-here h e =
-          let z : left ≡ 0 = omega (arith, these-count, at-most-one d (said (getD (a .dimensions) d unused))) in
+          let z : left ≡ 0 = omega (arith, these-count, one-most d (getD (a .dimensions) d unused)) in
           let u : left < length these = omega (arith, these-count) in
-          e ∙ sym (opened ∙ List·getD-append these later End left u ∙ ap (λ i. getD these i End) z)
+          e
+          ∙ its-line d (getD (a .dimensions) d unused) (omega (arith, these-count))
+          ∙ sym (opened ∙ List·getD-append these later End left u ∙ ap (λ i. getD these i End) z)
 
       pub pass-later : lines ≤ left → Passing a records n (left - lines) (d + 1)
       unfolding later

@@ -1,24 +1,23 @@
 -- The lines of the card, as the code meets them: a record's, a dimension's, and which stretch a place is in.
 use mathlib.Core.Path.{_≡_, refl, sym, ap, _∙_}
 use mathlib.Core.List.{[], _∷_}
-use mathlib.Core.Bool.{Bool, true, false, cond}
+use mathlib.Core.Bool.{Bool, true, false, _&&_, cond}
 use Prim.Native.Nat.{ℕ, zero, suc, _+_, _-_, _≤_, _<_}
 use native.Mathlib.Omega.{arith}
 use native.Mathlib.Numerals.{add-one}
 use borrow.Author.Needs.{needs}
+use borrow.Author.Tests.{ne-eqb}
 use lib.Dec.{eqb}
 use lib.ListN.{length, getD, drop, drop-of-length-le}
 use lib.Seq.{drop-cons}
 use Rattle.records.specs.Record.{isVoxel, structureOf, payloadOf, iOf, jOf, kOf, locationOf}
 use Rattle.records.specs.declared.counters.Index.{Index}
 use Rattle.records.specs.declared.counters.Vertex.{Vertex}
-use Rattle.cifti.specs.Said.{said, saidBy}
-use Rattle.cifti.specs.declared.answer.Kind.the-variants.{None, Brain, Series, Scalars}
-use Rattle.cifti.specs.Answer.{unused}
+use Rattle.cifti.specs.Answer.{kindNumber, hasStretch, unused}
 use Rattle.cifti.specs.declared.answer.Dimension.{Dimension}
 use Rattle.cifti.specs.declared.answer.Answer.{Answer}
 use Rattle.card.specs.declared.line.Line.the-variants as lines
-use Rattle.card.specs.Card.{locationLine, recordLine, dimensionLine, beginsAt, lengthFrom, dimensionsOf}
+use Rattle.card.specs.Card.{locationLine, recordLine, mapLine, dimensionLine, beginsAt, lengthFrom, dimensionsOf}
 
 -- ---- A record's line, from its parts.
 
@@ -33,58 +32,31 @@ module _ {index : Index} (r : ℕ) {b : Bool} (asked : b ≡ isVoxel r) where
 
 pub ruleset recordSteps = (voxel-line, surface-line, needs)
 
--- ---- A dimension's lines, by its kind.
+-- ---- A dimension's lines.
 
-module _ (d : Dimension) where
-  pub begins-none : (at : ℕ) → d .kind ≡ None → false ≡ beginsAt at (said d)
-  unfolding beginsAt said saidBy
-  begins-none at e = rw e refl
+module _ (d : ℕ) (x : Dimension) {b : Bool} (asked : b ≡ hasStretch (x .kind)) where
+  pub line-with : b ≡ true → lines.MapAt d (x .kind) (x .length) (x .start) ≡ mapLine d x
+  unfolding mapLine
+  line-with e = rw (sym asked ∙ e) refl
 
-  pub begins-brain : (at : ℕ) → d .kind ≡ Brain → eqb (d .start .0) at ≡ beginsAt at (said d)
-  unfolding beginsAt said saidBy
-  begins-brain at e = rw e refl
+  pub line-without : b ≡ false → lines.Map d (x .kind) (x .length) ≡ mapLine d x
+  unfolding mapLine
+  line-without e = rw (sym asked ∙ e) refl
 
-  pub begins-series : (at : ℕ) → d .kind ≡ Series → false ≡ beginsAt at (said d)
-  unfolding beginsAt said saidBy
-  begins-series at e = rw e refl
+module _ (x : Dimension) {n : ℕ} (asked : n ≡ kindNumber (x .kind)) where
+  pub no-line : n ≡ 0 → 0 ≡ length (dimensionLine 0 x)
+  unfolding dimensionLine
+  no-line e = rw (sym asked ∙ e) refl
 
-  pub begins-scalars : (at : ℕ) → d .kind ≡ Scalars → false ≡ beginsAt at (said d)
-  unfolding beginsAt said saidBy
-  begins-scalars at e = rw e refl
+  pub one-line : (n ≡ 0 → ⊥) → 1 ≡ length (dimensionLine 0 x)
+  unfolding dimensionLine
+  one-line h = rw (ne-eqb (kindNumber (x .kind)) 0 λ e. h (asked ∙ e)) refl
 
-  pub lines-none : d .kind ≡ None → 0 ≡ length (dimensionLine 0 (said d))
-  unfolding dimensionLine said saidBy
-  lines-none e = rw e refl
+pub begins : (x : Dimension) (at : ℕ) {b : Bool} → b ≡ hasStretch (x .kind) → (b && eqb (x .start .0) at) ≡ beginsAt at x
+unfolding beginsAt
+begins x at e = rw e refl
 
-  pub lines-brain : d .kind ≡ Brain → 1 ≡ length (dimensionLine 0 (said d))
-  unfolding dimensionLine said saidBy
-  lines-brain e = rw e refl
-
-  pub lines-series : d .kind ≡ Series → 1 ≡ length (dimensionLine 0 (said d))
-  unfolding dimensionLine said saidBy
-  lines-series e = rw e refl
-
-  pub lines-scalars : d .kind ≡ Scalars → 1 ≡ length (dimensionLine 0 (said d))
-  unfolding dimensionLine said saidBy
-  lines-scalars e = rw e refl
-
-  pub line-none : (n : ℕ) → d .kind ≡ None → lines.End ≡ getD (dimensionLine n (said d)) 0 lines.End
-  unfolding dimensionLine said saidBy
-  line-none n e = rw e refl
-
-  pub line-brain : (n : ℕ) → d .kind ≡ Brain → lines.Brain n (d .length) (d .start) ≡ getD (dimensionLine n (said d)) 0 lines.End
-  unfolding dimensionLine said saidBy
-  line-brain n e = rw e refl
-
-  pub line-series : (n : ℕ) → d .kind ≡ Series → lines.Series n (d .length) ≡ getD (dimensionLine n (said d)) 0 lines.End
-  unfolding dimensionLine said saidBy
-  line-series n e = rw e refl
-
-  pub line-scalars : (n : ℕ) → d .kind ≡ Scalars → lines.Scalars n (d .length) ≡ getD (dimensionLine n (said d)) 0 lines.End
-  unfolding dimensionLine said saidBy
-  line-scalars n e = rw e refl
-
-pub ruleset kindSteps = (begins-none, begins-brain, begins-series, begins-scalars, lines-none, lines-brain, lines-series, lines-scalars, line-none, line-brain, line-series, line-scalars, needs)
+pub ruleset kindSteps = (line-with, line-without, no-line, one-line, begins, needs)
 
 -- ---- The three dimensions.
 
@@ -110,7 +82,7 @@ module _ (a : Answer) where
   unfolding lengthFrom
   from-past at d h same = sym (same ∙ ap (lengthFrom at) (none-left d h))
 
-  module _ (at d : ℕ) (there : d < 3) (same : lengthFrom at (dimensionsOf a) ≡ lengthFrom at (drop d (dimensionsOf a))) {b : Bool} (asked : b ≡ beginsAt at (said (getD (a .dimensions) d unused))) where
+  module _ (at d : ℕ) (there : d < 3) (same : lengthFrom at (dimensionsOf a) ≡ lengthFrom at (drop d (dimensionsOf a))) {b : Bool} (asked : b ≡ beginsAt at (getD (a .dimensions) d unused)) where
     opened : lengthFrom at (dimensionsOf a) ≡ cond b (getD (a .dimensions) d unused .length) (lengthFrom at (drop (d + 1) (dimensionsOf a)))
     unfolding lengthFrom
     opened = same ∙ ap (lengthFrom at) (from-each d there) ∙ rw (sym asked) refl

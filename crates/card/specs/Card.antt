@@ -1,28 +1,27 @@
 -- THE MORNING CARD: the lines that an answer and its table of records give, in order.
 use mathlib.Core.List.{List, [], _∷_, _++_}
-use mathlib.Core.Bool.{Bool, false, cond}
+use mathlib.Core.Bool.{Bool, _&&_, cond}
 use Prim.Native.Nat.{ℕ, zero, suc, _+_}
 use lib.Dec.{eqb}
 use lib.ListN.{length, getD, take, drop}
 use Rattle.records.specs.Record.{Location, onSurface, inVolume, locationOf}
-use Rattle.cifti.specs.Said.{Says, no-dimension, brain, series, scalars, said}
-use Rattle.cifti.specs.Answer.{unused}
+use Rattle.cifti.specs.Answer.{kindNumber, hasStretch, unused}
 use Rattle.cifti.specs.declared.answer.Dimension.{Dimension}
 use Rattle.cifti.specs.declared.answer.Answer.{Answer}
 use Rattle.card.specs.declared.line.Line.{Line}
-use Rattle.card.specs.declared.line.Line.the-variants.{Accepted, Refused, Scalars, Series, Brain, Surface, Voxel}
+use Rattle.card.specs.declared.line.Line.the-variants.{Accepted, Refused, Map, MapAt, Surface, Voxel}
 
--- ---- One line for each dimension that exists, in order.
+-- ---- One line for each dimension that exists, in order: its kind and length, and where its stretch begins if it has one.
 
-unfoldable pub dimensionLine : (d : ℕ) → Says → List Line
-dimensionLine d no-dimension = []
-dimensionLine d (brain length start) = Brain d length (record { 0 = start }) ∷ []
-dimensionLine d (series length start step exponent unit) = Series d length ∷ []
-dimensionLine d (scalars length) = Scalars d length ∷ []
+unfoldable pub mapLine : (d : ℕ) → Dimension → Line
+mapLine d x = cond (hasStretch (x .kind)) (MapAt d (x .kind) (x .length) (x .start)) (Map d (x .kind) (x .length))
+
+unfoldable pub dimensionLine : (d : ℕ) → Dimension → List Line
+dimensionLine d x = cond (eqb (kindNumber (x .kind)) 0) [] (mapLine d x ∷ [])
 
 unfoldable pub dimensionLines : (d : ℕ) → List Dimension → List Line
 dimensionLines d [] = []
-dimensionLines d (x ∷ l) = dimensionLine d (said x) ++ dimensionLines (suc d) l
+dimensionLines d (x ∷ l) = dimensionLine d x ++ dimensionLines (suc d) l
 
 -- ---- The lines of records, stretch by stretch. A line begins with the index in the map, from 0 in each stretch.
 
@@ -38,15 +37,12 @@ numbered n [] = []
 numbered n (r ∷ l) = recordLine n r ∷ numbered (suc n) l
 
 -- how long the stretch is that begins at a place; two dimensions of one map tell the same stretch
-unfoldable pub beginsAt : (at : ℕ) → Says → Bool
-beginsAt at no-dimension = false
-beginsAt at (brain length start) = eqb start at
-beginsAt at (series length start step exponent unit) = false
-beginsAt at (scalars length) = false
+unfoldable pub beginsAt : (at : ℕ) → Dimension → Bool
+beginsAt at x = hasStretch (x .kind) && eqb (x .start .0) at
 
 unfoldable pub lengthFrom : (at : ℕ) → List Dimension → ℕ
 lengthFrom at [] = 0
-lengthFrom at (x ∷ l) = cond (beginsAt at (said x)) (x .length) (lengthFrom at l)
+lengthFrom at (x ∷ l) = cond (beginsAt at x) (x .length) (lengthFrom at l)
 
 -- The stretches stand one behind the other: the first begins at place 0, the next where the one before ends. `records` are those from the place `at` on.
 unfoldable pub recordLines : (stretches at : ℕ) → List Dimension → (records : List ℕ) → List Line
@@ -68,5 +64,5 @@ unfoldable pub card : Answer → (records : List ℕ) → List Line
 card a records = cardBy (a .number) (dimensionsOf a) records
 
 unfoldable pub cardWords : Unit {0}
-unfolding dimensionLine dimensionLines locationLine recordLine numbered beginsAt lengthFrom recordLines cardBy dimensionsOf card
+unfolding mapLine dimensionLine dimensionLines locationLine recordLine numbered beginsAt lengthFrom recordLines cardBy dimensionsOf card
 cardWords = tt

@@ -1,13 +1,15 @@
 -- How many lines a card has at most: `ok`, three dimensions, and one for each record lent.
 use mathlib.Core.Path.{_≡_, refl, ap}
 use mathlib.Core.List.{List, [], _∷_}
+use mathlib.Core.Bool.{Bool, true, false, cond}
+use lib.Dec.{eqb}
 use Prim.Native.Nat.{ℕ, zero, suc, _+_, _≤_}
 use native.Mathlib.Omega.{arith}
 use lib.ListN.{length, take, drop, length-append, length-take, length-drop}
-use Rattle.cifti.specs.Said.{Says, no-dimension, brain, series, scalars, said}
+use Rattle.cifti.specs.Answer.{kindNumber}
 use Rattle.cifti.specs.declared.answer.Dimension.{Dimension}
 use Rattle.cifti.specs.declared.answer.Answer.{Answer}
-use Rattle.card.specs.Card.{dimensionLine, dimensionLines, numbered, lengthFrom, recordLines, cardBy, dimensionsOf, card}
+use Rattle.card.specs.Card.{mapLine, dimensionLine, dimensionLines, numbered, lengthFrom, recordLines, cardBy, dimensionsOf, card}
 
 numbered-count : (n : ℕ) (l : List ℕ) → length (numbered n l) ≡ length l
 unfolding numbered
@@ -29,17 +31,18 @@ records-most (suc n) at l records =
       length-take (lengthFrom at l) records,
     )
 
-one-most : (d : ℕ) (s : Says) → length (dimensionLine d s) ≤ 1
+pub one-most : (d : ℕ) (x : Dimension) → length (dimensionLine d x) ≤ 1
 unfolding dimensionLine
-one-most d no-dimension = omega arith
-one-most d (brain l s) = omega arith
-one-most d (series l s t e u) = omega arith
-one-most d (scalars l) = omega arith
+one-most d x = go (eqb (kindNumber (x .kind)) 0)
+  where
+    go : (b : Bool) → length (cond b [] (mapLine d x ∷ [])) ≤ 1
+    go true = omega arith
+    go false = omega arith
 
 dimensions-most : (d : ℕ) (l : List Dimension) → length (dimensionLines d l) ≤ length l
 unfolding dimensionLines
 dimensions-most d [] = omega arith
-dimensions-most d (x ∷ l) = omega (arith, length-append (dimensionLine d (said x)) (dimensionLines (suc d) l), one-most d (said x), dimensions-most (suc d) l)
+dimensions-most d (x ∷ l) = omega (arith, length-append (dimensionLine d x) (dimensionLines (suc d) l), one-most d x, dimensions-most (suc d) l)
 
 pub lines-most : (a : Answer) (records : List ℕ) → length (card a records) ≤ 4 + length records
 unfolding card cardBy dimensionsOf

@@ -2,6 +2,8 @@
 use cifti::Answer;
 use cifti::Dimension;
 use cifti::Kind;
+use cifti::has_stretch;
+use cifti::kind_number;
 use records::Index;
 use records::Place;
 use records::Vertex;
@@ -9,22 +11,20 @@ ghost use mathlib.Core.Path.{_≡_};
 ghost use mathlib.Core.List.{_++_};
 ghost use Prim.Native.Nat.{min};
 ghost use lib.ListN.{length, getD};
-ghost use Rattle.cifti.specs.Said.{said};
-ghost use Rattle.card.specs.Card.{recordLine, dimensionLine, dimensionLines, beginsAt, lengthFrom, recordLines, dimensionsOf, card};
+ghost use Rattle.card.specs.Card.{recordLine, mapLine, dimensionLine, dimensionLines, beginsAt, lengthFrom, recordLines, dimensionsOf, card};
 
 pub enum Line {
     Accepted,
     Refused(u64),
-    Scalars {
+    Map {
         dimension: u64,
+        kind: Kind,
         length: u64,
     },
-    Series {
+    // With where its stretch begins.
+    MapAt {
         dimension: u64,
-        length: u64,
-    },
-    Brain {
-        dimension: u64,
+        kind: Kind,
         length: u64,
         start: Place,
     },
@@ -63,54 +63,43 @@ fn record_line(index: Index, r: u64) -> Line
     }
 }
 
-// The line of a dimension; End where there is no such dimension.
-fn dimension_line(d: u64, dimension: Dimension) -> Line
-    ensures { λ l. ⌜ l ≡ getD (dimensionLine d (said dimension)) 0 Line.End ⌝ }
+fn map_line(d: u64, dimension: Dimension) -> Line
+    ensures { λ l. ⌜ l ≡ mapLine d dimension ⌝ }
 {
     let kind = dimension.kind;
     let start = dimension.start;
-    match kind {
-        Kind::None => Line::End,
-        Kind::Brain => Line::Brain {
+    if has_stretch(kind) {
+        return Line::MapAt {
             dimension: d,
+            kind: kind,
             length: dimension.length,
             start: start,
-        },
-        Kind::Series => Line::Series {
-            dimension: d,
-            length: dimension.length,
-        },
-        Kind::Scalars => Line::Scalars {
-            dimension: d,
-            length: dimension.length,
-        },
+        };
+    }
+    Line::Map {
+        dimension: d,
+        kind: kind,
+        length: dimension.length,
     }
 }
 
 // How many lines a dimension has: one, or none where there is no such dimension.
 fn lines_of(dimension: Dimension) -> usize
-    ensures { λ n. ⌜ n ≡ length (dimensionLine 0 (said dimension)) ⌝ }
+    ensures { λ n. ⌜ n ≡ length (dimensionLine 0 dimension) ⌝ }
 {
     let kind = dimension.kind;
-    match kind {
-        Kind::None => 0,
-        Kind::Brain => 1,
-        Kind::Series => 1,
-        Kind::Scalars => 1,
+    if kind_number(kind) == 0 {
+        return 0;
     }
+    1
 }
 
 fn begins_at(dimension: Dimension, at: usize) -> bool
-    ensures { λ b. ⌜ b ≡ beginsAt at (said dimension) ⌝ }
+    ensures { λ b. ⌜ b ≡ beginsAt at dimension ⌝ }
 {
     let kind = dimension.kind;
     let start = dimension.start;
-    match kind {
-        Kind::None => false,
-        Kind::Brain => start.0 == at,
-        Kind::Series => false,
-        Kind::Scalars => false,
-    }
+    has_stretch(kind) & (start.0 == at)
 }
 
 // How long the stretch is that begins at `at`; 0 where none begins.
@@ -163,7 +152,7 @@ fn accepted_line(answer: Answer, records: &[u64], n: usize) -> Line
         let dimension = answer.dimensions[d];
         let lines = lines_of(dimension);
         if left < lines {
-            return dimension_line(d as u64, dimension);
+            return map_line(d as u64, dimension);
         }
         left -= lines;
         d += 1;

@@ -9,7 +9,7 @@ use borrow.Author.Needs.{needs}
 use borrow.Author.Tests.{lt-ltb, le-ltb, le-leb, lt-leb, leb-true, leb-false}
 use borrow.Rule.Slice.PartMut.{midOf, postOf, putMid}
 use lib.Dec.{leb}
-use lib.ListN.{length, take, drop, set, length-append, length-drop, drop-of-length-le}
+use lib.ListN.{length, take, drop, set, length-append, length-take, length-drop, drop-of-length-le}
 use lib.Seq.{take-all, take-length, take-at, drop-drop}
 use Rattle.io.specs.Digits as io
 use Rattle.io.specs.Counts.{Counts}
@@ -18,7 +18,8 @@ use Rattle.grammar.specs.Bytes.{ascii}
 use Rattle.grammar.specs.Look.{Word}
 use Rattle.numbers.specs.Cuts.{powers}
 use Rattle.records.specs.Fill.{wrote, wrote-on, wrote-one, length-wrote}
-use Rattle.card_text.specs.Written.{decimalIn, decimal, spaced, wordsOf, lineBytes, Writes, Puts, Spells}
+use Rattle.card_text.specs.Written.{decimalIn, decimal, spaced, kindWord, kindBytes, kind-bytes, wordsOf, lineBytes, Writes, Puts, Spells}
+use Rattle.cifti.specs.declared.answer.Kind.{Kind}
 use Rattle.card.specs.declared.line.Line.{Line}
 use Rattle.card.specs.declared.line.Line.the-variants as lines
 use Rattle.records.specs.declared.counters.Index.{Index}
@@ -162,6 +163,18 @@ module _ {s : List ℕ} (room : 128 ≤ length s) {u : Word} {s₁ : List ℕ} {
             let q₆ = spelling-next q₅ p₆ (omega (arith, q₅ .counted, p₅ .behind, p₅ .short)) in
             spelling-done (spaced (u ∷ v ∷ w ∷ x ∷ y ∷ z ∷ [])) (simp append-assoc) q₆ (omega (arith, p₅ .behind, p₅ .short, p₆ .behind, p₆ .short))
 
+-- ---- The word of a kind.
+
+module _ (k : Kind) (l : List ℕ) (n : ℕ) (told : (take n l ≡ kindBytes k) × ((n ≡ length (kindBytes k)) × (n ≤ 8))) where
+  pub kind-part : n ≡ length (take n l)
+  kind-part = told .1 .0 ∙ ap length (sym (told .0))
+
+  pub kind-room : n ≤ length l
+  kind-room = omega (arith, kind-part, length-take n l)
+
+pub put-kind : (k : Kind) {w : Word} → w ≡ kindBytes k → {at r : ℕ} {s t : List ℕ} → Puts w 32 at s r t → Puts (kindWord k) 32 at s r t
+put-kind k e p = rw (sym (kind-bytes k), sym e) p
+
 pub ruleset rowSteps = (one-word, two-words, three-words, four-words, six-words, needs)
 
 -- ---- A line, by its kind.
@@ -175,17 +188,15 @@ module _ {line : Line} {r : ℕ} {t : List ℕ} where
   unfolding lineBytes wordsOf
   spell-refused e p = rw e p
 
-  pub spell-scalars : {d l : ℕ} → line ≡ lines.Scalars d l → Spells (spaced (decimal d ∷ ascii "scalars" ∷ decimal l ∷ [])) r t → Spells (lineBytes line) r t
+  pub spell-map : {d n : ℕ} {k : Kind} → line ≡ lines.Map d k n → Spells (spaced (decimal d ∷ kindWord k ∷ decimal n ∷ [])) r t
+      → Spells (lineBytes line) r t
   unfolding lineBytes wordsOf
-  spell-scalars e p = rw e p
+  spell-map e p = rw e p
 
-  pub spell-series : {d l : ℕ} → line ≡ lines.Series d l → Spells (spaced (decimal d ∷ ascii "series" ∷ decimal l ∷ [])) r t → Spells (lineBytes line) r t
+  pub spell-map-at : {d n : ℕ} {k : Kind} {at : Place} → line ≡ lines.MapAt d k n at
+      → Spells (spaced (decimal d ∷ kindWord k ∷ decimal n ∷ decimal (at .0) ∷ [])) r t → Spells (lineBytes line) r t
   unfolding lineBytes wordsOf
-  spell-series e p = rw e p
-
-  pub spell-brain : {d l : ℕ} {at : Place} → line ≡ lines.Brain d l at → Spells (spaced (decimal d ∷ ascii "brain" ∷ decimal l ∷ decimal (at .0) ∷ [])) r t → Spells (lineBytes line) r t
-  unfolding lineBytes wordsOf
-  spell-brain e p = rw e p
+  spell-map-at e p = rw e p
 
   pub spell-surface : {n : Index} {s : ℕ} {v : Vertex} → line ≡ lines.Surface n s v → Spells (spaced (decimal (n .0) ∷ ascii "S" ∷ decimal s ∷ decimal (v .0) ∷ [])) r t → Spells (lineBytes line) r t
   unfolding lineBytes wordsOf
@@ -199,7 +210,7 @@ pub spell-end : {line : Line} (t : List ℕ) → line ≡ lines.End → Spells (
 unfolding lineBytes wordsOf spaced
 spell-end t e = rw e (record { counted = refl; short = omega arith; are = refl })
 
-pub ruleset spellSteps = (spell-accepted, spell-refused, spell-scalars, spell-series, spell-brain, spell-surface, spell-voxel, spell-end, needs)
+pub ruleset spellSteps = (spell-accepted, spell-refused, spell-map, spell-map-at, spell-surface, spell-voxel, spell-end, needs)
 
 -- ---- The line in the slice lent.
 

@@ -6,8 +6,7 @@ use Prim.Native.String.{String}
 use Rattle.lists.specs.Lists.{lists, eachIn}
 use Rattle.grammar.specs.Bytes.{ascii}
 use Rattle.records.specs.Record.{recordWords, onSurface, inVolume, recordOf}
-use Rattle.cifti.specs.Said.{said, saidBy}
-use Rattle.cifti.specs.Answer.{refusedWith, noSeries}
+use Rattle.cifti.specs.Answer.{refusedWith, dimensionBy, noSeries}
 use Rattle.cifti.specs.Theorems.{answerOf, recordsOf}
 use Rattle.cifti.specs.CaseA.{caseA}
 use Rattle.cifti.specs.Cases.{cases, three}
@@ -23,7 +22,7 @@ lined l = eachIn (λ s. ascii s ++ (10 ∷ [])) l
 
 pub case-a : cardBytes (answerOf caseA (2 ∷ 3 ∷ []) three three) (recordsOf caseA (2 ∷ 3 ∷ []) three three)
     ≡ lined ("ok" ∷ "0 scalars 2" ∷ "1 brain 3 0" ∷ "0 S 18 4" ∷ "1 S 18 1" ∷ "2 V 6 2 3 5" ∷ [])
-unfolding cases cardWords writtenWords said saidBy
+unfolding cases cardWords writtenWords
 case-a = refl
 
 -- A refusal prints `refused N` alone, whatever the records hold.
@@ -34,9 +33,9 @@ refusal-alone = refl
 -- One map on the dimensions 0 and 2, which stands second in the text, and one on dimension 1: two lines with one start, its records once, after those of the map before it,
 -- each counted from 0.
 abbrev pub brainAt : (length start : ℕ) → Dimension
-brainAt n at = record { kind = kinds.Brain; length = n; start = record { 0 = at }; series = noSeries }
+brainAt n at = dimensionBy kinds.Brain n at noSeries
 
 pub in-text-order : cardBytes (record { number = 0; dimensions = brainAt 2 1 ∷ brainAt 1 0 ∷ brainAt 2 1 ∷ [] }) (recordOf (onSurface 17 40) ∷ recordOf (onSurface 18 7) ∷ recordOf (inVolume 11 9 8 4095) ∷ 9 ∷ [])
     ≡ lined ("ok" ∷ "0 brain 2 1" ∷ "1 brain 1 0" ∷ "2 brain 2 1" ∷ "0 S 17 40" ∷ "0 S 18 7" ∷ "1 V 11 9 8 4095" ∷ [])
-unfolding lists recordWords cardWords writtenWords said saidBy
+unfolding lists recordWords cardWords writtenWords
 in-text-order = refl

@@ -1,5 +1,5 @@
 -- THE BYTES OF THE CARD: each line is words with single spaces, and ends with a line feed.
-use mathlib.Core.Path.{_≡_}
+use mathlib.Core.Path.{_≡_, refl}
 use mathlib.Core.List.{List, [], _∷_, _++_}
 use mathlib.Core.Bool.{cond}
 use Prim.Native.Nat.{ℕ, zero, suc, _+_, _/_, _%_, _≤_}
@@ -9,10 +9,12 @@ use Rattle.lists.specs.Lists.{eachIn}
 use Rattle.grammar.specs.Bytes.{ascii}
 use Rattle.grammar.specs.Look.{Word}
 use Rattle.records.specs.Fill.{wrote}
+use Rattle.cifti.specs.declared.answer.Kind.{Kind}
+use Rattle.cifti.specs.declared.answer.Kind.the-variants.{None, Brain, Series, Scalars}
 use Rattle.cifti.specs.declared.answer.Answer.{Answer}
 use Rattle.card.specs.Card.{card}
 use Rattle.card.specs.declared.line.Line.{Line}
-use Rattle.card.specs.declared.line.Line.the-variants.{Accepted, Refused, Scalars, Series, Brain, Surface, Voxel, End}
+use Rattle.card.specs.declared.line.Line.the-variants.{Accepted, Refused, Map, MapAt, Surface, Voxel, End}
 
 -- a number of at most so many digits, without leading zeros
 unfoldable pub decimalIn : (most : ℕ) → ℕ → Word
@@ -28,12 +30,31 @@ spaced [] = []
 spaced (w ∷ []) = w ++ (10 ∷ [])
 spaced (w ∷ v ∷ l) = w ++ (32 ∷ spaced (v ∷ l))
 
+-- the word of each kind; no line is of kind None
+abbrev pub kindWord : Kind → Word
+kindWord None = []
+kindWord Brain = ascii "brain"
+kindWord Series = ascii "series"
+kindWord Scalars = ascii "scalars"
+
+-- the same, byte by byte, as the code has it
+abbrev pub kindBytes : Kind → Word
+kindBytes None = []
+kindBytes Brain = 98 ∷ 114 ∷ 97 ∷ 105 ∷ 110 ∷ []
+kindBytes Series = 115 ∷ 101 ∷ 114 ∷ 105 ∷ 101 ∷ 115 ∷ []
+kindBytes Scalars = 115 ∷ 99 ∷ 97 ∷ 108 ∷ 97 ∷ 114 ∷ 115 ∷ []
+
+pub kind-bytes : (k : Kind) → kindBytes k ≡ kindWord k
+kind-bytes None = refl
+kind-bytes Brain = refl
+kind-bytes Series = refl
+kind-bytes Scalars = refl
+
 unfoldable pub wordsOf : Line → List Word
 wordsOf Accepted = ascii "ok" ∷ []
 wordsOf (Refused number) = ascii "refused" ∷ decimal number ∷ []
-wordsOf (Scalars d length) = decimal d ∷ ascii "scalars" ∷ decimal length ∷ []
-wordsOf (Series d length) = decimal d ∷ ascii "series" ∷ decimal length ∷ []
-wordsOf (Brain d length start) = decimal d ∷ ascii "brain" ∷ decimal length ∷ decimal (start .0) ∷ []
+wordsOf (Map d kind length) = decimal d ∷ kindWord kind ∷ decimal length ∷ []
+wordsOf (MapAt d kind length start) = decimal d ∷ kindWord kind ∷ decimal length ∷ decimal (start .0) ∷ []
 wordsOf (Surface index structure vertex) = decimal (index .0) ∷ ascii "S" ∷ decimal structure ∷ decimal (vertex .0) ∷ []
 wordsOf (Voxel index structure i j k) = decimal (index .0) ∷ ascii "V" ∷ decimal structure ∷ decimal i ∷ decimal j ∷ decimal k ∷ []
 wordsOf End = []

@@ -1,11 +1,19 @@
 // The bytes of a line.
 use card::Line;
+use cifti::Kind;
+ghost use mathlib.Core.Path.{_≡_};
 ghost use mathlib.Core.List.{[], _∷_};
 ghost use Prim.Native.Nat.{_+_, _≤_};
-ghost use lib.ListN.{length};
+ghost use lib.ListN.{length, take};
 ghost use Rattle.io.specs.Counts.{Counts};
 ghost use Rattle.grammar.specs.Bytes.{ascii};
-ghost use Rattle.card_text.specs.Written.{decimal, spaced, lineBytes, Puts, Spells, Writes};
+ghost use Rattle.card_text.specs.Written.{decimal, spaced, kindWord, kindBytes, lineBytes, Puts, Spells, Writes};
+
+// The first `count` letters are a word.
+struct Letters {
+    letters: [u8; 8],
+    count: usize,
+}
 
 // A word and the byte behind it; answers the place behind both.
 fn put_word(out: &mut [u8], at: usize, word: &[u8], then: u8) -> usize
@@ -35,23 +43,66 @@ fn refused_row(out: &mut [u8], number: u64) -> usize
     put_number(out, at, number, b'\n')
 }
 
-fn row_of_one(out: &mut [u8], first: u64, word: &[u8], a: u64) -> usize
-    requires { ⌜ (128 ≤ length (now out)) × (length (now word) ≤ 20) ⌝ }
-    ensures { λ r. ⌜ Spells (spaced (decimal first ∷ now (word .entry) ∷ decimal a ∷ [])) r (now (out .exit)) ⌝ }
+// The word of a kind; no line is of kind None.
+fn kind_word(kind: Kind) -> Letters
+    ensures { λ w. ⌜ (take (w .count) (w .letters) ≡ kindBytes kind) × ((w .count ≡ length (kindBytes kind)) × (w .count ≤ 8)) ⌝ }
 {
-    let second = put_number(out, 0, first, b' ');
-    let third = put_word(out, second, word, b' ');
-    put_number(out, third, a, b'\n')
+    match kind {
+        Kind::None => Letters {
+            letters: *b"        ",
+            count: 0,
+        },
+        Kind::Brain => Letters {
+            letters: *b"brain   ",
+            count: 5,
+        },
+        Kind::Series => Letters {
+            letters: *b"series  ",
+            count: 6,
+        },
+        Kind::Scalars => Letters {
+            letters: *b"scalars ",
+            count: 7,
+        },
+    }
 }
 
-fn row_of_two(out: &mut [u8], first: u64, word: &[u8], a: u64, b: u64) -> usize
-    requires { ⌜ (128 ≤ length (now out)) × (length (now word) ≤ 20) ⌝ }
-    ensures { λ r. ⌜ Spells (spaced (decimal first ∷ now (word .entry) ∷ decimal a ∷ decimal b ∷ [])) r (now (out .exit)) ⌝ }
+fn put_kind(out: &mut [u8], at: usize, kind: Kind) -> usize
+    requires { ⌜ at + 21 ≤ length (now out) ⌝ }
+    ensures { λ r. ⌜ Puts (kindWord kind) 32 at (now (out .entry)) r (now (out .exit)) ⌝ }
 {
-    let second = put_number(out, 0, first, b' ');
-    let third = put_word(out, second, word, b' ');
-    let fourth = put_number(out, third, a, b' ');
-    put_number(out, fourth, b, b'\n')
+    let word = kind_word(kind);
+    let letters = word.letters;
+    put_word(out, at, &letters[..word.count], b' ')
+}
+
+fn map_row(out: &mut [u8], dimension: u64, kind: Kind, size: u64) -> usize
+    requires { ⌜ 128 ≤ length (now out) ⌝ }
+    ensures { λ r. ⌜ Spells (spaced (decimal dimension ∷ kindWord kind ∷ decimal size ∷ [])) r (now (out .exit)) ⌝ }
+{
+    let second = put_number(out, 0, dimension, b' ');
+    let third = put_kind(out, second, kind);
+    put_number(out, third, size, b'\n')
+}
+
+fn map_at_row(out: &mut [u8], dimension: u64, kind: Kind, size: u64, start: u64) -> usize
+    requires { ⌜ 128 ≤ length (now out) ⌝ }
+    ensures { λ r. ⌜ Spells (spaced (decimal dimension ∷ kindWord kind ∷ decimal size ∷ decimal start ∷ [])) r (now (out .exit)) ⌝ }
+{
+    let second = put_number(out, 0, dimension, b' ');
+    let third = put_kind(out, second, kind);
+    let fourth = put_number(out, third, size, b' ');
+    put_number(out, fourth, start, b'\n')
+}
+
+fn surface_row(out: &mut [u8], index: u64, structure: u64, vertex: u64) -> usize
+    requires { ⌜ 128 ≤ length (now out) ⌝ }
+    ensures { λ r. ⌜ Spells (spaced (decimal index ∷ ascii "S" ∷ decimal structure ∷ decimal vertex ∷ [])) r (now (out .exit)) ⌝ }
+{
+    let second = put_number(out, 0, index, b' ');
+    let third = put_word(out, second, b"S", b' ');
+    let fourth = put_number(out, third, structure, b' ');
+    put_number(out, fourth, vertex, b'\n')
 }
 
 fn voxel_row(out: &mut [u8], index: u64, structure: u64, i: u64, j: u64, k: u64) -> usize
@@ -74,18 +125,22 @@ fn spell(line: Line, out: &mut [u8]) -> usize
     match line {
         Line::Accepted => put_word(out, 0, b"ok", b'\n'),
         Line::Refused(number) => refused_row(out, number),
-        Line::Scalars { dimension, length } => row_of_one(out, dimension, b"scalars", length),
-        Line::Series { dimension, length } => row_of_one(out, dimension, b"series", length),
-        Line::Brain {
+        Line::Map {
             dimension,
+            kind,
+            length,
+        } => map_row(out, dimension, kind, length),
+        Line::MapAt {
+            dimension,
+            kind,
             length,
             start,
-        } => row_of_two(out, dimension, b"brain", length, start.0 as u64),
+        } => map_at_row(out, dimension, kind, length, start.0 as u64),
         Line::Surface {
             index,
             structure,
             vertex,
-        } => row_of_two(out, index.0, b"S", structure, vertex.0),
+        } => surface_row(out, index.0, structure, vertex.0),
         Line::Voxel {
             index,
             structure,

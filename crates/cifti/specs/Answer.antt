@@ -3,20 +3,20 @@ use mathlib.Core.Path.{_≡_}
 use mathlib.Core.List.{List, [], _∷_, _++_}
 use mathlib.Core.Option.{Option, some}
 use mathlib.Core.Option
-use mathlib.Core.Bool.{cond}
+use mathlib.Core.Bool.{Bool, true, false, cond}
 use Prim.Native.Nat.{ℕ, zero, suc, _+_, _-_}
 use lib.Dec.{eqb}
 use lib.IntN.{pos}
 use lib.ListN.{length, getD, drop, replicate}
 use Rattle.lists.specs.Lists.{any, each, eachIn, table}
 use Rattle.grammar.specs.Document.{Element}
-use Rattle.numbers.specs.Numbers as Numbers
+use Rattle.numbers.specs.Numbers.{noDecimal}
 use Rattle.records.specs.Record.{recordOf}
 use Rattle.cifti.specs.Maps.{Model, Content, Map, mapsOf, models, brainMaps, lengthOf, lengthBy, covers, locations}
 use Rattle.cifti.specs.Conditions.{refusal}
 use Rattle.cifti.specs.Text.{Answers}
+use Rattle.cifti.specs.declared.answer.Kind.{Kind}
 use Rattle.cifti.specs.declared.answer.Kind.the-variants.{None, Brain, Series, Scalars}
-use Rattle.cifti.specs.declared.answer.Decimal.{Decimal}
 use Rattle.cifti.specs.declared.answer.Series as S
 use Rattle.cifti.specs.declared.answer.Dimension.{Dimension}
 use Rattle.cifti.specs.declared.answer.Answer.{Answer}
@@ -40,20 +40,33 @@ filledWith new old = new ++ drop (length new) old
 
 -- ---- The answer: number 0, and per dimension kind, length, stretch start, and for series start, step, exponent and unit. What does not apply is 0.
 
-unfoldable pub asDecimal : Numbers.Decimal → Decimal
-asDecimal d = record { amount = d .amount; places = d .places }
+-- the kinds, numbered; 0: there is no such dimension
+abbrev pub kindNumber : Kind → ℕ
+kindNumber None = 0
+kindNumber Brain = 1
+kindNumber Series = 2
+kindNumber Scalars = 3
+
+abbrev pub hasStretch : Kind → Bool
+hasStretch None = false
+hasStretch Brain = true
+hasStretch Series = false
+hasStretch Scalars = false
 
 abbrev pub noSeries : S.Series
-noSeries = record { start = record { amount = pos 0; places = 0 }; step = record { amount = pos 0; places = 0 }; exponent = pos 0; unit = 0 }
+noSeries = record { start = noDecimal; step = noDecimal; exponent = pos 0; unit = 0 }
+
+abbrev pub dimensionBy : Kind → (length start : ℕ) → S.Series → Dimension
+dimensionBy kind length start series = record { kind = kind; length = length; start = record { 0 = start }; series = series }
 
 abbrev pub unused : Dimension
-unused = record { kind = None; length = 0; start = record { 0 = 0 }; series = noSeries }
+unused = dimensionBy None 0 0 noSeries
 
 -- what the answer says of a map whose stretch begins at `at`, if it has one
 unfoldable pub described : (at : ℕ) → Content → Dimension
-described at (Content.brain v l) = record { kind = Brain; length = lengthBy (Content.brain v l); start = record { 0 = at }; series = noSeries }
-described at (Content.series n a b x u) = record { kind = Series; length = n; start = record { 0 = 0 }; series = record { start = asDecimal a; step = asDecimal b; exponent = x; unit = u } }
-described at (Content.scalars n) = record { kind = Scalars; length = n; start = record { 0 = 0 }; series = noSeries }
+described at (Content.brain v l) = dimensionBy Brain (lengthBy (Content.brain v l)) at noSeries
+described at (Content.series n a b x u) = dimensionBy Series n 0 (record { start = a; step = b; exponent = x; unit = u })
+described at (Content.scalars n) = dimensionBy Scalars n 0 noSeries
 
 -- how many places a map's stretch takes
 unfoldable pub reach : Content → ℕ
@@ -103,5 +116,5 @@ pub record Reads (text lengths records work : List ℕ) (answer : Answer) (after
   pub cleared : workAfter ≡ replicate (length work) 0
 
 unfoldable pub answerWords : Unit {0}
-unfolding recordAt stretch stretches filledWith asDecimal described reach dimensionAt acceptedWith mapsIn answerBy recordsBy answerTo recordsAfter
+unfolding recordAt stretch stretches filledWith described reach dimensionAt acceptedWith mapsIn answerBy recordsBy answerTo recordsAfter
 answerWords = tt

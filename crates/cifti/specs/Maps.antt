@@ -8,7 +8,8 @@ use lib.ListN.{length}
 use Rattle.lists.specs.Lists.{those, total, each, eachIn}
 use Rattle.grammar.specs.Document.{Element}
 use Rattle.grammar.specs.Look.{attr, has, children, textOf}
-use Rattle.numbers.specs.Numbers.{value, values, commaValues, exponentValue, Decimal, decimalValue}
+use Rattle.numbers.specs.Numbers.{value, values, commaValues, exponentValue, decimalValue}
+use Rattle.numbers.specs.declared.Decimal.{Decimal}
 use Rattle.records.specs.Record.{Location, onSurface, inVolume}
 use Rattle.cifti.specs.Words.{structures, units, numberIn}
 

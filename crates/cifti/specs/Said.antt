@@ -9,12 +9,12 @@ use lib.Dec.{eqb}
 use lib.IntN.{ℤ}
 use lib.ListN.{length, getD, List·getD-append}
 use lib.Seq.{getD-append-add}
+use Rattle.numbers.specs.declared.Decimal.{Decimal}
 use Rattle.lists.specs.Lists.{any, total, eachIn, those, countUp, table}
 use Rattle.cifti.specs.Maps.{Content, Map, models, brainMaps, lengthOf, lengthBy, isBrainBy}
-use Rattle.cifti.specs.Answer.{recordAt, stretch, stretches, asDecimal, described, reach, dimensionAt}
+use Rattle.cifti.specs.Answer.{recordAt, stretch, stretches, described, reach, dimensionAt}
 use Rattle.cifti.specs.declared.answer.Kind.{Kind}
 use Rattle.cifti.specs.declared.answer.Kind.the-variants.{None, Brain, Series, Scalars}
-use Rattle.cifti.specs.declared.answer.Decimal.{Decimal}
 use Rattle.cifti.specs.declared.answer.Dimension.{Dimension}
 
 -- kind, length, stretch start, and for series start, step, exponent and unit
@@ -37,7 +37,7 @@ said d = saidBy (d .kind) d
 
 unfoldable pub saysOf : (at : ℕ) → Content → Says
 saysOf at (Content.brain v l) = brain (lengthBy (Content.brain v l)) at
-saysOf at (Content.series n a b x u) = series n (asDecimal a) (asDecimal b) x u
+saysOf at (Content.series n a b x u) = series n a b x u
 saysOf at (Content.scalars n) = scalars n
 
 pub said-of : (at : ℕ) (c : Content) → said (described at c) ≡ saysOf at c

@@ -2,8 +2,13 @@
 mod answer;
 
 pub use answer::Answer;
-pub use answer::Decimal;
 pub use answer::Dimension;
 pub use answer::Kind;
 pub use answer::Series;
+pub use answer::dimension_by;
+pub use answer::has_stretch;
+pub use answer::kind_number;
+pub use answer::no_series;
 pub use answer::refused;
+pub use answer::unused;
+pub use numbers::Decimal;

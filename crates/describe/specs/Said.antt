@@ -13,7 +13,7 @@ use borrow.Author.Needs.{needs}
 use Rattle.lists.specs.Lists.{any, count}
 use Rattle.nodes.specs.Places.{the}
 use Rattle.cifti.specs.Maps.{Content, brain, series, scalars, Map, mapOf, contentOf, seriesOf, dimensionsOf, lengthOf, lengthBy}
-use Rattle.cifti.specs.Answer.{noSeries, unused, described, reach, dimensionAt, acceptedWith}
+use Rattle.cifti.specs.Answer.{noSeries, dimensionBy, unused, described, reach, dimensionAt, acceptedWith}
 use Rattle.cifti.specs.declared.answer.Kind.{Kind}
 use Rattle.cifti.specs.declared.answer.Kind.the-variants.{None, Brain, Series, Scalars}
 use Rattle.cifti.specs.declared.answer.Series as S
@@ -31,19 +31,13 @@ use Rattle.describe.specs.Listing.{listed-some, listed-none}
 use Rattle.describe.specs.declared.said.Said.{Said}
 
 abbrev pub brainSaid : (length start : ℕ) → Dimension
-brainSaid n s = record { kind = Brain; length = n; start = record { 0 = s }; series = noSeries }
+brainSaid n s = dimensionBy Brain n s noSeries
 
 abbrev pub seriesDimension : ℕ → S.Series → Dimension
-seriesDimension n s = record { kind = Series; length = n; start = record { 0 = 0 }; series = s }
+seriesDimension n s = dimensionBy Series n 0 s
 
 abbrev pub scalarsSaid : ℕ → Dimension
-scalarsSaid n = record { kind = Scalars; length = n; start = record { 0 = 0 }; series = noSeries }
-
-pub made : (k : Kind) (n s : ℕ) {x y : S.Series} → x ≡ y
-    → _≡_ {A = Dimension} (record { kind = k; length = n; start = record { 0 = s }; series = x }) (record { kind = k; length = n; start = record { 0 = s }; series = y })
-made k n s e = rw e refl
-
-pub ruleset making = (made, needs)
+scalarsSaid n = dimensionBy Scalars n 0 noSeries
 
 -- ---- One map.
 

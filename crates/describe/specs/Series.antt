@@ -16,30 +16,22 @@ use Rattle.nodes.specs.Attributes.{place}
 use Rattle.nodes.specs.Values.{value-there}
 use Rattle.nodes.specs.declared.Found.{Found}
 use Rattle.nodes.specs.declared.Found.the-variants.{At, Nothing}
-use Rattle.numbers.specs.Numbers.{numbers, decimal, decimalValue, exponent, exponentValue}
-use Rattle.numbers.specs.Answers.{scaled, decimalIn, exponentIn}
-use Rattle.numbers.specs.declared.Scaled.{Scaled}
+use Rattle.numbers.specs.Numbers.{numbers, decimal, decimalValue, noDecimal, exponent, exponentValue}
+use Rattle.numbers.specs.Answers.{decimalIn, exponentIn}
+use Rattle.numbers.specs.declared.Decimal.{Decimal}
 use Rattle.numbers.specs.declared.Decimals.{Decimals}
 use Rattle.numbers.specs.declared.Decimals.the-variants as decimals
 use Rattle.numbers.specs.declared.Exponent.{Exponent}
 use Rattle.numbers.specs.declared.Exponent.the-variants as exponents
 use Rattle.cifti.specs.Words.{units, numberIn}
 use Rattle.cifti.specs.Rows as kinds
-use Rattle.cifti.specs.Answer.{asDecimal}
-use Rattle.cifti.specs.declared.answer.Decimal.{Decimal}
 use Rattle.cifti.specs.declared.answer.Series as S
 use Rattle.maps.specs.Good.{Good}
 use Rattle.maps.specs.Kinds.{SeriesFacts, series-facts}
 use Rattle.maps.specs.Fields.{wordAt, word-at, found-value, found-none}
 
-abbrev pub asWritten : Scaled → Decimal
-asWritten s = record { amount = s .amount; places = s .places }
-
-abbrev pub noDecimal : Decimal
-noDecimal = record { amount = pos 0; places = 0 }
-
 unfoldable pub orNoDecimal : Decimals → Decimal
-orNoDecimal (decimals.Is s) = asWritten s
+orNoDecimal (decimals.Is d) = d
 orNoDecimal decimals.No = noDecimal
 
 -- the decimal, zero where there is none
@@ -53,8 +45,8 @@ orNoExponent exponents.No = pos 0
 unfoldable pub exponentSeen : Word → ℤ
 exponentSeen w = orNoExponent (exponentIn 30 w)
 
-decimal-seen : (w : Word) → decimal w ≡ true → decimalSeen w ≡ asDecimal (decimalValue w)
-unfolding decimalSeen orNoDecimal decimalIn scaled asDecimal
+decimal-seen : (w : Word) → decimal w ≡ true → decimalSeen w ≡ decimalValue w
+unfolding decimalSeen orNoDecimal decimalIn
 decimal-seen w h = rw h refl
 
 exponent-seen : (w : Word) → exponent 30 w ≡ true → exponentSeen w ≡ exponentValue w
@@ -64,9 +56,9 @@ exponent-seen w h = rw h refl
 -- ---- The attributes.
 
 module _ {text : List ℕ} {at : ℕ} (w : List ℕ) (st : Stands text at) {f : Found} (e : f ≡ place text at w) where
-  pub decimal-is : {v : ℕ} {a : Decimals} {d : Scaled} {r : Decimal} → f ≡ At v → a ≡ decimalIn (value-there text v) → a ≡ decimals.Is d → r ≡ asWritten d → r ≡ decimalSeen (wordAt w (the text at))
+  pub decimal-is : {v : ℕ} {a : Decimals} {d : Decimal} → f ≡ At v → a ≡ decimalIn (value-there text v) → a ≡ decimals.Is d → d ≡ decimalSeen (wordAt w (the text at))
   unfolding decimalSeen orNoDecimal
-  decimal-is h p q k = k ∙ sym (ap (λ x. orNoDecimal (decimalIn x)) (sym (found-value w st e h)) ∙ ap orNoDecimal (sym p ∙ q))
+  decimal-is h p q = sym (ap (λ x. orNoDecimal (decimalIn x)) (sym (found-value w st e h)) ∙ ap orNoDecimal (sym p ∙ q))
 
   pub decimal-no : {v : ℕ} {a : Decimals} {r : Decimal} → f ≡ At v → a ≡ decimalIn (value-there text v) → a ≡ decimals.No → r ≡ noDecimal → r ≡ decimalSeen (wordAt w (the text at))
   unfolding decimalSeen orNoDecimal
@@ -136,8 +128,8 @@ series-stands s = s .stands
 
 unfoldable pub seriesSaid : Element → S.Series
 seriesSaid e = record {
-  start = asDecimal (decimalValue (attr "SeriesStart" e));
-  step = asDecimal (decimalValue (attr "SeriesStep" e));
+  start = decimalValue (attr "SeriesStart" e);
+  step = decimalValue (attr "SeriesStep" e);
   exponent = exponentValue (attr "SeriesExponent" e);
   unit = numberIn units (attr "SeriesUnit" e);
 }

@@ -8,18 +8,17 @@ use borrow.Author.Tests.{le-leb, lt-leb, le-ltb}
 use lib.Dec.{T, ltb}
 use lib.IntN.{ℤ, pos, negsuc, natAbs, _-ℤ_}
 use lib.Signed.{ltZ, nonNeg}
-use lib.ListN.{length, getD, set}
-use lib.Seq.{sets-eq}
-use native.Mathlib.Numerals.{add-one, add-two, add-three, add-four, add-five, add-six}
+use lib.ListN.{length, getD, set, take, replicate, length-take}
+use lib.Seq.{take-all}
+use borrow.Author.Needs.{needs}
 use mir.Syntax.{w64}
 use mir.Val.{Fits, SFits, toZ, ofZ}
 use mir.ValLaws.{toZ-ofZ}
-use Rattle.records.specs.Fill.{wrote, wrote-on, wrote-one}
-use Rattle.cifti.specs.Answer.{filledWith, unused}
-use Rattle.cifti.specs.declared.answer.Series.{Series}
+use Rattle.records.specs.Fill.{wrote, wrote-none, wrote-on, wrote-next, length-wrote}
+use Rattle.cifti.specs.Answer.{kindNumber, filledWith, unused}
 use Rattle.cifti.specs.declared.answer.Dimension.{Dimension}
 use Rattle.cifti.specs.declared.answer.Answer.{Answer}
-use Rattle.flat.specs.Flat.{complement, kindNumber, seriesNumbers, dimensionNumbers, answerNumbers, told}
+use Rattle.flat.specs.Flat.{complement, dimensionNumbers, headNumbers, answerNumbers, told}
 
 -- ---- Two's complement.
 
@@ -87,33 +86,55 @@ told-all v s h = let e : 0 + length v ≡ length v = omega arith in rw (le-leb (
 
 -- ---- Store by store.
 
-module _ (s : Series) (l : List ℕ) (at : ℕ) (room : at + 7 ≤ length l) {a b x : ℕ} where
-  pub series-stored : a ≡ complement (s .start .amount) → b ≡ complement (s .step .amount) → x ≡ complement (s .exponent)
-      → set (set (set (set (set (set (set l at a) (at + 1) (s .start .places)) (at + 2) b) (at + 3) (s .step .places)) (at + 4) x) (at + 5) (s .unit)) (at + 6) 0 ≡ wrote at (seriesNumbers s) l
-  series-stored p q r = rw (p, q, r, add-one, add-two, add-three, add-four, add-five, add-six) (sets-eq (seriesNumbers s) l at room)
+-- the number of the kind, amounts and exponent come from calls; the rest is read off
+pub dimension-stored : (d : Dimension) {k a b x : ℕ} → k ≡ kindNumber (d .kind)
+    → a ≡ complement (d .series .start .amount) → b ≡ complement (d .series .step .amount) → x ≡ complement (d .series .exponent)
+    → k ∷ d .length ∷ d .start .0 ∷ a ∷ d .series .start .places ∷ b ∷ d .series .step .places ∷ x ∷ d .series .unit ∷ replicate 7 0
+    ≡ dimensionNumbers d
+dimension-stored d p q r s = rw (p, q, r, s) refl
 
-front : Dimension → List ℕ
-front d = kindNumber (d .kind) ∷ d .length ∷ d .start .0 ∷ []
+-- ---- Row by row.
 
-module _ (d : Dimension) (l : List ℕ) (at : ℕ) (room : at + 10 ≤ length l) where
-  front-stored : {k : ℕ} → k ≡ kindNumber (d .kind) → set (set (set l at k) (at + 1) (d .length)) (at + 2) (d .start .0) ≡ wrote at (front d) l
-  unfolding front
-  front-stored p = rw (p, add-one, add-two) (sets-eq (front d) l at (omega arith))
+pub record Putting (at : ℕ) (row start : List ℕ) (i : ℕ) (slice : List ℕ) : Type 0 where
+  pub room : at + length row ≤ length start
+  pub inside : i ≤ length row
+  pub filled : slice ≡ wrote at (take i row) start
 
-  pub dimension-stored : {k : ℕ} {m : List ℕ} → k ≡ kindNumber (d .kind) → m ≡ wrote (at + 3) (seriesNumbers (d .series)) (set (set (set l at k) (at + 1) (d .length)) (at + 2) (d .start .0))
-      → m ≡ wrote at (dimensionNumbers d) l
-  unfolding front
-  dimension-stored p q = q ∙ ap (wrote (at + 3) (seriesNumbers (d .series))) (front-stored p) ∙ wrote-on at (at + 3) (front d) (seriesNumbers (d .series)) l refl (omega arith)
+module _ {at : ℕ} {row start : List ℕ} where
+  pub put-start : at + length row ≤ length start → Putting at row start 0 start
+  put-start h = record { room = h; inside = omega arith; filled = sym (wrote-none at start) }
 
-module _ (a : Answer) (l : List ℕ) (room : 31 ≤ length l) where
-  pub answer-stored : {m₁ m₂ m₃ : List ℕ} → m₁ ≡ wrote 1 (dimensionNumbers (getD (a .dimensions) 0 unused)) (set l 0 (a .number))
-      → m₂ ≡ wrote 11 (dimensionNumbers (getD (a .dimensions) 1 unused)) m₁ → m₃ ≡ wrote 21 (dimensionNumbers (getD (a .dimensions) 2 unused)) m₂ → m₃ ≡ told (answerNumbers a) l
-  unfolding told
-  answer-stored p q r =
-      let d₀ = getD (a .dimensions) 0 unused in
-      let d₁ = getD (a .dimensions) 1 unused in
-      let d₂ = getD (a .dimensions) 2 unused in
-      r ∙ ap (wrote 21 (dimensionNumbers d₂)) (q ∙ ap (wrote 11 (dimensionNumbers d₁)) (p ∙ ap (wrote 1 (dimensionNumbers d₀)) (wrote-one 0 (a .number) l (omega arith)) ∙ wrote-on 0 1 (a .number ∷ []) (dimensionNumbers d₀) l refl (omega arith))
-      ∙ wrote-on 0 11 (a .number ∷ dimensionNumbers d₀) (dimensionNumbers d₁) l refl (omega arith))
-      ∙ wrote-on 0 21 (a .number ∷ (dimensionNumbers d₀ ++ dimensionNumbers d₁)) (dimensionNumbers d₂) l refl (omega arith)
-      ∙ told-all (answerNumbers a) l room
+  module _ {i : ℕ} {slice : List ℕ} (putting : Putting at row start i slice) where
+    pub put-room : length slice ≡ length start
+    put-room = ap length (putting .filled) ∙ length-wrote at (take i row) start (omega (arith, putting .room, length-take i row))
+
+    pub put-done : length row ≤ i → slice ≡ wrote at row start
+    put-done h = putting .filled ∙ ap (λ l. wrote at l start) (take-all i row h)
+
+    pub put-more : i < length row → Putting at row start (i + 1) (set slice (at + i) (getD row i 0))
+    put-more h = record {
+      room = putting .room;
+      inside = omega arith;
+      filled = rw (putting .filled) (wrote-next at i (getD row i 0) row start h (omega (arith, putting .room)) refl);
+    }
+
+pub ruleset putSteps = (put-start, put-done, put-more, needs)
+
+-- a row behind those that stand at the start
+row-on : (u v s : List ℕ) (next : ℕ) {row before after : List ℕ} → before ≡ wrote 0 u s → row ≡ v → after ≡ wrote next row before
+    → next ≡ length u → next ≤ length s → after ≡ wrote 0 (u ++ v) s
+row-on u v s next p q r e h = r ∙ rw (p, q) (wrote-on 0 next u v s (omega arith) h)
+
+pub answer-stored : (a : Answer) (l : List ℕ) → 52 ≤ length l → {h x y z m₀ m₁ m₂ m₃ : List ℕ} → h ≡ headNumbers a
+    → x ≡ dimensionNumbers (getD (a .dimensions) 0 unused)
+    → y ≡ dimensionNumbers (getD (a .dimensions) 1 unused)
+    → z ≡ dimensionNumbers (getD (a .dimensions) 2 unused)
+    → m₀ ≡ wrote 0 h l → m₁ ≡ wrote 4 x m₀ → m₂ ≡ wrote 20 y m₁ → m₃ ≡ wrote 36 z m₂ → m₃ ≡ told (answerNumbers a) l
+answer-stored a l room h x y z p q r s =
+    let d₀ : List ℕ = dimensionNumbers (getD (a .dimensions) 0 unused) in
+    let d₁ : List ℕ = dimensionNumbers (getD (a .dimensions) 1 unused) in
+    let d₂ : List ℕ = dimensionNumbers (getD (a .dimensions) 2 unused) in
+    let e₀ = p ∙ ap (λ v. wrote 0 v l) h in
+    let e₁ = row-on (headNumbers a) d₀ l 4 e₀ x q refl (omega arith) in
+    let e₂ = row-on (headNumbers a ++ d₀) d₁ l 20 e₁ y r refl (omega arith) in
+    row-on (headNumbers a ++ (d₀ ++ d₁)) d₂ l 36 e₂ z s refl (omega arith) ∙ told-all (answerNumbers a) l room

@@ -4,41 +4,38 @@ use mathlib.Core.Bool.{cond}
 use Prim.Native.Nat.{ℕ, _-_}
 use lib.Dec.{leb}
 use lib.IntN.{ℤ, pos, negsuc}
-use lib.ListN.{length, getD}
-use Rattle.cifti.specs.Answer.{filledWith, unused}
-use Rattle.cifti.specs.declared.answer.Kind.{Kind}
-use Rattle.cifti.specs.declared.answer.Kind.the-variants.{None, Brain, Series, Scalars}
-use Rattle.cifti.specs.declared.answer.Series as S
+use lib.ListN.{length, getD, replicate}
+use Rattle.numbers.specs.declared.Decimal.{Decimal}
+use Rattle.cifti.specs.Answer.{kindNumber, filledWith, unused}
+use Rattle.cifti.specs.declared.answer.Series.{Series}
 use Rattle.cifti.specs.declared.answer.Dimension.{Dimension}
 use Rattle.cifti.specs.declared.answer.Answer.{Answer}
-
-abbrev pub kindNumber : Kind → ℕ
-kindNumber None = 0
-kindNumber Brain = 1
-kindNumber Series = 2
-kindNumber Scalars = 3
 
 -- two's complement in 64 bits: -(n + 1) is 2^64 - (n + 1)
 abbrev pub complement : ℤ → ℕ
 complement (pos n) = n
 complement (negsuc n) = 18446744073709551615 - n
 
--- start, step, exponent and unit of a series, then one spare place
-abbrev pub seriesNumbers : S.Series → List ℕ
-seriesNumbers s =
-    complement (s .start .amount) ∷ s .start .places
-    ∷ complement (s .step .amount) ∷ s .step .places
-    ∷ complement (s .exponent) ∷ s .unit ∷ 0 ∷ []
+abbrev pub decimalNumbers : Decimal → List ℕ
+decimalNumbers d = complement (d .amount) ∷ d .places ∷ []
 
--- ten numbers
+-- start, step, exponent and unit
+abbrev pub seriesNumbers : Series → List ℕ
+seriesNumbers s = decimalNumbers (s .start) ++ (decimalNumbers (s .step) ++ (complement (s .exponent) ∷ s .unit ∷ []))
+
+-- sixteen numbers; seven of them, at the end, are for what is to come
 abbrev pub dimensionNumbers : Dimension → List ℕ
-dimensionNumbers d = kindNumber (d .kind) ∷ d .length ∷ d .start .0 ∷ seriesNumbers (d .series)
+dimensionNumbers d = kindNumber (d .kind) ∷ d .length ∷ d .start .0 ∷ (seriesNumbers (d .series) ++ replicate 7 0)
 
--- the number, then ten for each of three dimensions
+-- four numbers; three of them, at the end, are for what is to come
+abbrev pub headNumbers : Answer → List ℕ
+headNumbers a = a .number ∷ replicate 3 0
+
+-- the head, then sixteen for each of three dimensions
 abbrev pub answerNumbers : Answer → List ℕ
 answerNumbers a =
-    a .number
-    ∷ (dimensionNumbers (getD (a .dimensions) 0 unused)
+    headNumbers a
+    ++ (dimensionNumbers (getD (a .dimensions) 0 unused)
     ++ (dimensionNumbers (getD (a .dimensions) 1 unused)
     ++ dimensionNumbers (getD (a .dimensions) 2 unused)))
 

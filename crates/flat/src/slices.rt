@@ -1,8 +1,7 @@
 // Answers as numbers at the start of a lent slice; one that is too short is left as it was.
 use cifti::Answer;
 use cifti::Dimension;
-use cifti::Kind;
-use cifti::Series;
+use cifti::kind_number;
 ghost use mathlib.Core.Path.{_≡_};
 ghost use mathlib.Core.List.{[], _∷_};
 ghost use Prim.Native.Nat.{_+_, _≤_};
@@ -10,16 +9,33 @@ ghost use lib.ListN.{length};
 ghost use Rattle.records.specs.Fill.{wrote};
 ghost use Rattle.flat.specs.Flat as flat;
 
-fn kind_number(kind: Kind) -> u64
-    ensures { λ r. ⌜ r ≡ flat.kindNumber kind ⌝ }
-{
-    match kind {
-        Kind::None => 0,
-        Kind::Brain => 1,
-        Kind::Series => 2,
-        Kind::Scalars => 3,
-    }
-}
+// Where each number of a dimension stands; the places behind them are 0.
+const KIND: usize = 0;
+
+const LENGTH: usize = 1;
+
+const START: usize = 2;
+
+const START_AMOUNT: usize = 3;
+
+const START_PLACES: usize = 4;
+
+const STEP_AMOUNT: usize = 5;
+
+const STEP_PLACES: usize = 6;
+
+const EXPONENT: usize = 7;
+
+const UNIT: usize = 8;
+
+// Where each dimension begins behind the head, and how many numbers there are in all.
+const FIRST: usize = 4;
+
+const SECOND: usize = 20;
+
+const THIRD: usize = 36;
+
+const ANSWER: usize = 52;
 
 // Two's complement.
 fn complement(x: i64) -> u64
@@ -31,45 +47,54 @@ fn complement(x: i64) -> u64
     x as u64
 }
 
-fn put_series(slice: &mut [u64], at: usize, series: Series)
-    requires { ⌜ at + 7 ≤ length (now slice) ⌝ }
-    ensures { λ _. ⌜ now (slice .exit) ≡ wrote at (flat.seriesNumbers series) (now (slice .entry)) ⌝ }
-{
-    let start = series.start;
-    let step = series.step;
-    slice[at] = complement(start.amount);
-    slice[at + 1] = start.places;
-    slice[at + 2] = complement(step.amount);
-    slice[at + 3] = step.places;
-    slice[at + 4] = complement(series.exponent);
-    slice[at + 5] = series.unit;
-    slice[at + 6] = 0;
-}
-
-fn put_dimension(slice: &mut [u64], at: usize, dimension: Dimension)
-    requires { ⌜ at + 10 ≤ length (now slice) ⌝ }
-    ensures { λ _. ⌜ now (slice .exit) ≡ wrote at (flat.dimensionNumbers dimension) (now (slice .entry)) ⌝ }
+fn dimension_numbers(dimension: Dimension) -> [u64; 16]
+    ensures { λ r. ⌜ r ≡ flat.dimensionNumbers dimension ⌝ }
 {
     let kind = dimension.kind;
-    let start = dimension.start;
+    let place = dimension.start;
     let series = dimension.series;
-    slice[at] = kind_number(kind);
-    slice[at + 1] = dimension.length;
-    slice[at + 2] = start.0 as u64;
-    put_series(slice, at + 3, series);
+    let start = series.start;
+    let step = series.step;
+    let mut row = [0u64; 16];
+    row[KIND] = kind_number(kind);
+    row[LENGTH] = dimension.length;
+    row[START] = place.0 as u64;
+    row[START_AMOUNT] = complement(start.amount);
+    row[START_PLACES] = start.places;
+    row[STEP_AMOUNT] = complement(step.amount);
+    row[STEP_PLACES] = step.places;
+    row[EXPONENT] = complement(series.exponent);
+    row[UNIT] = series.unit;
+    row
+}
+
+fn put(slice: &mut [u64], at: usize, row: &[u64])
+    requires { ⌜ at + length (now row) ≤ length (now slice) ⌝ }
+    ensures { λ _. ⌜ now (slice .exit) ≡ wrote at (now (row .entry)) (now (slice .entry)) ⌝ }
+{
+    let mut i = 0;
+    while i < row.len() {
+        slice[at + i] = row[i];
+        i += 1;
+    }
 }
 
 pub fn tell_answer(slice: &mut [u64], answer: Answer)
     ensures { λ _. ⌜ now (slice .exit) ≡ flat.told (flat.answerNumbers answer) (now (slice .entry)) ⌝ }
 {
-    if slice.len() < 31 {
+    if slice.len() < ANSWER {
         return;
     }
     let dimensions = answer.dimensions;
-    slice[0] = answer.number;
-    put_dimension(slice, 1, dimensions[0]);
-    put_dimension(slice, 11, dimensions[1]);
-    put_dimension(slice, 21, dimensions[2]);
+    let mut head = [0u64; 4];
+    head[0] = answer.number;
+    let first = dimension_numbers(dimensions[0]);
+    let second = dimension_numbers(dimensions[1]);
+    let third = dimension_numbers(dimensions[2]);
+    put(slice, 0, &head);
+    put(slice, FIRST, &first);
+    put(slice, SECOND, &second);
+    put(slice, THIRD, &third);
 }
 
 pub fn tell_one(slice: &mut [u64], value: u64)

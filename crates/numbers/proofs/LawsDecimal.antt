@@ -23,7 +23,7 @@ use Rattle.numbers.specs.Spelled.{pureValue, Pure, pure-reads, pure-fail
 use Rattle.numbers.specs.Answers.{signIf}
 use Rattle.numbers.specs.declared.Source.{Source}
 use Rattle.numbers.specs.declared.Run.{Run}
-use Rattle.numbers.specs.declared.Scaled.{Scaled}
+use Rattle.numbers.specs.declared.Decimal.{Decimal}
 use Rattle.numbers.specs.declared.Spelling.{Spelling}
 use Rattle.numbers.specs.declared.Spelling.the-variants.{Reads, Fails}
 
@@ -79,8 +79,8 @@ module _ {source : Source} {text : List ℕ} {most n at : ℕ} {run : Run} (r : 
   pub empty-read : run .count ≡ 0 → digits 1 most (r .read) ≡ false
   empty-read z = digits-few 1 most (r .read) (omega (arith, r .counted))
 
-pub scaled-same : {a b : ℤ} {m n : ℕ} → a ≡ b → m ≡ n → _≡_ {A = Scaled} (record { amount = a; places = m }) (record { amount = b; places = n })
-scaled-same p q = rw (p, q) refl
+pub decimal-same : {a b : ℤ} {m n : ℕ} → a ≡ b → m ≡ n → _≡_ {A = Decimal} (record { amount = a; places = m }) (record { amount = b; places = n })
+decimal-same p q = rw (p, q) refl
 
 -- behind the point
 module _ (source : Source) (text : List ℕ) (before count at : ℕ) {run : Run} (some : count ≤ 15) (er : run ≡ digitsAt source text (15 - count) before 0 at) where
@@ -125,7 +125,7 @@ module _ (source : Source) (text : List ℕ) (before count at : ℕ) {run : Run}
     pub places-read : (run .count ≡ 0 → ⊥) → {t : Bool} → t ≡ wordEnds (stream source text (run .next)) → not t ≡ false → {a : ℤ} → a ≡ withSign s (run .value) → Pointed source text at before count s (Reads (record { amount = a; places = run .count }) (run .next))
     places-read n {t} e h {a} q =
         let c : run .count ≡ length (ran .read) = omega (arith, ran .counted) in
-        let d = scaled-same (q ∙ ap (withSign s) (ran .valued)) c in
+        let d = decimal-same (q ∙ ap (withSign s) (ran .valued)) c in
         pointed-reads (ran .read) (ran .all-digits) (omega arith) (ran .few) d (ran .splits) (sym e ∙ not-false t h)
 
 pub point-room : {before count : ℕ} → (count ≤ 15) × (before < 10 ^ count) → (15 - count ≤ 15) × (before < 10 ^ (15 - (15 - count)))

@@ -21,11 +21,11 @@ use Rattle.numbers.specs.Cuts.{Uncut, none, more}
 use Rattle.numbers.specs.Stream.{charAt, stream, wordEnds}
 use Rattle.numbers.specs.StreamLaws.{char-byte, char-end}
 use Rattle.numbers.specs.Spelled.{pureValue, Pure, pure-reads, pure-fails, Spelled, spelled-reads, spelled-fails, decimal-blank}
-use Rattle.numbers.specs.Answers.{signIf, scaled, decimalIn}
+use Rattle.numbers.specs.Answers.{signIf, decimalIn}
 use Rattle.numbers.proofs.LawsValues.{there, past}
 use Rattle.numbers.specs.declared.Source.{Source}
 use Rattle.numbers.specs.declared.Source.the-variants.{Value}
-use Rattle.numbers.specs.declared.Scaled.{Scaled}
+use Rattle.numbers.specs.declared.Decimal.{Decimal}
 use Rattle.numbers.specs.declared.Spelling.{Spelling}
 use Rattle.numbers.specs.declared.Spelling.the-variants.{Reads, Fails}
 use Rattle.numbers.specs.declared.Decimals.the-variants as decimals
@@ -40,21 +40,21 @@ module _ (x : Word) where
   unfolding decimal unsigned
   minus-form = refl
 
-  minus-value : scaled (decimalValue (45 ∷ x)) ≡ pureValue (signIf true) x
-  unfolding decimalValue unsigned scaled pureValue signIf
+  minus-value : decimalValue (45 ∷ x) ≡ pureValue (signIf true) x
+  unfolding decimalValue unsigned pureValue signIf
   minus-value = refl
 
   plus-form : decimal (43 ∷ x) ≡ decimalParts (parts point x)
   unfolding decimal unsigned
   plus-form = refl
 
-  plus-value : scaled (decimalValue (43 ∷ x)) ≡ pureValue (signIf false) x
-  unfolding decimalValue unsigned scaled pureValue signIf
+  plus-value : decimalValue (43 ∷ x) ≡ pureValue (signIf false) x
+  unfolding decimalValue unsigned pureValue signIf
   plus-value = refl
 
 -- without: all of it does
-bare : (x : Word) → unsigned true x ≡ record { sign = plus; rest = x } → (decimal x ≡ decimalParts (parts point x)) × (scaled (decimalValue x) ≡ pureValue (signIf false) x)
-unfolding decimal decimalValue scaled pureValue signIf
+bare : (x : Word) → unsigned true x ≡ record { sign = plus; rest = x } → (decimal x ≡ decimalParts (parts point x)) × (decimalValue x ≡ pureValue (signIf false) x)
+unfolding decimal decimalValue pureValue signIf
 bare x e = (rw e refl, rw e refl)
 
 bare-start : (b : ℕ) → (b ≡ 45 → ⊥) → (b ≡ 43 → ⊥) → (x y w : Word) → b ∷ w ≡ x ++ y → unsigned true x ≡ record { sign = plus; rest = x }
@@ -128,7 +128,7 @@ module _ (text : List ℕ) (at : ℕ) where
         go (spelled-fails x y f u s n) q = refused (value-there text at) (ap decimal (there text at ∙ s) ∙ not-ended x y n (inl f))
         go (spelled-reads x f d u s n) q = let z : _≡_ {A = ℕ} 0 1 = cc in absurd (omega arith)
 
-    module _ {d : Scaled} {j : ℕ} (e : r ≡ Reads d j) {c : Char} (ec : c ≡ charAt (Value (getD text at 0)) text j) where
+    module _ {d : Decimal} {j : ℕ} (e : r ≡ Reads d j) {c : Char} (ec : c ≡ charAt (Value (getD text at 0)) text j) where
       pub decimal-more : {b k : ℕ} → c ≡ Byte b k → decimals.No ≡ decimalIn (value-there text at)
       decimal-more {b} {k} q = go p e
         where

@@ -26,9 +26,9 @@ use Rattle.numbers.specs.StreamLaws.{char-byte, char-end, Blanked, blank
 use Rattle.numbers.specs.Listed.{word-ahead}
 use Rattle.numbers.specs.Spelled.{Spelled, spelled-reads, spelled-fails}
 use Rattle.numbers.specs.Sixteen.{rightAt, sixteenFrom, sixteen-is, places-few}
-use Rattle.numbers.specs.Answers.{signIf, scaled}
+use Rattle.numbers.specs.Answers.{signIf}
 use Rattle.numbers.specs.declared.Source.the-variants.{Contents}
-use Rattle.numbers.specs.declared.Scaled.{Scaled}
+use Rattle.numbers.specs.declared.Decimal.{Decimal}
 use Rattle.numbers.specs.declared.Spelling.{Spelling}
 use Rattle.numbers.specs.declared.Spelling.the-variants.{Reads, Fails}
 
@@ -73,22 +73,22 @@ pub shifted-small : (n places : ℕ) {r : ℕ} → n ≤ 1 → places ≤ 14 →
 shifted-small n places h k e = let q : 10 ^ places ≤ 10 ^ 14 = powers places 14 k in omega (arith, below n (10 ^ places) h)
 
 -- the test of one
-pub right-far : (m : ℕ) (d : Scaled) → 4 ≤ m → true ≡ rightAt m d
+pub right-far : (m : ℕ) (d : Decimal) → 4 ≤ m → true ≡ rightAt m d
 unfolding rightAt
 right-far m d h = sym (rw (le-leb 4 m h) refl)
 
-pub right-last : (m : ℕ) (d : Scaled) → m ≡ 0 → {r : Bool} → r ≡ isWhole (1 * 10 ^ d .places) (d .amount) → r ≡ rightAt m d
+pub right-last : (m : ℕ) (d : Decimal) → m ≡ 0 → {r : Bool} → r ≡ isWhole (1 * 10 ^ d .places) (d .amount) → r ≡ rightAt m d
 unfolding rightAt
 right-last m d e h = h ∙ sym (rw e refl)
 
-pub right-near : (m : ℕ) (d : Scaled) → m < 4 → (m ≡ 0 → ⊥) → {r : Bool} → r ≡ isWhole (0 * 10 ^ d .places) (d .amount) → r ≡ rightAt m d
+pub right-near : (m : ℕ) (d : Decimal) → m < 4 → (m ≡ 0 → ⊥) → {r : Bool} → r ≡ isWhole (0 * 10 ^ d .places) (d .amount) → r ≡ rightAt m d
 unfolding rightAt
 right-near m d l n h = h ∙ sym (rw (lt-leb 4 m l, ne-eqb m 0 n) refl)
 
 pub ruleset testing = (right-far, right-last, right-near, needs)
 
 -- one word of the list
-step : (m : ℕ) (t : Bool) (x : Word) (l : List Word) → decimal x ≡ true → rightAt m (scaled (decimalValue x)) ≡ t → sixteenFrom (suc m) (x ∷ l) ≡ (t && sixteenFrom m l)
+step : (m : ℕ) (t : Bool) (x : Word) (l : List Word) → decimal x ≡ true → rightAt m (decimalValue x) ≡ t → sixteenFrom (suc m) (x ∷ l) ≡ (t && sixteenFrom m l)
 unfolding sixteenFrom
 step m t x l f q = rw (f, q) refl
 
@@ -155,13 +155,13 @@ module _ {text : List ℕ} {at left i : ℕ} (go : Checking text at left i) {fro
         fails (spelled-fails x y f u s n) q = by x y f u s n
         fails (spelled-reads x f d u s n) q = let z : _≡_ {A = ℕ} 0 1 = cc in absurd (omega arith)
 
-    module _ {d : Scaled} {j : ℕ} (e : r ≡ Reads d j) where
+    module _ {d : Decimal} {j : ℕ} (e : r ≡ Reads d j) where
       pub checking-places : d .places ≤ 14
       checking-places = few p e
         where
           few : {z : Spelling} → Spelled Contents text from z → z ≡ Reads d j → d .places ≤ 14
           few (spelled-fails x y f u s n) q = let z : _≡_ {A = ℕ} 0 1 = cc in absurd (omega arith)
-          few (spelled-reads x {d = v} f h u s n) q = let k : scaled (decimalValue x) ≡ d = cc in rw k at (places-few x f)
+          few (spelled-reads x {d = v} f h u s n) q = let k : decimalValue x ≡ d = cc in rw k at (places-few x f)
 
       module _ {t : Bool} (et : t ≡ rightAt (left - 1) d) where
         one : sixteen (says (drop at text)) ≡ (t && sixteenFrom (left - 1) (words (stream Contents text j)))
@@ -170,10 +170,10 @@ module _ {text : List ℕ} {at left i : ℕ} (go : Checking text at left i) {fro
             m : left ≡ suc (left - 1)
             m = omega arith
 
-            by : (x : Word) (k : ℕ) (v : Scaled) → decimal x ≡ true → v ≡ scaled (decimalValue x) → Uncut blank x → stream Contents text from ≡ x ++ stream Contents text k → wordEnds (stream Contents text k) ≡ true → v ≡ d → k ≡ j → sixteenFrom left (words (stream Contents text from)) ≡ (t && sixteenFrom (left - 1) (words (stream Contents text j)))
+            by : (x : Word) (k : ℕ) (v : Decimal) → decimal x ≡ true → v ≡ decimalValue x → Uncut blank x → stream Contents text from ≡ x ++ stream Contents text k → wordEnds (stream Contents text k) ≡ true → v ≡ d → k ≡ j → sixteenFrom left (words (stream Contents text from)) ≡ (t && sixteenFrom (left - 1) (words (stream Contents text j)))
             by [] k v f h u s n a b = let z : _≡_ {A = ℕ} 0 1 = (let q = empty in cc) in absurd (omega arith)
             by (y ∷ x) k v f h u s n a b =
-                let q : rightAt (left - 1) (scaled (decimalValue (y ∷ x))) ≡ t = ap (rightAt (left - 1)) (sym h ∙ a) ∙ sym et in
+                let q : rightAt (left - 1) (decimalValue (y ∷ x)) ≡ t = ap (rightAt (left - 1)) (sym h ∙ a) ∙ sym et in
                 ap (λ z. sixteenFrom z (words (stream Contents text from))) m ∙ ap (sixteenFrom (suc (left - 1))) (ap words s ∙ word-ahead y x (stream Contents text k) u n)
                 ∙ (step (left - 1) t (y ∷ x) (words (stream Contents text k)) f q ∙ ap (λ z. t && sixteenFrom (left - 1) (words (stream Contents text z))) b)
 

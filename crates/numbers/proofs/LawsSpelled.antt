@@ -21,13 +21,13 @@ use Rattle.numbers.specs.Cuts.{Uncut, none, more, Parts, parts-some, par
 use Rattle.numbers.specs.Stream.{charAt, stream, wordEnds, digitsAt}
 use Rattle.numbers.specs.StreamLaws.{char-byte, char-end, Ran, digits-law}
 use Rattle.numbers.specs.Spelled.{pureValue, Pure, pure-reads, pure-fails, Pointed, pointed-reads, pointed-fails, Spelled, spelled-reads, spelled-fails, Cut, cut-word, uncut-join, wrong-one, decimal-blank}
-use Rattle.numbers.specs.Answers.{signIf, scaled, decimalIn}
-use Rattle.numbers.proofs.LawsDecimal.{uncut-point, uncut-blank, first-part, other-part, cut, word, word-uncut, word-splits, stop-front, empty-read, scaled-same}
+use Rattle.numbers.specs.Answers.{signIf, decimalIn}
+use Rattle.numbers.proofs.LawsDecimal.{uncut-point, uncut-blank, first-part, other-part, cut, word, word-uncut, word-splits, stop-front, empty-read, decimal-same}
 use Rattle.numbers.proofs.LawsValues.{there, past}
 use Rattle.numbers.specs.declared.Source.{Source}
 use Rattle.numbers.specs.declared.Source.the-variants.{Value}
 use Rattle.numbers.specs.declared.Run.{Run}
-use Rattle.numbers.specs.declared.Scaled.{Scaled}
+use Rattle.numbers.specs.declared.Decimal.{Decimal}
 use Rattle.numbers.specs.declared.Spelling.{Spelling}
 use Rattle.numbers.specs.declared.Spelling.the-variants.{Reads, Fails}
 use Rattle.numbers.specs.declared.Decimals.{Decimals}
@@ -40,11 +40,11 @@ two-right u v p q a b h = rw (digits-are 1 15 u p a (omega arith), digits-are 1 
 
 two-value : (s : Sign) (u v x : Word) → parts point x ≡ u ∷ v ∷ [] → pureValue s x ≡ record { amount = withSign s (number (number 0 u) v); places = length v }
 unfolding pureValue value
-two-value s u v x e = rw e (scaled-same (ap (withSign s) (rw (append-nil v) (number-append 0 u v))) (ap length (append-nil v)))
+two-value s u v x e = rw e (decimal-same (ap (withSign s) (rw (append-nil v) (number-append 0 u v))) (ap length (append-nil v)))
 
 one-value : (s : Sign) (u : Word) → parts point u ≡ u ∷ [] → pureValue s u ≡ record { amount = withSign s (number 0 u); places = 0 }
 unfolding pureValue value
-one-value s u e = rw e (scaled-same (ap (withSign s) (ap (number 0) (append-nil u))) refl)
+one-value s u e = rw e (decimal-same (ap (withSign s) (ap (number 0) (append-nil u))) refl)
 
 below-same : {v n k m : ℕ} → v ≡ n → k ≡ m → n < 10 ^ m → v < 10 ^ k
 below-same p q h = rw (p, q) h
@@ -83,7 +83,7 @@ module _ (source : Source) (text : List ℕ) (at : ℕ) {run : Run} (er : run �
       unfolding decimalParts
       alone {a} q e =
           let p = parts-end (uncut-point 15 (ran .read) (ran .all-digits) (ran .few)) in
-          let d = scaled-same {m = 0} (q ∙ ap (withSign s) (ran .valued)) refl ∙ sym (one-value s (ran .read) p) in
+          let d = decimal-same {m = 0} (q ∙ ap (withSign s) (ran .valued)) refl ∙ sym (one-value s (ran .read) p) in
           let ok : decimalParts (parts point (ran .read)) ≡ true = rw p (digits-are 1 15 (ran .read) (ran .all-digits) long (ran .few)) in
           pure-reads (ran .read) ok d (uncut-blank 15 (ran .read) (ran .all-digits) (ran .few)) (ran .splits) e
 
@@ -136,7 +136,7 @@ module _ (source : Source) (text : List ℕ) (at : ℕ) {run : Run} (er : run �
               go (pointed-reads v {j = k} {d = d} a l m q e n) =
                   let z : parts point (ran .read ++ (b ∷ v)) ≡ ran .read ∷ v ∷ [] = cut-there v ∙ ap (λ i. ran .read ∷ i) (parts-end (uncut-point 15 v a (omega arith))) in
                   let ok : decimalParts (parts point (ran .read ++ (b ∷ v))) ≡ true = ap decimalParts z ∙ two-right (ran .read) v (ran .all-digits) a long l (omega (arith, counts)) in
-                  let same : d ≡ pureValue s (ran .read ++ (b ∷ v)) = q ∙ scaled-same (ap (λ i. withSign s (number i v)) (ran .valued)) refl ∙ sym (two-value s (ran .read) v (ran .read ++ (b ∷ v)) z) in
+                  let same : d ≡ pureValue s (ran .read ++ (b ∷ v)) = q ∙ decimal-same (ap (λ i. withSign s (number i v)) (ran .valued)) refl ∙ sym (two-value s (ran .read) v (ran .read ++ (b ∷ v)) z) in
                   pure-reads (ran .read ++ (b ∷ v)) ok same (whole-uncut (uncut-blank 15 v a (omega arith))) (ahead v (stream source text k) e) n
 
 pub fifteen : (15 ≤ 15) × (0 < 10 ^ (15 - 15))

@@ -8,7 +8,7 @@ use Rattle.grammar.specs.Bytes.{blank, between}
 use Rattle.grammar.specs.Look.{Word}
 use Rattle.lists.specs.Lists.{count}
 use Rattle.nodes.specs.Says.{says}
-use Rattle.numbers.specs.Numbers.{digits, value, whole, words, Sign, plus, minus, withSign, dimensionList, commaValues, volumeDimensions, exponent, exponentValue, Decimal, decimal, decimalValue}
+use Rattle.numbers.specs.Numbers.{digits, value, whole, words, Sign, plus, minus, withSign, dimensionList, commaValues, volumeDimensions, exponent, exponentValue, decimal, decimalValue}
 use Rattle.numbers.specs.Stream.{behind, leading}
 use Rattle.numbers.specs.declared.Source.the-variants.{Contents}
 use Rattle.numbers.specs.declared.Whole.{Whole}
@@ -18,7 +18,7 @@ use Rattle.numbers.specs.declared.Three.{Three}
 use Rattle.numbers.specs.declared.Three.the-variants as three
 use Rattle.numbers.specs.declared.Exponent.{Exponent}
 use Rattle.numbers.specs.declared.Exponent.the-variants as exponents
-use Rattle.numbers.specs.declared.Scaled.{Scaled}
+use Rattle.numbers.specs.declared.Decimal.{Decimal}
 use Rattle.numbers.specs.declared.Decimals.{Decimals}
 use Rattle.numbers.specs.declared.Decimals.the-variants as decimals
 use Rattle.numbers.specs.declared.Next.{Next}
@@ -50,11 +50,8 @@ unfoldable pub exponentFrom : (most : ℕ) → Sign → Word → Exponent
 exponentFrom most s w = cond (digits 1 2 w && leb (value w) most) (exponents.Is (withSign s (value w))) exponents.No
 
 -- a decimal
-unfoldable pub scaled : Decimal → Scaled
-scaled d = record { amount = d .amount; places = d .places }
-
 unfoldable pub decimalIn : Word → Decimals
-decimalIn w = cond (decimal w) (decimals.Is (scaled (decimalValue w))) decimals.No
+decimalIn w = cond (decimal w) (decimals.Is (decimalValue w)) decimals.No
 
 -- The next of a list of whole numbers, from a place in the text on: the first word that is ahead, and the place behind it.
 unfoldable pub nextOf : (ℕ → ℕ) → List Word → Next

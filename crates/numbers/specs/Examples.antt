@@ -8,7 +8,7 @@ use lib.IntN.{ℤ, pos, negsuc}
 use Rattle.grammar.specs.Bytes.{ascii, blank}
 use Rattle.grammar.specs.Look.{Word}
 use Rattle.lists.specs.Lists.{lists, all, those, each}
-use Rattle.numbers.specs.Numbers.{numbers, digit, digits, number, value, onFirst, parts, comma, point, filled, words, whole, three, volumeDimensions, dimensionList, commaValues, unsigned, withSign, exponent, exponentValue, Decimal, decimalParts, decimal, decimalValue, isWhole, equalTo, wholes, values, lastRow, sixteen}
+use Rattle.numbers.specs.Numbers.{numbers, digit, digits, number, value, onFirst, parts, comma, point, filled, words, whole, three, volumeDimensions, dimensionList, commaValues, unsigned, withSign, exponent, exponentValue, decimalParts, decimal, decimalValue, isWhole, equalTo, wholes, values, lastRow, sixteen}
 
 -- every text of the list passes, or none does
 abbrev Every : (Word → Bool) → List String → Type 0

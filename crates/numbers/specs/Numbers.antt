@@ -9,6 +9,7 @@ use Rattle.grammar.specs.Bytes.{between, blank}
 use Rattle.grammar.specs.Document.{together}
 use Rattle.lists.specs.Lists.{all, those, each}
 use Rattle.grammar.specs.Look.{Word}
+use Rattle.numbers.specs.declared.Decimal.{Decimal}
 
 -- a digit
 unfoldable pub digit : ℕ → Bool
@@ -98,10 +99,6 @@ exponentValue w = let u = unsigned false w in withSign (u .sign) (value (u .rest
 
 -- Decimals: optional `+` or `-`, 1 to 15 digits, at most one point with a digit on each side;
 -- read as written, `2.0` is 20 with one place.
-pub record Decimal : Type 0 where
-  pub amount : ℤ
-  pub places : ℕ
-
 unfoldable pub decimalParts : List Word → Bool
 decimalParts [] = false
 decimalParts (a ∷ []) = digits 1 15 a
@@ -116,6 +113,10 @@ decimalValue w =
     let u = unsigned true w in
     let l = parts point (u .rest) in
     record { amount = withSign (u .sign) (value (together l)); places = length (together (drop 1 l)) }
+
+-- where there is none
+abbrev pub noDecimal : Decimal
+noDecimal = record { amount = pos 0; places = 0 }
 
 -- the decimal is equal in value to the whole number n
 unfoldable pub isWhole : ℕ → ℤ → Bool

@@ -13,18 +13,17 @@ use Rattle.grammar.specs.Look.{Word}
 use Rattle.lists.specs.Lists.{all}
 use Rattle.numbers.specs.Numbers.{digits, parts, point, unsigned, decimalParts, decimal, decimalValue, isWhole, equalTo, words, lastRow, sixteen}
 use Rattle.numbers.specs.Cuts.{digits-split}
-use Rattle.numbers.specs.Answers.{scaled}
-use Rattle.numbers.specs.declared.Scaled.{Scaled}
+use Rattle.numbers.specs.declared.Decimal.{Decimal}
 
 -- the last four are 0 0 0 1, whatever stands before them
-unfoldable pub rightAt : ℕ → Scaled → Bool
+unfoldable pub rightAt : ℕ → Decimal → Bool
 rightAt m d = cond (leb 4 m) true (isWhole (cond (eqb m 0) 1 0 * 10 ^ d .places) (d .amount))
 
 unfoldable pub sixteenFrom : ℕ → List Word → Bool
 sixteenFrom zero [] = true
 sixteenFrom zero (a ∷ l) = false
 sixteenFrom (suc m) [] = false
-sixteenFrom (suc m) (a ∷ l) = decimal a && (rightAt m (scaled (decimalValue a)) && sixteenFrom m l)
+sixteenFrom (suc m) (a ∷ l) = decimal a && (rightAt m (decimalValue a) && sixteenFrom m l)
 
 swap : (a b x y : Bool) → ((a && x) && (b && y)) ≡ (a && (b && (x && y)))
 swap false b x y = refl
@@ -39,28 +38,28 @@ drops : (a b : Bool) → (a && (b && false)) ≡ false
 drops true b = and-false b
 drops false b = refl
 
-right-zero : (a : Word) → rightAt 0 (scaled (decimalValue a)) ≡ equalTo 1 a
-unfolding rightAt scaled equalTo
+right-zero : (a : Word) → rightAt 0 (decimalValue a) ≡ equalTo 1 a
+unfolding rightAt equalTo
 right-zero a = refl
 
-right-one : (a : Word) → rightAt 1 (scaled (decimalValue a)) ≡ equalTo 0 a
-unfolding rightAt scaled equalTo
+right-one : (a : Word) → rightAt 1 (decimalValue a) ≡ equalTo 0 a
+unfolding rightAt equalTo
 right-one a = refl
 
-right-two : (a : Word) → rightAt 2 (scaled (decimalValue a)) ≡ equalTo 0 a
-unfolding rightAt scaled equalTo
+right-two : (a : Word) → rightAt 2 (decimalValue a) ≡ equalTo 0 a
+unfolding rightAt equalTo
 right-two a = refl
 
-right-three : (a : Word) → rightAt 3 (scaled (decimalValue a)) ≡ equalTo 0 a
-unfolding rightAt scaled equalTo
+right-three : (a : Word) → rightAt 3 (decimalValue a) ≡ equalTo 0 a
+unfolding rightAt equalTo
 right-three a = refl
 
-right-more : (m : ℕ) (d : Scaled) → 4 ≤ m → rightAt m d ≡ true
+right-more : (m : ℕ) (d : Decimal) → 4 ≤ m → rightAt m d ≡ true
 unfolding rightAt
 right-more m d h = rw (le-leb 4 m h) refl
 
 abbrev R : ℕ → Word → Bool
-R m a = rightAt m (scaled (decimalValue a))
+R m a = rightAt m (decimalValue a)
 
 last-four : (l : List Word) → (all decimal l && lastRow l) ≡ sixteenFrom 4 l
 unfolding sixteenFrom all lastRow
@@ -84,7 +83,7 @@ by-count zero l = last-four l
 by-count (suc n) [] = let e : suc n + 4 ≡ suc (n + 4) = omega arith in rw e refl
 by-count (suc n) (a ∷ l) =
     let e : suc n + 4 ≡ suc (n + 4) = omega arith in
-    rw (e, right-more (n + 4) (scaled (decimalValue a)) (omega arith), sym (by-count n l)) (regroup (decimal a) (all decimal l) (lastRow (drop n l)))
+    rw (e, right-more (n + 4) (decimalValue a) (omega arith), sym (by-count n l)) (regroup (decimal a) (all decimal l) (lastRow (drop n l)))
 
 pub sixteen-is : (w : Word) → sixteen w ≡ sixteenFrom 16 (words w)
 unfolding sixteen
@@ -101,6 +100,6 @@ parts-few (a ∷ b ∷ []) h =
     omega (arith, length-append b [], x .1 .0)
 parts-few (a ∷ b ∷ c ∷ l) h = let z : _≡_ {A = ℕ} 0 1 = cc in absurd (omega arith)
 
-pub places-few : (x : Word) → decimal x ≡ true → (scaled (decimalValue x)) .places ≤ 14
-unfolding decimal decimalValue scaled
+pub places-few : (x : Word) → decimal x ≡ true → decimalValue x .places ≤ 14
+unfolding decimal decimalValue
 places-few x h = parts-few (parts point ((unsigned true x) .rest)) h

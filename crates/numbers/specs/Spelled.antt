@@ -12,35 +12,34 @@ use Rattle.grammar.specs.Document.{together}
 use Rattle.grammar.specs.Facts.{and-left, and-right, refute, blank-in}
 use Rattle.grammar.specs.Look.{Word}
 use Rattle.lists.specs.Lists.{all}
-use Rattle.numbers.specs.Numbers.{digit, digits, number, value, parts, onFirst, point, Sign, plus, minus, Signed, unsigned, withSign, Decimal, decimalParts, decimal, decimalValue}
+use Rattle.numbers.specs.Numbers.{digit, digits, number, value, parts, onFirst, point, Sign, plus, minus, Signed, unsigned, withSign, decimalParts, decimal, decimalValue}
 use Rattle.numbers.specs.Cuts.{Uncut, none, more, Parts, parts-some, parts-end, parts-cut, parts-join, digit-no-blank, digit-no-point, digits-uncut, digits-are, digits-few, digits-stopped, digits-split, number-append}
 use Rattle.numbers.specs.Stream.{stream, wordEnds}
-use Rattle.numbers.specs.Answers.{scaled}
 use Rattle.numbers.specs.declared.Source.{Source}
-use Rattle.numbers.specs.declared.Scaled.{Scaled}
+use Rattle.numbers.specs.declared.Decimal.{Decimal}
 use Rattle.numbers.specs.declared.Spelling.{Spelling}
 use Rattle.numbers.specs.declared.Spelling.the-variants.{Reads, Fails}
 
 -- the digits of a decimal without its sign, and how many stand behind the point
-unfoldable pub pureValue : Sign → Word → Scaled
+unfoldable pub pureValue : Sign → Word → Decimal
 pureValue s w = record { amount = withSign s (value (together (parts point w))); places = length (together (drop 1 (parts point w))) }
 
 -- What is found from a place on, the sign being read: a decimal and the place behind it, or a word that is none.
 pub data Pure (source : Source) (text : List ℕ) (at : ℕ) (s : Sign) : Spelling → Type 0 where
-  pure-reads : (x : Word) {j : ℕ} {d : Scaled} → decimalParts (parts point x) ≡ true → d ≡ pureValue s x → Uncut blank x → stream source text at ≡ x ++ stream source text j
+  pure-reads : (x : Word) {j : ℕ} {d : Decimal} → decimalParts (parts point x) ≡ true → d ≡ pureValue s x → Uncut blank x → stream source text at ≡ x ++ stream source text j
       → wordEnds (stream source text j) ≡ true → Pure source text at s (Reads d j)
   pure-fails : (x y : Word) → decimalParts (parts point x) ≡ false → Uncut blank x → stream source text at ≡ x ++ y → wordEnds y ≡ true → Pure source text at s Fails
 
 -- What is found behind the point, where `count` digits stand in front of it, which write `before`.
 pub data Pointed (source : Source) (text : List ℕ) (at before count : ℕ) (s : Sign) : Spelling → Type 0 where
-  pointed-reads : (v : Word) {j : ℕ} {d : Scaled} → all digit v ≡ true → 1 ≤ length v → length v ≤ 15 - count → d ≡ record { amount = withSign s (number before v); places = length v }
+  pointed-reads : (v : Word) {j : ℕ} {d : Decimal} → all digit v ≡ true → 1 ≤ length v → length v ≤ 15 - count → d ≡ record { amount = withSign s (number before v); places = length v }
       → stream source text at ≡ v ++ stream source text j → wordEnds (stream source text j) ≡ true → Pointed source text at before count s (Reads d j)
   pointed-fails : (x y : Word) → ((u : Word) → length u ≡ count → decimalParts (u ∷ parts point x) ≡ false) → Uncut blank x → stream source text at ≡ x ++ y → wordEnds y ≡ true
       → Pointed source text at before count s Fails
 
 -- The same, with the sign.
 pub data Spelled (source : Source) (text : List ℕ) (at : ℕ) : Spelling → Type 0 where
-  spelled-reads : (x : Word) {j : ℕ} {d : Scaled} → decimal x ≡ true → d ≡ scaled (decimalValue x) → Uncut blank x → stream source text at ≡ x ++ stream source text j
+  spelled-reads : (x : Word) {j : ℕ} {d : Decimal} → decimal x ≡ true → d ≡ decimalValue x → Uncut blank x → stream source text at ≡ x ++ stream source text j
       → wordEnds (stream source text j) ≡ true → Spelled source text at (Reads d j)
   spelled-fails : (x y : Word) → decimal x ≡ false → Uncut blank x → stream source text at ≡ x ++ y → wordEnds y ≡ true → Spelled source text at Fails
 

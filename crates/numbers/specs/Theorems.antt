@@ -12,11 +12,11 @@ use Rattle.grammar.specs.Document.{together}
 use Rattle.grammar.specs.Look.{Word}
 use Rattle.lists.specs.Lists.{all, count}
 use Rattle.grammar.specs.Bytes.{between}
-use Rattle.numbers.specs.Numbers.{digit, digits, number, value, parts, point, whole, volumeDimensions, dimensionList, commaValues, exponent, exponentValue, Sign, plus, minus, unsigned, withSign, Decimal, decimal, decimalValue}
+use Rattle.numbers.specs.Numbers.{digit, digits, number, value, parts, point, whole, volumeDimensions, dimensionList, commaValues, exponent, exponentValue, Sign, plus, minus, unsigned, withSign, decimal, decimalValue}
 use Rattle.numbers.specs.Cuts.{parts-end, parts-cut, digits-uncut, digit-no-point, number-append}
-use Rattle.numbers.specs.Answers.{wholeIn, listedIn, betweenIn, lengthsOf, threeIn, exponentIn, scaled, decimalIn, nextNumber}
+use Rattle.numbers.specs.Answers.{wholeIn, listedIn, betweenIn, lengthsOf, threeIn, exponentIn, decimalIn, nextNumber}
 use Rattle.numbers.specs.declared.Lengths.{Lengths}
-use Rattle.numbers.specs.declared.Scaled.{Scaled}
+use Rattle.numbers.specs.declared.Decimal.{Decimal}
 use Rattle.numbers.specs.declared.Whole.the-variants as wholes
 use Rattle.numbers.specs.declared.Three.the-variants as threes
 use Rattle.numbers.specs.declared.Exponent.the-variants as exponents
@@ -59,11 +59,11 @@ exponent-exactly most w n = (λ e. there (exponent most w) refl e, λ h. rw (h .
     there true q e = (q, cc)
     there false q e = let z : _≡_ {A = ℕ} 0 1 = cc in absurd (omega arith)
 
-pub decimal-exactly : (w : Word) (d : Scaled) → (decimalIn w ≡ decimals.Is d) ↔ ((decimal w ≡ true) × (scaled (decimalValue w) ≡ d))
+pub decimal-exactly : (w : Word) (d : Decimal) → (decimalIn w ≡ decimals.Is d) ↔ ((decimal w ≡ true) × (decimalValue w ≡ d))
 unfolding decimalIn
 decimal-exactly w d = (λ e. there (decimal w) refl e, λ h. rw (h .0, h .1) refl)
   where
-    there : (t : Bool) → decimal w ≡ t → cond t (decimals.Is (scaled (decimalValue w))) decimals.No ≡ decimals.Is d → (decimal w ≡ true) × (scaled (decimalValue w) ≡ d)
+    there : (t : Bool) → decimal w ≡ t → cond t (decimals.Is (decimalValue w)) decimals.No ≡ decimals.Is d → (decimal w ≡ true) × (decimalValue w ≡ d)
     there true q e = (q, cc)
     there false q e = let z : _≡_ {A = ℕ} 0 1 = cc in absurd (omega arith)
 

@@ -18,7 +18,7 @@ ghost use mathlib.Core.Bool.{Bool, cond};
 ghost use lib.ListN.{length, drop};
 ghost use Rattle.nodes.specs.Values.{value-there};
 ghost use Rattle.nodes.specs.Says.{says};
-ghost use Rattle.numbers.specs.Numbers.{sixteen, withSign, isWhole};
+ghost use Rattle.numbers.specs.Numbers.{sixteen, withSign, isWhole, noDecimal};
 ghost use Rattle.numbers.specs.Sixteen.{rightAt};
 ghost use Rattle.numbers.specs.Stream.{stream};
 ghost use Rattle.grammar.specs.Bytes.{blank, between};
@@ -50,15 +50,25 @@ pub enum Exponent {
     No,
 }
 
-// A decimal as it is written: its digits with the sign, and how many of them stand behind the point.
-pub struct Scaled {
+// A decimal as it is written: its digits with the sign, and how many of them stand behind the point. 2.0 is 20 with one place.
+pub struct Decimal {
     pub amount: i64,
     pub places: u64,
 }
 
 pub enum Decimals {
-    Is(Scaled),
+    Is(Decimal),
     No,
+}
+
+// What stands where there is no decimal.
+pub fn no_decimal() -> Decimal
+    ensures { λ r. ⌜ r ≡ noDecimal ⌝ }
+{
+    Decimal {
+        amount: 0,
+        places: 0,
+    }
 }
 
 // The number that stands next in a list, and the place behind it.
@@ -90,7 +100,7 @@ enum Part {
 
 // A decimal and the place behind it, or that a word is none.
 enum Spelling {
-    Reads(Scaled, usize),
+    Reads(Decimal, usize),
     Fails,
 }
 

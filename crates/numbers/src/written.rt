@@ -1,5 +1,5 @@
 // Decimals, up to a blank or the end, and the test of the last row.
-use super::Scaled;
+use super::Decimal;
 use super::Source;
 use super::Spelling;
 use super::chars::char_at;
@@ -34,7 +34,7 @@ pub(crate) fn places_at(
         return Spelling::Fails;
     }
     Spelling::Reads(
-        Scaled {
+        Decimal {
             amount: signed(negative, run.value),
             places: run.count,
         },
@@ -57,7 +57,7 @@ pub fn pure_decimal(text: &[u8], at: usize, source: Source, negative: bool) -> S
             }
             if tokens::classes::is_blank(b) {
                 return Spelling::Reads(
-                    Scaled {
+                    Decimal {
                         amount: signed(negative, run.value),
                         places: 0,
                     },
@@ -67,7 +67,7 @@ pub fn pure_decimal(text: &[u8], at: usize, source: Source, negative: bool) -> S
             Spelling::Fails
         }
         Char::End => Spelling::Reads(
-            Scaled {
+            Decimal {
                 amount: signed(negative, run.value),
                 places: 0,
             },
@@ -109,7 +109,7 @@ pub(crate) fn shifted(n: u64, places: u64) -> u64
 }
 
 // The decimal is equal in value to `n`.
-pub(crate) fn equals(d: Scaled, n: u64) -> bool
+pub(crate) fn equals(d: Decimal, n: u64) -> bool
     requires { ⌜ (n ≤ 1) × (d .places ≤ 14) ⌝ }
     ensures { λ r. ⌜ r ≡ isWhole (n * 10 ^ (d .places)) (d .amount) ⌝ }
 {
@@ -119,7 +119,7 @@ pub(crate) fn equals(d: Scaled, n: u64) -> bool
 }
 
 // The decimal is right where so many of the sixteen are still to come.
-pub(crate) fn right_at(left: u64, d: Scaled) -> bool
+pub(crate) fn right_at(left: u64, d: Decimal) -> bool
     requires { ⌜ d .places ≤ 14 ⌝ }
     ensures { λ r. ⌜ r ≡ rightAt left d ⌝ }
 {

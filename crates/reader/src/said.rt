@@ -3,13 +3,14 @@ use super::dims::lists_digit;
 use super::fields::attribute_is;
 use super::series::series_at;
 use cifti::Answer;
-use cifti::Decimal;
 use cifti::Dimension;
 use cifti::Kind;
 use cifti::Series;
+use cifti::dimension_by;
+use cifti::no_series;
+use cifti::unused;
 use describe::said::Said;
 use maps::survey::Maps;
-use records::Place;
 ghost use mathlib.Core.Path.{_≡_};
 ghost use Rattle.nodes.specs.Places.{the};
 ghost use Rattle.cifti.specs.Maps.{contentOf};
@@ -19,63 +20,22 @@ ghost use Rattle.maps.specs.Ready.{mapsAt};
 ghost use Rattle.maps.specs.Nine.{InRoom};
 ghost use Rattle.describe.specs.Said.{brainSaid, seriesDimension, scalarsSaid, takes, AllSaid, Choosing};
 
-fn no_series() -> Series
-    ensures { λ r. ⌜ r ≡ answers.noSeries ⌝ }
-{
-    let zero = Decimal {
-        amount: 0,
-        places: 0,
-    };
-    Series {
-        start: zero,
-        step: zero,
-        exponent: 0,
-        unit: 0,
-    }
-}
-
-fn unused() -> Dimension
-    ensures { λ r. ⌜ r ≡ answers.unused ⌝ }
-{
-    Dimension {
-        kind: Kind::None,
-        length: 0,
-        start: Place(0),
-        series: no_series(),
-    }
-}
-
 fn brain_said(length: u64, start: usize) -> Dimension
     ensures { λ r. ⌜ r ≡ brainSaid length start ⌝ }
 {
-    Dimension {
-        kind: Kind::Brain,
-        length: length,
-        start: Place(start),
-        series: no_series(),
-    }
+    dimension_by(Kind::Brain, length, start, no_series())
 }
 
 fn series_said(length: u64, series: Series) -> Dimension
     ensures { λ r. ⌜ r ≡ seriesDimension length series ⌝ }
 {
-    Dimension {
-        kind: Kind::Series,
-        length: length,
-        start: Place(0),
-        series: series,
-    }
+    dimension_by(Kind::Series, length, 0, series)
 }
 
 fn scalars_said(length: u64) -> Dimension
     ensures { λ r. ⌜ r ≡ scalarsSaid length ⌝ }
 {
-    Dimension {
-        kind: Kind::Scalars,
-        length: length,
-        start: Place(0),
-        series: no_series(),
-    }
+    dimension_by(Kind::Scalars, length, 0, no_series())
 }
 
 // What the answer says of the map at `at`, of this length, whose stretch, if it has one, begins at `start`.

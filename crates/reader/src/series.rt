@@ -1,37 +1,19 @@
 // What a series map says.
 use super::fields::attribute_is;
-use cifti::Decimal;
 use cifti::Series;
 use nodes::Found;
+use numbers::Decimal;
 use numbers::Decimals;
 use numbers::Exponent;
-use numbers::Scaled;
 use numbers::decimal_value;
 use numbers::exponent_value;
+use numbers::no_decimal;
 ghost use mathlib.Core.Path.{_≡_};
 ghost use Rattle.grammar.specs.Look.{attr};
 ghost use Rattle.nodes.specs.Places.{Stands, the};
 ghost use Rattle.cifti.specs.Words.{units, numberIn};
 ghost use Rattle.maps.specs.Fields.{wordAt};
-ghost use Rattle.describe.specs.Series.{asWritten, noDecimal, decimalSeen, exponentSeen, seriesSaid, SeriesAt};
-
-fn as_written(d: Scaled) -> Decimal
-    ensures { λ r. ⌜ r ≡ asWritten d ⌝ }
-{
-    Decimal {
-        amount: d.amount,
-        places: d.places,
-    }
-}
-
-fn no_decimal() -> Decimal
-    ensures { λ r. ⌜ r ≡ noDecimal ⌝ }
-{
-    Decimal {
-        amount: 0,
-        places: 0,
-    }
-}
+ghost use Rattle.describe.specs.Series.{decimalSeen, exponentSeen, seriesSaid, SeriesAt};
 
 // The attribute's decimal, zero where there is none.
 fn decimal_seen(text: &[u8], at: usize, name: &[u8]) -> Decimal
@@ -40,7 +22,7 @@ fn decimal_seen(text: &[u8], at: usize, name: &[u8]) -> Decimal
 {
     match nodes::attributes::attribute(text, at, name) {
         Found::At(v) => match decimal_value(text, v) {
-            Decimals::Is(d) => as_written(d),
+            Decimals::Is(d) => d,
             Decimals::No => no_decimal(),
         },
         Found::Nothing => no_decimal(),

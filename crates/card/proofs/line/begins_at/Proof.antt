@@ -3,6 +3,4 @@ use Rattle.card.proofs.line.begins_at.Statement.{statement}
 use Rattle.card.proofs.line.begins_at.Tie as tie
 
 pub begins-at-spec : {M : Type 1} → statement M
-begins-at-spec =
-    tie.close
-    (tie.spec (λ c. search kindSteps) (λ c. search kindSteps) (λ c. search kindSteps) (λ c. search kindSteps) (λ c. search kindSteps) (λ c. search kindSteps) (λ c. search kindSteps) (λ c. search kindSteps))
+begins-at-spec = tie.close (tie.spec (λ c κs. search kindSteps) (λ c. search kindSteps))

@@ -1,15 +1,26 @@
-use lib.ListN.{length-set}
-use Rattle.flat.specs.Flat.{answerNumbers}
-use Rattle.flat.proofs.Laws.{told-short, answer-stored}
+use mathlib.Core.Path.{refl}
 use native.Mathlib.Omega.{arith}
 use borrow.Author.Needs.{needs}
+use Rattle.flat.specs.Flat.{answerNumbers}
+use Rattle.flat.proofs.Laws.{told-short, answer-stored}
 use Rattle.flat.proofs.slices.tell_answer.Statement.{statement}
 use Rattle.flat.proofs.slices.tell_answer.Tie as tie
 
 returns-2 : tie.Need-returns-2
 returns-2 c =
-    let start = c .before .before .before .before .before .before .before .before .before .before .before .before .before .before .before .before .before .before in
-    answer-stored (start .args .answer) (start .args .slice .now) (omega arith) (c .before .before .before .before .before .before .before .before .before .before .before .before .put-dimension .ensures) (c .before .before .before .before .before .before .before .put-dimension2 .ensures) (c .before .before .put-dimension3 .ensures)
+    let put₃ = c .before .before .before .before .before .before .before in
+    let put₁ = put₃ .before .before .before .before .before .before .before .before .before .before in
+    let rows = put₁ .before .before .before in
+    let tested = rows .before .before .before .before .before .before .before in
+    let start = tested .before .before in
+    answer-stored (start .args .answer) (start .args .slice .now) (omega (arith, tested .if1 .left)) refl
+    (rows .before .before .before .before .dimension-numbers .ensures)
+    (rows .before .before .dimension-numbers2 .ensures)
+    (rows .dimension-numbers3 .ensures)
+    (put₁ .put .ensures)
+    (put₃ .before .before .before .before .before .put2 .ensures)
+    (put₃ .put3 .ensures)
+    (c .before .before .put4 .ensures)
 
 pub tell-answer-spec : {M : Type 1} → statement M
 tell-answer-spec =
@@ -18,10 +29,18 @@ tell-answer-spec =
     (λ c. told-short (answerNumbers (c .before .before .args .answer)) (c .before .before .args .slice .now) (omega arith))
     (λ c. search needs)
     (λ c. search needs)
-    (λ c κs. simp length-set (omega arith))
+    (λ c κs. search needs)
     (λ c. search needs)
-    (λ c κs. omega (arith, simp length-set at (c .before .before .before .before .put-dimension .kept .0)))
+    (λ c κs. search needs)
     (λ c. search needs)
-    (λ c κs. omega (arith, simp length-set at (c .before .before .before .before .before .before .before .before .before .put-dimension .kept .0), c .before .before .before .before .put-dimension2 .kept .0))
-    (λ c. omega (arith, simp length-set at (c .before .before .before .before .before .before .before .before .before .before .before .before .put-dimension .kept .0), c .before .before .before .before .before .before .before .put-dimension2 .kept .0, c .before .before .put-dimension3 .kept .0))
+    (λ c κs. search needs)
+    (λ c. search needs)
+    (λ c κs. search needs)
+    (λ c. search needs)
+    (λ c κs. search needs)
+    (λ c. search needs)
+    (λ c κs. search needs)
+    (λ c. search needs)
+    (λ c κs. search needs)
+    (λ c. search needs)
     returns-2)

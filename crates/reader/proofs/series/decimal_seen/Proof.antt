@@ -10,7 +10,6 @@ decimal-seen-spec =
     (λ c. search decimalSteps)
     (λ c κs. search decimalSteps)
     (λ c. search decimalSteps)
-    (λ c κs. search decimalSteps)
     (λ c. search decimalSteps)
     (λ c κs. search decimalSteps)
     (λ c. search decimalSteps)

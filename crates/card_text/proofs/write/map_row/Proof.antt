@@ -1,9 +1,9 @@
 use Rattle.card_text.proofs.LawsWrite.{rowSteps}
 use borrow.Author.Needs.{needs}
-use Rattle.card_text.proofs.write.row_of_one.Statement.{statement}
-use Rattle.card_text.proofs.write.row_of_one.Tie as tie
+use Rattle.card_text.proofs.write.map_row.Statement.{statement}
+use Rattle.card_text.proofs.write.map_row.Tie as tie
 
-pub row-of-one-spec : {M : Type 1} → statement M
-row-of-one-spec =
+pub map-row-spec : {M : Type 1} → statement M
+map-row-spec =
     tie.close
     (tie.spec (λ c κs. search needs) (λ c κs. search needs) (λ c κs. search needs) (λ c. search needs) (λ c. search rowSteps))

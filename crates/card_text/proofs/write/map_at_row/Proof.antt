@@ -1,10 +1,10 @@
 use Rattle.card_text.proofs.LawsWrite.{rowSteps}
 use borrow.Author.Needs.{needs}
-use Rattle.card_text.proofs.write.row_of_two.Statement.{statement}
-use Rattle.card_text.proofs.write.row_of_two.Tie as tie
+use Rattle.card_text.proofs.write.map_at_row.Statement.{statement}
+use Rattle.card_text.proofs.write.map_at_row.Tie as tie
 
-pub row-of-two-spec : {M : Type 1} → statement M
-row-of-two-spec =
+pub map-at-row-spec : {M : Type 1} → statement M
+map-at-row-spec =
     tie.close
     (tie.spec
     (λ c κs. search needs)

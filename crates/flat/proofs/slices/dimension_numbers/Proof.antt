@@ -1,0 +1,39 @@
+use mathlib.Core.Path.{_≡_, ap, _∙_}
+use mir.Syntax.{w64}
+use mir.Val.{toZ, ofZ}
+use Rattle.flat.specs.Flat.{complement}
+use borrow.Author.Needs.{needs}
+use Rattle.flat.proofs.Laws.{dimension-stored}
+use Rattle.flat.proofs.slices.dimension_numbers.Statement.{statement}
+use Rattle.flat.proofs.slices.dimension_numbers.Tie as tie
+
+returns : tie.Need-returns
+returns c =
+    let d = c .before .before .before .before .before .before .before .before .before .before .before .args .dimension in
+    let i : toZ w64 (ofZ w64 (d .series .start .amount)) ≡ d .series .start .amount = search needs in
+    let j : toZ w64 (ofZ w64 (d .series .step .amount)) ≡ d .series .step .amount = search needs in
+    let k : toZ w64 (ofZ w64 (d .series .exponent)) ≡ d .series .exponent = search needs in
+    dimension-stored d
+    (c .before .before .before .before .before .before .kind-number .ensures)
+    (c .before .before .before .before .complement .ensures ∙ ap complement i)
+    (c .before .before .complement2 .ensures ∙ ap complement j)
+    (c .complement3 .ensures ∙ ap complement k)
+
+pub dimension-numbers-spec : {M : Type 1} → statement M
+dimension-numbers-spec =
+    tie.close
+    (tie.spec
+    (λ c κs. search needs)
+    (λ c. search needs)
+    (λ c. search needs)
+    (λ c. search needs)
+    (λ c κs. search needs)
+    (λ c. search needs)
+    (λ c. search needs)
+    (λ c κs. search needs)
+    (λ c. search needs)
+    (λ c. search needs)
+    (λ c κs. search needs)
+    (λ c. search needs)
+    (λ c. search needs)
+    returns)

@@ -1,0 +1,84 @@
+"""One function for each call of a case: what is given by name, and what is answered by name, through the built library.
+
+Texts and parts are strings of bytes as latin-1, sheets are in hexadecimal. Slices lent for writing are given with their contents and
+answered whole. A decimal is [amount, power of ten]. A call that is not here is not in the library yet.
+"""
+import ctypes
+import pathlib
+import sys
+
+HERE = pathlib.Path(__file__).resolve().parent
+sys.path[:0] = [str(HERE), str(HERE.parent / "python")]
+
+import dzwonolin  # noqa: E402
+import emulation  # noqa: E402
+
+emulation.ready(dzwonolin)
+
+# what a text writes is shown by the definitions, and read again by the oracle
+passed_over = ("document",)
+
+
+def not_yet(**given):
+    """Refuses what the library cannot be given yet."""
+    for name, value in given.items():
+        if value is not None:
+            raise NotImplementedError(f"the library takes no {name} yet")
+
+
+def fold(record):
+    """A record's number, from ['S', structure, vertex], ['V', structure, i, j, k] or the number itself."""
+    if isinstance(record, int):
+        return record
+    if record[0] == "S":
+        return record[1] << 34 | record[2]
+    return 1 << 39 | record[1] << 34 | record[2] << 23 | record[3] << 12 | record[4]
+
+
+def lent_numbers(values):
+    return (ctypes.c_uint64 * len(values))(*(fold(v) for v in values))
+
+
+def told(dimension):
+    """A dimension of the module, by the names of the cases."""
+    power = {name: [getattr(dimension, name)[0], -getattr(dimension, name)[1]] for name in ("series_start", "series_step")}
+    return {**dimension._asdict(), **power}
+
+
+def read(text, lengths, records, work, beginnings=None):
+    not_yet(beginnings=beginnings)
+    lent, space = lent_numbers(records), lent_numbers([0] * work)
+    answer = dzwonolin.read(text.encode("latin-1"), lengths, lent, space)
+    if any(space):
+        raise ValueError("the work space is not zero")
+    return {"number": answer.number, "dimensions": [told(d) for d in answer.dimensions], "records": list(lent)}
+
+
+def map_name(text, lengths, dimension, index):
+    number, part = dzwonolin.map_name(text.encode("latin-1"), lengths, dimension, index)
+    return {"number": number, "part": part.decode("latin-1")}
+
+
+def find(records, number):
+    refusal, place = dzwonolin.find([fold(r) for r in records], number)
+    return {"number": refusal, "place": place}
+
+
+def pack(records, sheet):
+    lent, count = lent_numbers(records), lent_numbers([0])
+    room = bytearray.fromhex(sheet)
+    slot = (ctypes.c_ubyte * len(room)).from_buffer(room) if room else (ctypes.c_ubyte * 0)()
+    number = dzwonolin._library().dz_pack(lent, len(lent), slot, len(room), count, 1)
+    return {"number": number, "written": count[0], "sheet": bytes(slot).hex()}
+
+
+def unpack(sheet, records):
+    given, lent, count = bytes.fromhex(sheet), lent_numbers(records), lent_numbers([0])
+    number = dzwonolin._library().dz_unpack(given, len(given), lent, len(lent), count, 1)
+    return {"number": number, "count": count[0], "records": list(lent)}
+
+
+def pack_unpack(records, sheet):
+    packed = pack(records, sheet)
+    number, back = dzwonolin.unpack(bytes.fromhex(packed["sheet"])[:packed["written"]])
+    return {"number": packed["number"] or number, "sheet": packed["sheet"], "back": back}
