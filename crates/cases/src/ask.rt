@@ -1,9 +1,6 @@
 // A question to each function, printed with its answer: 'what was asked: what was answered'.
 use cifti::Answer;
 use libc::STDOUT_FILENO;
-use records::Found;
-use records::Packed;
-use records::Unpacked;
 ghost use Prim.Native.Nat.{_≤_};
 
 pub fn say(words: &[u8]) {
@@ -62,14 +59,12 @@ pub fn pack(asked: &[u8], records: &[u64], room: usize) {
     let mut sheet = [0u8; 32];
     let lent = least(room, 32);
     ask(asked);
-    match records::pack(records, &mut sheet[..lent]) {
-        Packed::Written(n) => {
-            io::print_decimal(STDOUT_FILENO, n as u64);
-            say(b" bytes\n");
-        }
-        Packed::BadCount => refused(15),
-        Packed::BadRecord => refused(16),
-        Packed::TooShort => refused(17),
+    let said = records::pack(records, &mut sheet[..lent]);
+    if said.number != 0 {
+        refused(said.number);
+    } else {
+        io::print_decimal(STDOUT_FILENO, said.value);
+        say(b" bytes\n");
     }
 }
 
@@ -77,27 +72,25 @@ pub fn unpack(asked: &[u8], sheet: &[u8], room: usize) {
     let mut records = [0u64; 8];
     let lent = least(room, 8);
     ask(asked);
-    match records::unpack(sheet, &mut records[..lent]) {
-        Unpacked::Records(n) => {
-            io::print_decimal(STDOUT_FILENO, n as u64);
-            say(b" records, the first ");
-            io::print_decimal(STDOUT_FILENO, records[0]);
-            say(b"\n");
-        }
-        Unpacked::BadSheet => refused(15),
-        Unpacked::Illegal => refused(16),
-        Unpacked::NoRoom => refused(17),
+    let said = records::unpack(sheet, &mut records[..lent]);
+    if said.number != 0 {
+        refused(said.number);
+    } else {
+        io::print_decimal(STDOUT_FILENO, said.value);
+        say(b" records, the first ");
+        io::print_decimal(STDOUT_FILENO, records[0]);
+        say(b"\n");
     }
 }
 
 pub fn find(asked: &[u8], records: &[u64], number: u64) {
     ask(asked);
-    match records::find(records, number) {
-        Found::At(place) => {
-            say(b"place ");
-            io::print_decimal(STDOUT_FILENO, place.0 as u64);
-            say(b"\n");
-        }
-        Found::Nowhere => refused(19),
+    let said = records::find(records, number);
+    if said.number != 0 {
+        refused(said.number);
+    } else {
+        say(b"place ");
+        io::print_decimal(STDOUT_FILENO, said.place.0 as u64);
+        say(b"\n");
     }
 }

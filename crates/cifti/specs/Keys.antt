@@ -2,18 +2,20 @@
 use mathlib.Core.Path.{_≡_, refl}
 use mathlib.Core.Logic.{_↔_}
 use mathlib.Core.List.{List, [], _∷_}
-use mathlib.Core.Bool.{Bool, true, false, _&&_, false≢true}
+use mathlib.Core.Bool.{true, false, _&&_}
 use Prim.Native.Nat.{ℕ, zero, suc, _-_, _^_, _<_, _≤_}
 use native.Mathlib.Nat.{le-of-suc-le-suc, not-suc-le-zero}
 use native.Mathlib.Omega.{arith}
 use lib.Dec.{ltb}
 use lib.ListN.{length, getD}
 use borrow.Author.Tests.{ltb-true}
+use Rattle.lists.specs.Booleans.{and-halves}
 use Rattle.lists.specs.Lists.{twoOf, each, total}
 use Rattle.lists.specs.Laws.{length-each}
 use Rattle.lists.specs.Quantifiers.{EveryPlace, OnePlace}
-use Rattle.records.specs.Record.{Location, onSurface, recordOf, keyOf, Fits, surface, volume}
-use Rattle.records.specs.RecordLaws.{same-place-key, key-same-place}
+use Rattle.records.specs.Width.{Width}
+use Rattle.records.specs.Record.{Location, onSurface, recordOf, keyOf, FitsIn, Fits, surface, volume}
+use Rattle.records.specs.RecordLaws.{width40-sound, same-place-key, key-same-place}
 use Rattle.cifti.specs.Maps.{Voxel, voxel, Listed, vertices, voxels, Model, voxelsOf, threes, voxelAt, locations, locationsBy, covers}
 use Rattle.cifti.specs.Conditions.{alike, listsCount, outside, beyond, repeats}
 use Rattle.cifti.specs.Answer.{recordAt}
@@ -28,35 +30,31 @@ at-each f [] z y p u = absurd (not-suc-le-zero u)
 at-each f (x ∷ l) z y zero u = refl
 at-each f (x ∷ l) z y (suc p) u = at-each f l z y p (le-of-suc-le-suc u)
 
-both : (a b : Bool) → (a && b) ≡ true → (a ≡ true) × (b ≡ true)
-both true b h = (refl, h)
-both false b h = absurd (false≢true h)
-
 -- the surface is no larger than a record's payload can count
-pub data Small : Listed → Type 0 where
-  small-surface : {n : ℕ} {l : List ℕ} → n ≤ 2 ^ 34 → Small (vertices n l)
-  voxels-small : {l : List ℕ} → Small (voxels l)
+pub data Small (w : Width) : Listed → Type 0 where
+  small-surface : {n : ℕ} {l : List ℕ} → n ≤ 2 ^ (w .vertex) → Small w (vertices n l)
+  voxels-small : {l : List ℕ} → Small w (voxels l)
 
-pub listed-fits : (s : ℕ) (v : Voxel) (t : Listed) → s < 2 ^ 5 → v .i ≤ 2 ^ 11 → v .j ≤ 2 ^ 11 → v .k ≤ 2 ^ 12 → Small t → beyond v t ≡ false
-    → (p : ℕ) → p < length (locationsBy s t) → Fits (getD (locationsBy s t) p (onSurface 0 0))
+pub listed-fits : (w : Width) (s : ℕ) (v : Voxel) (t : Listed) → s < 2 ^ (w .structure) → v .i ≤ 2 ^ (w .i) → v .j ≤ 2 ^ (w .j) → v .k ≤ 2 ^ (w .k) → Small w t
+    → beyond v t ≡ false → (p : ℕ) → p < length (locationsBy s t) → FitsIn w (getD (locationsBy s t) p (onSurface 0 0))
 unfolding locationsBy beyond voxelsOf voxelAt outside
-listed-fits s v (vertices n l) h hi hj hk (small-surface m) f p u =
+listed-fits b s v (vertices n l) h hi hj hk (small-surface m) f p u =
     let w : p < length l = rw (length-each (onSurface s) l) at u in
     let q = ltb-true (getD l p 0) n (none-fails 0 (λ x. ltb x n) l f p w) in
-    let g : getD l p 0 < 2 ^ 34 = omega arith in
+    let g : getD l p 0 < 2 ^ (b .vertex) = omega arith in
     rw (at-each (onSurface s) l 0 (onSurface 0 0) p w) (surface h g)
-listed-fits s v (voxels l) h hi hj hk voxels-small f p u =
+listed-fits b s v (voxels l) h hi hj hk voxels-small f p u =
     let w : p < length (threes l) = rw (length-each (voxelAt s) (threes l)) at u in
     let x : Voxel = getD (threes l) p (voxel 0 0 0) in
     let q = none-fails (voxel 0 0 0) (λ y. ltb (y .i) (v .i) && (ltb (y .j) (v .j) && ltb (y .k) (v .k))) (threes l) f p w in
-    let (a, r) = both (ltb (x .i) (v .i)) (ltb (x .j) (v .j) && ltb (x .k) (v .k)) q in
-    let (b, c) = both (ltb (x .j) (v .j)) (ltb (x .k) (v .k)) r in
-    let a′ = ltb-true (x .i) (v .i) a in
-    let b′ = ltb-true (x .j) (v .j) b in
+    let (d, r) = and-halves (ltb (x .i) (v .i)) (ltb (x .j) (v .j) && ltb (x .k) (v .k)) q in
+    let (e, c) = and-halves (ltb (x .j) (v .j)) (ltb (x .k) (v .k)) r in
+    let d′ = ltb-true (x .i) (v .i) d in
+    let e′ = ltb-true (x .j) (v .j) e in
     let c′ = ltb-true (x .k) (v .k) c in
-    let i′ : x .i < 2 ^ 11 = omega arith in
-    let j′ : x .j < 2 ^ 11 = omega arith in
-    let k′ : x .k < 2 ^ 12 = omega arith in
+    let i′ : x .i < 2 ^ (b .i) = omega arith in
+    let j′ : x .j < 2 ^ (b .j) = omega arith in
+    let k′ : x .k < 2 ^ (b .k) = omega arith in
     rw (at-each (voxelAt s) (threes l) (voxel 0 0 0) (onSurface 0 0) p w) (volume h i′ j′ k′)
 
 -- ---- Of a map whose every index is in one range.
@@ -95,10 +93,10 @@ module _ (m₀ : Model) (l : List Model)
       to : repeats l ≡ true → OneKey
       to h =
           let t = indices .0 h in
-          let k = same-place-key (fits-at (t .first) (omega (arith, t .order, t .in-map))) (fits-at (t .second) (t .in-map)) (t .same) in
+          let k = same-place-key width40-sound (fits-at (t .first) (omega (arith, t .order, t .in-map))) (fits-at (t .second) (t .in-map)) (t .same) in
           record { first = t .first; second = t .second; order = t .order; in-map = t .in-map; same = rw (record-location l (t .first), record-location l (t .second)) k }
 
       from : OneKey → repeats l ≡ true
       from t =
           let k : keyOf (recordOf (locationAt l (t .first))) ≡ keyOf (recordOf (locationAt l (t .second))) = rw (record-location l (t .first), record-location l (t .second)) at (t .same) in
-          indices .1 (record { first = t .first; second = t .second; order = t .order; in-map = t .in-map; same = key-same-place (fits-at (t .first) (omega (arith, t .order, t .in-map))) (fits-at (t .second) (t .in-map)) k })
+          indices .1 (record { first = t .first; second = t .second; order = t .order; in-map = t .in-map; same = key-same-place width40-sound (fits-at (t .first) (omega (arith, t .order, t .in-map))) (fits-at (t .second) (t .in-map)) k })

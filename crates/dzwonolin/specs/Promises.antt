@@ -3,11 +3,10 @@
 use mathlib.Core.Path.{_≡_}
 use mathlib.Core.List.{List, [], _∷_}
 use Prim.Native.Nat.{ℕ}
-use Rattle.records.specs.Find.{Finds, findNumber, findValue}
-use Rattle.records.specs.Sheet.{Packs, packNumber, packValue, Unpacks, unpackNumber, unpackValue}
+use Rattle.records.specs.Find.{Finds}
+use Rattle.records.specs.Sheet.{Packs, Unpacks}
 use Rattle.records.specs.declared.search.Found.{Found}
-use Rattle.records.specs.declared.sheet.Packed.{Packed}
-use Rattle.records.specs.declared.sheet.Unpacked.{Unpacked}
+use Rattle.records.specs.declared.outcome.Outcome.{Outcome}
 use Rattle.cifti.specs.Answer.{Reads}
 use Rattle.cifti.specs.declared.answer.Answer.{Answer}
 use Rattle.name_place.specs.Placed.{NamePlaced}
@@ -29,17 +28,17 @@ pub record NamesFlat (text lengths : List ℕ) (dimension index : ℕ) (slice : 
 pub record FindsFlat (records : List ℕ) (x : ℕ) (slice : List ℕ) (number : ℕ) (sliceAfter : List ℕ) : Type 0 where
   pub answer : Found
   pub finds : Finds records x answer
-  pub numbered : number ≡ findNumber answer
-  pub flat : sliceAfter ≡ told (findValue answer ∷ []) slice
+  pub numbered : number ≡ answer .number
+  pub flat : sliceAfter ≡ told (answer .place .0 ∷ []) slice
 
 pub record PacksFlat (records sheet slice : List ℕ) (number : ℕ) (sheetAfter sliceAfter : List ℕ) : Type 0 where
-  pub answer : Packed
+  pub answer : Outcome
   pub packs : Packs records sheet answer sheetAfter
-  pub numbered : number ≡ packNumber answer
-  pub flat : sliceAfter ≡ told (packValue answer ∷ []) slice
+  pub numbered : number ≡ answer .number
+  pub flat : sliceAfter ≡ told (answer .value ∷ []) slice
 
 pub record UnpacksFlat (sheet records slice : List ℕ) (number : ℕ) (recordsAfter sliceAfter : List ℕ) : Type 0 where
-  pub answer : Unpacked
+  pub answer : Outcome
   pub unpacks : Unpacks sheet records answer recordsAfter
-  pub numbered : number ≡ unpackNumber answer
-  pub flat : sliceAfter ≡ told (unpackValue answer ∷ []) slice
+  pub numbered : number ≡ answer .number
+  pub flat : sliceAfter ≡ told (answer .value ∷ []) slice

@@ -2,12 +2,9 @@
 use mathlib.Core.Path.{_≡_, sym, ap, _∙_}
 use mathlib.Core.List.{List, [], _∷_}
 use Prim.Native.Nat.{ℕ}
-use Rattle.records.specs.Find.{findNumber, findValue}
-use Rattle.records.specs.Sheet.{packNumber, packValue, unpackNumber, unpackValue}
 use Rattle.records.specs.Unique.{find-unique, pack-unique, unpack-unique}
 use Rattle.records.specs.declared.search.Found.{Found}
-use Rattle.records.specs.declared.sheet.Packed.{Packed}
-use Rattle.records.specs.declared.sheet.Unpacked.{Unpacked}
+use Rattle.records.specs.declared.outcome.Outcome.{Outcome}
 use Rattle.cifti.specs.Theorems.{reads-unique}
 use Rattle.cifti.specs.declared.answer.Answer.{Answer}
 use Rattle.name_place.specs.Unique.{place-unique}
@@ -30,17 +27,25 @@ module _ {text lengths : List ℕ} {d i : ℕ} {slice : List ℕ} {m n : ℕ} {a
 module _ {records slice : List ℕ} {x m n : ℕ} {a b : List ℕ} where
   pub find-flat-unique : FindsFlat records x slice m a → FindsFlat records x slice n b → (m ≡ n) × (a ≡ b)
   find-flat-unique p q =
-      let e : p .answer ≡ q .answer = find-unique records x (p .answer) (q .answer) (p .finds) (q .finds) in
-      (p .numbered ∙ ap findNumber e ∙ sym (q .numbered), p .flat ∙ ap (λ (f : Found). told (findValue f ∷ []) slice) e ∙ sym (q .flat))
+      let e : p .answer ≡ q .answer = find-unique records x (p .answer) (q .answer) (p .finds) (q .finds) in (
+        p .numbered ∙ ap (λ (f : Found). f .number) e ∙ sym (q .numbered),
+        p .flat ∙ ap (λ (f : Found). told (f .place .0 ∷ []) slice) e ∙ sym (q .flat),
+      )
 
 module _ {records sheet slice : List ℕ} {m n : ℕ} {s t a b : List ℕ} where
   pub pack-flat-unique : PacksFlat records sheet slice m s a → PacksFlat records sheet slice n t b → (m ≡ n) × (s ≡ t) × (a ≡ b)
   pack-flat-unique p q =
-      let (e, f) = pack-unique records sheet (p .answer) (q .answer) s t (p .packs) (q .packs) in
-      (p .numbered ∙ ap packNumber e ∙ sym (q .numbered), f, p .flat ∙ ap (λ (k : Packed). told (packValue k ∷ []) slice) e ∙ sym (q .flat))
+      let (e, f) = pack-unique records sheet (p .answer) (q .answer) s t (p .packs) (q .packs) in (
+        p .numbered ∙ ap (λ (k : Outcome). k .number) e ∙ sym (q .numbered),
+        f,
+        p .flat ∙ ap (λ (k : Outcome). told (k .value ∷ []) slice) e ∙ sym (q .flat),
+      )
 
 module _ {sheet records slice : List ℕ} {m n : ℕ} {r s a b : List ℕ} where
   pub unpack-flat-unique : UnpacksFlat sheet records slice m r a → UnpacksFlat sheet records slice n s b → (m ≡ n) × (r ≡ s) × (a ≡ b)
   unpack-flat-unique p q =
-      let (e, f) = unpack-unique sheet records (p .answer) (q .answer) r s (p .unpacks) (q .unpacks) in
-      (p .numbered ∙ ap unpackNumber e ∙ sym (q .numbered), f, p .flat ∙ ap (λ (k : Unpacked). told (unpackValue k ∷ []) slice) e ∙ sym (q .flat))
+      let (e, f) = unpack-unique sheet records (p .answer) (q .answer) r s (p .unpacks) (q .unpacks) in (
+        p .numbered ∙ ap (λ (k : Outcome). k .number) e ∙ sym (q .numbered),
+        f,
+        p .flat ∙ ap (λ (k : Outcome). told (k .value ∷ []) slice) e ∙ sym (q .flat),
+      )

@@ -1,13 +1,7 @@
 // The library for C: include/dzwonolin.h says what each function takes and gives. A slice is a pointer and the number of its elements.
-use flat::find_number;
-use flat::find_value;
-use flat::pack_number;
-use flat::pack_value;
 use flat::tell_answer;
 use flat::tell_one;
 use flat::tell_two;
-use flat::unpack_number;
-use flat::unpack_value;
 use name_place::name_place;
 use records::Index;
 ghost use Rattle.dzwonolin.specs.Promises.{ReadsFlat, NamesFlat, FindsFlat, PacksFlat, UnpacksFlat};
@@ -47,8 +41,8 @@ pub extern "C" fn dz_find(records: &[u64], number: u64, place: &mut [u64]) -> u6
     ensures { λ r. ⌜ FindsFlat (now (records .entry)) number (now (place .entry)) r (now (place .exit)) ⌝ }
 {
     let said = records::find(records, number);
-    tell_one(place, find_value(said));
-    find_number(said)
+    tell_one(place, said.place.0 as u64);
+    said.number
 }
 
 #[no_mangle]
@@ -56,8 +50,8 @@ pub extern "C" fn dz_pack(records: &[u64], sheet: &mut [u8], count: &mut [u64]) 
     ensures { λ r. ⌜ PacksFlat (now (records .entry)) (now (sheet .entry)) (now (count .entry)) r (now (sheet .exit)) (now (count .exit)) ⌝ }
 {
     let said = records::pack(records, sheet);
-    tell_one(count, pack_value(said));
-    pack_number(said)
+    tell_one(count, said.value);
+    said.number
 }
 
 #[no_mangle]
@@ -65,6 +59,6 @@ pub extern "C" fn dz_unpack(sheet: &[u8], records: &mut [u64], count: &mut [u64]
     ensures { λ r. ⌜ UnpacksFlat (now (sheet .entry)) (now (records .entry)) (now (count .entry)) r (now (records .exit)) (now (count .exit)) ⌝ }
 {
     let said = records::unpack(sheet, records);
-    tell_one(count, unpack_value(said));
-    unpack_number(said)
+    tell_one(count, said.value);
+    said.number
 }

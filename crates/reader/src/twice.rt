@@ -1,6 +1,5 @@
 // Condition 14 of a brain map.
 use super::map::fill_map;
-use records::Repeat;
 use records::key;
 use records::repeats_in;
 ghost use mathlib.Core.Path.{_≡_};
@@ -33,9 +32,5 @@ pub(crate) fn location_twice(text: &[u8], map: usize, work: &mut [u64]) -> bool
 {
     let n = fill_map(text, map, work, 0);
     to_keys(work, n);
-    match repeats_in(work, n) {
-        Repeat::Twice => true,
-        Repeat::Once => false,
-        Repeat::NoRoom => false,
-    }
+    repeats_in(work, n) == 14
 }

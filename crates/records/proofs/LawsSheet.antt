@@ -8,6 +8,8 @@ use native.Mathlib.Numerals.{add-one, add-two, add-three, add-four}
 use native.Mathlib.Nat.{div-one}
 use lib.ListN.{length, getD, take, drop}
 use lib.Seq.{drop-cons, drop-length}
+use Rattle.lists.specs.Lists.{all}
+use Rattle.records.specs.Width.{width40}
 use Rattle.records.specs.Fields.{bits, joined, parted}
 use Rattle.records.specs.Record.{legalRecord}
 use Rattle.records.specs.Bytes.{bytesOf, numberOf}
@@ -15,15 +17,15 @@ use Rattle.records.specs.Sheet.{headOf, countOf, allLegal, goodSheet, sh
 use Rattle.records.specs.SheetLaws.{count-small, sheet-good}
 
 -- a list is legal where those passed are and the rest is
-pub legal-step : (rs : List ℕ) (i : ℕ) (ok : Bool) → i < length rs → ok ≡ legalRecord (getD rs i 0) → allLegal (drop i rs) ≡ (ok && allLegal (drop (i + 1) rs))
-unfolding allLegal
+pub legal-step : (rs : List ℕ) (i : ℕ) (ok : Bool) → i < length rs → ok ≡ legalRecord (getD rs i 0) → allLegal width40 (drop i rs) ≡ (ok && allLegal width40 (drop (i + 1) rs))
+unfolding all
 legal-step rs i ok h e =
-    ap allLegal (drop-cons rs i 0 h) ∙ ap (λ (n : ℕ). legalRecord (getD rs i 0) && allLegal (drop n rs)) (sym (add-one i))
-    ∙ ap (λ (b : Bool). b && allLegal (drop (i + 1) rs)) (sym e)
+    ap (allLegal width40) (drop-cons rs i 0 h) ∙ ap (λ (n : ℕ). legalRecord (getD rs i 0) && allLegal width40 (drop n rs)) (sym (add-one i))
+    ∙ ap (λ (b : Bool). b && allLegal width40 (drop (i + 1) rs)) (sym e)
 
-pub legal-end : (rs : List ℕ) (i : ℕ) → i ≡ length rs → allLegal (drop i rs) ≡ true
-unfolding allLegal
-legal-end rs i e = ap (λ (n : ℕ). allLegal (drop n rs)) e ∙ ap allLegal (drop-length rs)
+pub legal-end : (rs : List ℕ) (i : ℕ) → i ≡ length rs → allLegal width40 (drop i rs) ≡ true
+unfolding all
+legal-end rs i e = ap (λ (n : ℕ). allLegal width40 (drop n rs)) e ∙ ap (allLegal width40) (drop-length rs)
 
 -- the bytes as the code computes them
 pub record-bytes : (r : ℕ) → bytesOf 5 r ≡ r / 4294967296 % 256 ∷ r / 16777216 % 256 ∷ r / 65536 % 256 ∷ r / 256 % 256 ∷ r % 256 ∷ []

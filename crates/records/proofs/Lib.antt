@@ -1,2 +1,3 @@
 pub mod LawsSheet
+pub mod LawsPacking
 pub mod LawsRepeat

@@ -55,8 +55,3 @@ joined-parted (w ∷ ws) r =
     ap (λ (n : ℕ). r / 2 ^ bits ws % 2 ^ w * 2 ^ bits ws + n) (joined-parted ws r)
     ∙ mod-both (2 ^ bits ws) (pow-pos (bits ws)) r (2 ^ w) (pow-pos w)
     ∙ ap (λ (n : ℕ). r % n) (sym (pow-add 2 w (bits ws)))
-
-pub parts-fit : (ws : List ℕ) (r : ℕ) → Fit ws (parted ws r)
-unfolding parted
-parts-fit [] r = none
-parts-fit (w ∷ ws) r = more (mod-lt (r / 2 ^ bits ws) (pow-pos w)) (parts-fit ws r)

@@ -1,26 +1,30 @@
 -- FIND: the first place of a number in the records. Assumes nothing.
 use mathlib.Core.Path.{_≡_}
-use mathlib.Core.List.{List}
+use mathlib.Core.Bool.{not}
+use mathlib.Core.List.{List, [], _∷_}
 use Prim.Native.Nat.{ℕ, _<_}
+use lib.Dec.{eqb}
 use lib.ListN.{length, getD}
-use Rattle.records.specs.declared.counters.Place.{Place}
+use Rattle.lists.specs.Lists.{any}
+use Rattle.lists.specs.Refusals.{_when_, first}
 use Rattle.records.specs.declared.search.Found.{Found}
-use Rattle.records.specs.declared.search.Found.the-variants.{At, Nowhere}
 
 -- the number stands at no place below n
 abbrev pub AbsentBelow : ℕ → List ℕ → ℕ → Type 0
 AbsentBelow n rs x = (k : ℕ) → k < n → getD rs k 0 ≡ x → ⊥
 
+-- the number stands at the place, and at none before it
+pub record FirstPlace (rs : List ℕ) (x place : ℕ) : Type 0 where
+  pub inside : place < length rs
+  pub stands : getD rs place 0 ≡ x
+  pub absent : AbsentBelow place rs x
+
+-- the paper's number
+unfoldable pub findRefusal : List ℕ → ℕ → ℕ
+findRefusal rs x = first (19 when not (any (eqb x) rs) ∷ [])
+
 -- what `find` promises
-pub data Finds (rs : List ℕ) (x : ℕ) : Found → Type 0 where
-  first : {p : Place} → p .0 < length rs → getD rs (p .0) 0 ≡ x → AbsentBelow (p .0) rs x → Finds rs x (At p)
-  nowhere : AbsentBelow (length rs) rs x → Finds rs x Nowhere
-
--- the paper's number of each answer, and its value
-abbrev pub findNumber : Found → ℕ
-findNumber (At p) = 0
-findNumber Nowhere = 19
-
-abbrev pub findValue : Found → ℕ
-findValue (At p) = p .0
-findValue Nowhere = 0
+pub record Finds (rs : List ℕ) (x : ℕ) (answer : Found) : Type 0 where
+  pub numbered : answer .number ≡ findRefusal rs x
+  pub found : answer .number ≡ 0 → FirstPlace rs x (answer .place .0)
+  pub refused : (answer .number ≡ 0 → ⊥) → answer .place .0 ≡ 0

@@ -1,11 +1,14 @@
 pub mod Numbers
+pub mod Limits
 pub mod Fields
+pub mod Width
 pub mod FieldLaws
 pub mod Record
 pub mod RecordLaws
 pub mod Fill
 pub mod Bytes
 pub mod ByteLaws
+pub mod Outcome
 pub mod Sheet
 pub mod SheetLaws
 pub mod Find

@@ -1,65 +1,59 @@
--- RECORDS: a location, and the whole number of 40 bits that stands for it. Assumes nothing.
-use mathlib.Core.List.{List, [], _∷_}
+-- RECORDS: a location, and the whole number that stands for it in a layout w of bits. Assumes nothing.
+use mathlib.Core.List.{[], _∷_}
 use mathlib.Core.Bool.{Bool, cond, _&&_, _||_}
 use Prim.Native.Nat.{ℕ, _%_, _^_, _<_}
 use lib.Dec.{eqb, leb, ltb}
 use lib.ListN.{getD}
+use Rattle.records.specs.Limits.{mostVertex}
 use Rattle.records.specs.Fields.{bits, joined, parted}
+use Rattle.records.specs.Width.{Width, width40, surfaceBits, voxelBits, recordBits}
 
 pub data Location : Type 0 where
   onSurface : (structure vertex : ℕ) → Location
   inVolume : (structure i j k : ℕ) → Location
 
--- most significant first: voxel flag 1, structure 5, payload 34, which on a surface is the vertex number
-abbrev pub surfaceWidths : List ℕ
-surfaceWidths = 1 ∷ 5 ∷ 34 ∷ []
-
--- a voxel's payload: i in 11 bits, j in 11, k in 12
-abbrev pub payloadWidths : List ℕ
-payloadWidths = 11 ∷ 11 ∷ 12 ∷ []
-
-abbrev pub voxelWidths : List ℕ
-voxelWidths = 1 ∷ 5 ∷ payloadWidths
-
-unfoldable pub recordOf : Location → ℕ
-recordOf (onSurface s v) = joined surfaceWidths (0 ∷ s ∷ v ∷ [])
-recordOf (inVolume s i j k) = joined voxelWidths (1 ∷ s ∷ i ∷ j ∷ k ∷ [])
+unfoldable pub recordIn : Width → Location → ℕ
+recordIn w (onSurface s v) = joined (surfaceBits w) (0 ∷ s ∷ v ∷ [])
+recordIn w (inVolume s i j k) = joined (voxelBits w) (1 ∷ s ∷ i ∷ j ∷ k ∷ [])
 
 -- each part of the location fits its bits
-pub data Fits : Location → Type 0 where
-  surface : {s v : ℕ} → s < 2 ^ 5 → v < 2 ^ 34 → Fits (onSurface s v)
-  volume : {s i j k : ℕ} → s < 2 ^ 5 → i < 2 ^ 11 → j < 2 ^ 11 → k < 2 ^ 12 → Fits (inVolume s i j k)
+pub data FitsIn (w : Width) : Location → Type 0 where
+  surface : {s v : ℕ} → s < 2 ^ (w .structure) → v < 2 ^ (w .vertex) → FitsIn w (onSurface s v)
+  volume : {s i j k : ℕ} → s < 2 ^ (w .structure) → i < 2 ^ (w .i) → j < 2 ^ (w .j) → k < 2 ^ (w .k) → FitsIn w (inVolume s i j k)
 
 -- each part taken modulo what its bits can hold
-unfoldable pub within : Location → Location
-within (onSurface s v) = onSurface (s % 2 ^ 5) (v % 2 ^ 34)
-within (inVolume s i j k) = inVolume (s % 2 ^ 5) (i % 2 ^ 11) (j % 2 ^ 11) (k % 2 ^ 12)
+unfoldable pub withinIn : Width → Location → Location
+withinIn w (onSurface s v) = onSurface (s % 2 ^ (w .structure)) (v % 2 ^ (w .vertex))
+withinIn w (inVolume s i j k) = inVolume (s % 2 ^ (w .structure)) (i % 2 ^ (w .i)) (j % 2 ^ (w .j)) (k % 2 ^ (w .k))
 
 -- the parts of a record
-unfoldable pub isVoxel : ℕ → Bool
-isVoxel r = eqb (getD (parted surfaceWidths r) 0 0) 1
+unfoldable pub isVoxelIn : Width → ℕ → Bool
+isVoxelIn w r = eqb (getD (parted (surfaceBits w) r) 0 0) 1
 
-unfoldable pub structureOf : ℕ → ℕ
-structureOf r = getD (parted surfaceWidths r) 1 0
+unfoldable pub structureIn : Width → ℕ → ℕ
+structureIn w r = getD (parted (surfaceBits w) r) 1 0
 
-unfoldable pub payloadOf : ℕ → ℕ
-payloadOf r = getD (parted surfaceWidths r) 2 0
+unfoldable pub payloadIn : Width → ℕ → ℕ
+payloadIn w r = getD (parted (surfaceBits w) r) 2 0
 
-unfoldable pub iOf : ℕ → ℕ
-iOf r = getD (parted voxelWidths r) 2 0
+unfoldable pub iIn : Width → ℕ → ℕ
+iIn w r = getD (parted (voxelBits w) r) 2 0
 
-unfoldable pub jOf : ℕ → ℕ
-jOf r = getD (parted voxelWidths r) 3 0
+unfoldable pub jIn : Width → ℕ → ℕ
+jIn w r = getD (parted (voxelBits w) r) 3 0
 
-unfoldable pub kOf : ℕ → ℕ
-kOf r = getD (parted voxelWidths r) 4 0
+unfoldable pub kIn : Width → ℕ → ℕ
+kIn w r = getD (parted (voxelBits w) r) 4 0
 
-unfoldable pub locationOf : ℕ → Location
-locationOf r = cond (isVoxel r) (inVolume (structureOf r) (iOf r) (jOf r) (kOf r)) (onSurface (structureOf r) (payloadOf r))
+unfoldable pub locationIn : Width → ℕ → Location
+locationIn w r =
+    cond (isVoxelIn w r)
+    (inVolume (structureIn w r) (iIn w r) (jIn w r) (kIn w r))
+    (onSurface (structureIn w r) (payloadIn w r))
 
--- A legal record is below 2^40, a surface payload at most 1,048,575.
-unfoldable pub legalRecord : ℕ → Bool
-legalRecord r = ltb r (2 ^ 40) && (isVoxel r || leb (payloadOf r) 1048575)
+-- A legal record has no more bits than a record, and a surface payload is at most 1,048,575.
+unfoldable pub legalIn : Width → ℕ → Bool
+legalIn w r = ltb r (2 ^ recordBits w) && (isVoxelIn w r || leb (payloadIn w r) mostVertex)
 
 -- one vertex of one structure, or one voxel, whichever structures name it
 pub data SamePlace : Location → Location → Type 0 where
@@ -72,10 +66,49 @@ plain (onSurface s v) = onSurface s v
 plain (inVolume s i j k) = inVolume 0 i j k
 
 -- a number that records share exactly where they name the same place
-unfoldable pub keyOf : ℕ → ℕ
-keyOf r = recordOf (plain (locationOf r))
+unfoldable pub keyIn : Width → ℕ → ℕ
+keyIn w r = recordIn w (plain (locationIn w r))
+
+-- ---- Of the 40 bits that are read and written today.
+
+abbrev pub recordOf : Location → ℕ
+recordOf l = recordIn width40 l
+
+abbrev pub Fits : Location → Type 0
+Fits l = FitsIn width40 l
+
+abbrev pub within : Location → Location
+within l = withinIn width40 l
+
+abbrev pub isVoxel : ℕ → Bool
+isVoxel r = isVoxelIn width40 r
+
+abbrev pub structureOf : ℕ → ℕ
+structureOf r = structureIn width40 r
+
+abbrev pub payloadOf : ℕ → ℕ
+payloadOf r = payloadIn width40 r
+
+abbrev pub iOf : ℕ → ℕ
+iOf r = iIn width40 r
+
+abbrev pub jOf : ℕ → ℕ
+jOf r = jIn width40 r
+
+abbrev pub kOf : ℕ → ℕ
+kOf r = kIn width40 r
+
+unfoldable pub locationOf : ℕ → Location
+unfolding locationIn
+locationOf r = locationIn width40 r
+
+abbrev pub legalRecord : ℕ → Bool
+legalRecord r = legalIn width40 r
+
+abbrev pub keyOf : ℕ → ℕ
+keyOf r = keyIn width40 r
 
 -- opens every definition above
 unfoldable pub recordWords : Unit {0}
-unfolding bits joined parted recordOf within isVoxel structureOf payloadOf iOf jOf kOf locationOf legalRecord plain keyOf
+unfolding bits joined parted recordIn withinIn isVoxelIn structureIn payloadIn iIn jIn kIn locationIn locationOf legalIn plain keyIn
 recordWords = tt

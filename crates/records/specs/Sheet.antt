@@ -1,110 +1,98 @@
--- SHEETS: 8 bits of 5 (bytes per record), 24 bits of count, then the records. Assumes nothing.
+-- SHEETS: 8 bits of the bytes per record, 24 bits of count, then the records, each with the end bits of its layout. Assumes nothing.
 use mathlib.Core.Path.{_≡_}
-use mathlib.Core.List.{List, [], _∷_, _++_}
-use mathlib.Core.Bool.{Bool, true, cond, _&&_}
-use Prim.Native.Nat.{ℕ, _+_, _*_}
-use lib.Dec.{eqb, leb}
+use mathlib.Core.List.{List, [], _∷_, _++_, map}
+use mathlib.Core.Bool.{Bool, cond, not, _&&_}
+use Prim.Native.Nat.{ℕ, _+_, _*_, _/_, _%_, _^_}
+use lib.Dec.{eqb, leb, ltb}
 use lib.ListN.{length, getD, take, drop}
-use Rattle.records.specs.Record.{legalRecord}
+use Rattle.lists.specs.Lists.{all}
+use Rattle.lists.specs.Refusals.{_when_, first}
+use Rattle.records.specs.Limits.{mostRecords}
+use Rattle.records.specs.Width.{Width, width40}
+use Rattle.records.specs.Record.{legalIn}
 use Rattle.records.specs.Bytes.{bytesOf, numberOf, body, numbersIn}
 use Rattle.records.specs.Fill.{wrote}
-use Rattle.records.specs.declared.sheet.Packed.{Packed}
-use Rattle.records.specs.declared.sheet.Packed.the-variants.{Written, BadCount, BadRecord, TooShort}
-use Rattle.records.specs.declared.sheet.Unpacked.{Unpacked}
-use Rattle.records.specs.declared.sheet.Unpacked.the-variants.{Records, BadSheet, Illegal, NoRoom}
+use Rattle.records.specs.Outcome.{unless, outcome}
+use Rattle.records.specs.declared.outcome.Outcome.{Outcome}
 
--- the head of a sheet of n records of w bytes each
+-- the head of a sheet of n numbers of b bytes each
 unfoldable pub headOf : ℕ → ℕ → List ℕ
-headOf w n = bytesOf 1 w ++ bytesOf 3 n
+headOf b n = bytesOf 1 b ++ bytesOf 3 n
 
--- the sheet of the records
+-- the sheet of the numbers
 unfoldable pub sheetOf : ℕ → List ℕ → List ℕ
-sheetOf w rs = headOf w (length rs) ++ body w rs
+sheetOf b ns = headOf b (length ns) ++ body b ns
 
--- what the head says, and the records after it
+-- what the head says, and the numbers after it
 unfoldable pub countOf : List ℕ → ℕ
 countOf s = numberOf (take 3 (drop 1 s))
 
 unfoldable pub recordsIn : ℕ → List ℕ → List ℕ
-recordsIn w s = numbersIn w (countOf s) (drop 4 s)
+recordsIn b s = numbersIn b (countOf s) (drop 4 s)
 
-unfoldable pub allLegal : List ℕ → Bool
-allLegal [] = true
-allLegal (r ∷ rs) = legalRecord r && allLegal rs
+-- records with their end bits, and numbers without them
+abbrev pub withEnds : Width → List ℕ → List ℕ
+withEnds w rs = map (λ (r : ℕ). r * 2 ^ (w .ending)) rs
+
+abbrev pub withoutEnds : Width → List ℕ → List ℕ
+withoutEnds w ns = map (λ (n : ℕ). n / 2 ^ (w .ending)) ns
+
+-- all records are legal; all end bits are 0
+abbrev pub allLegal : Width → List ℕ → Bool
+allLegal w rs = all (legalIn w) rs
+
+abbrev pub allEnded : Width → List ℕ → Bool
+allEnded w ns = all (λ (n : ℕ). eqb (n % 2 ^ (w .ending)) 0) ns
 
 -- not 0 and not above 1,048,576
 unfoldable pub goodCount : ℕ → Bool
-goodCount n = leb 1 n && leb n 1048576
+goodCount n = leb 1 n && leb n mostRecords
 
--- not under 4 bytes, the first byte w, a good count, and the length to match
+-- not under 4 bytes, the first byte b, a good count, and the length to match
 unfoldable pub goodSheet : ℕ → List ℕ → Bool
-goodSheet w s = leb 4 (length s) && (eqb (getD s 0 0) w && (goodCount (countOf s) && eqb (length s) (4 + w * countOf s)))
+goodSheet b s = leb 4 (length s) && (eqb (getD s 0 0) b && (goodCount (countOf s) && eqb (length s) (4 + b * countOf s)))
 
 unfoldable pub sheetCount : ℕ → List ℕ → ℕ
-sheetCount w s = cond (goodSheet w s) (countOf s) 0
+sheetCount b s = cond (goodSheet b s) (countOf s) 0
 
--- 15, 16 and 17 in this order
-unfoldable pub packAnswer : List ℕ → ℕ → Packed
-packAnswer rs room =
-    cond (goodCount (length rs))
-    (cond (allLegal rs)
-    (cond (leb (4 + 5 * length rs) room) (Written (4 + 5 * length rs)) TooShort)
-    BadRecord)
-    BadCount
+-- the paper's number: of packing records into so many bytes, and of unpacking a sheet into so many places
+unfoldable pub packRefusal : Width → List ℕ → ℕ → ℕ
+packRefusal w rs room =
+    first
+    (15 when not (goodCount (length rs))
+    ∷ 16 when not (allLegal w rs)
+    ∷ 17 when ltb room (4 + w .bytes * length rs)
+    ∷ [])
 
-unfoldable pub unpackAnswer : List ℕ → ℕ → Unpacked
-unpackAnswer s room =
-    cond (goodSheet 5 s)
-    (cond (allLegal (recordsIn 5 s))
-    (cond (leb (countOf s) room) (Records (countOf s)) NoRoom)
-    Illegal)
-    BadSheet
+unfoldable pub unpackRefusal : Width → List ℕ → ℕ → ℕ
+unpackRefusal w s room =
+    first
+    (15 when not (goodSheet (w .bytes) s)
+    ∷ 16 when not (allEnded w (recordsIn (w .bytes) s) && allLegal w (withoutEnds w (recordsIn (w .bytes) s)))
+    ∷ 17 when ltb room (countOf s)
+    ∷ [])
 
 -- what the bytes lent hold after packing
-abbrev pub packedInto : Packed → List ℕ → List ℕ → List ℕ
-packedInto (Written n) rs s = wrote 0 (sheetOf 5 rs) s
-packedInto BadCount rs s = s
-packedInto BadRecord rs s = s
-packedInto TooShort rs s = s
+abbrev pub packedInto : Width → (number : ℕ) → List ℕ → List ℕ → List ℕ
+packedInto w n rs s = unless n (wrote 0 (sheetOf (w .bytes) (withEnds w rs)) s) s
 
 -- what the places lent hold after unpacking
-abbrev pub unpackedInto : Unpacked → List ℕ → List ℕ → List ℕ
-unpackedInto (Records n) s rs = wrote 0 (recordsIn 5 s) rs
-unpackedInto BadSheet s rs = rs
-unpackedInto Illegal s rs = rs
-unpackedInto NoRoom s rs = rs
+abbrev pub unpackedInto : Width → (number : ℕ) → List ℕ → List ℕ → List ℕ
+unpackedInto w n s rs = unless n (wrote 0 (withoutEnds w (recordsIn (w .bytes) s)) rs) rs
 
--- what `pack` promises: `before` and `after` are the bytes lent
-pub record Packs (rs before : List ℕ) (answer : Packed) (after : List ℕ) : Type 0 where
-  pub answers : answer ≡ packAnswer rs (length before)
-  pub holds : after ≡ packedInto answer rs before
+-- packing: the value is the bytes written; `before` and `after` are the bytes lent
+pub record PacksIn (w : Width) (rs before : List ℕ) (answer : Outcome) (after : List ℕ) : Type 0 where
+  pub answers : answer ≡ outcome (packRefusal w rs (length before)) (4 + w .bytes * length rs)
+  pub holds : after ≡ packedInto w (answer .number) rs before
 
--- what `unpack` promises: `before` and `after` are the places lent
-pub record Unpacks (s before : List ℕ) (answer : Unpacked) (after : List ℕ) : Type 0 where
-  pub answers : answer ≡ unpackAnswer s (length before)
-  pub holds : after ≡ unpackedInto answer s before
+-- unpacking: the value is the count; `before` and `after` are the places lent
+pub record UnpacksIn (w : Width) (s before : List ℕ) (answer : Outcome) (after : List ℕ) : Type 0 where
+  pub answers : answer ≡ outcome (unpackRefusal w s (length before)) (countOf s)
+  pub holds : after ≡ unpackedInto w (answer .number) s before
 
--- the paper's number of each answer, and its value
-abbrev pub packNumber : Packed → ℕ
-packNumber (Written n) = 0
-packNumber BadCount = 15
-packNumber BadRecord = 16
-packNumber TooShort = 17
+-- what `pack` and `unpack` promise
+abbrev pub Packs : (rs before : List ℕ) (answer : Outcome) (after : List ℕ) → Type 0
+Packs rs before answer after = PacksIn width40 rs before answer after
 
-abbrev pub packValue : Packed → ℕ
-packValue (Written n) = n
-packValue BadCount = 0
-packValue BadRecord = 0
-packValue TooShort = 0
-
-abbrev pub unpackNumber : Unpacked → ℕ
-unpackNumber (Records n) = 0
-unpackNumber BadSheet = 15
-unpackNumber Illegal = 16
-unpackNumber NoRoom = 17
-
-abbrev pub unpackValue : Unpacked → ℕ
-unpackValue (Records n) = n
-unpackValue BadSheet = 0
-unpackValue Illegal = 0
-unpackValue NoRoom = 0
+abbrev pub Unpacks : (s before : List ℕ) (answer : Outcome) (after : List ℕ) → Type 0
+Unpacks s before answer after = UnpacksIn width40 s before answer after

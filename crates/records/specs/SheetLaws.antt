@@ -1,30 +1,37 @@
--- Packing and unpacking undo each other; the laws of the sheet are over w, the bytes per record. Assumes nothing.
-use mathlib.Core.Path.{_≡_, refl, sym, ap, _∙_}
-use mathlib.Core.Bool.{Bool, true, false, cond, _&&_}
+-- Packing and unpacking undo each other, whatever the layout. What is said of a sheet alone is over w, the bytes per record. Assumes
+-- nothing.
+use mathlib.Core.Path.{_≡_, refl, sym, ap, _∙_, subst}
+use mathlib.Core.Bool.{Bool, true, not, _&&_}
 use mathlib.Core.List.{List, [], _∷_, _++_}
-use Prim.Native.Nat.{ℕ, zero, suc, _+_, _*_, _^_, _≤_, _<_}
+use Prim.Native.Nat.{ℕ, zero, suc, _+_, _*_, _/_, _%_, _^_, _≤_, _<_}
 use native.Mathlib.Omega.{arith}
-use native.Mathlib.Nat.{div-one, mod-eq-of-lt}
+use native.Mathlib.Nat.{div-one, mod-one, mul-one, add-zero, mod-eq-of-lt, mul-mod-left, div-add-mod'}
 use lib.Dec.{eqb, leb, ltb}
-use lib.ListN.{length, getD, take, drop, length-append, length-drop, take-append-drop}
+use lib.ListN.{length, getD, take, drop, length-append, length-drop, length-map, take-append-drop}
+use lib.Pow.{pow-pos, shl-lt, shl-shr}
 use lib.Seq.{take-at, drop-at, drop-drop, drop-cons, length-take-le}
-use borrow.Author.Tests.{leb-true, ltb-true, eqb-true, le-leb, eq-eqb}
-use Rattle.records.specs.Numbers.{both}
+use borrow.Author.Tests.{leb-true, ltb-true, ltb-false, eqb-true, le-leb, le-ltb, eq-eqb, not-false}
+use Rattle.lists.specs.Lists.{all}
+use Rattle.lists.specs.Booleans.{and-left, and-right, and-halves}
+use Rattle.lists.specs.Refusals.{Refusal, _when_, first, positive, NoneApplies}
+use Rattle.lists.specs.RefusalLaws.{given-none, row-fails, rows-behind}
+use Rattle.records.specs.Limits.{mostRecords}
+use Rattle.records.specs.Width.{Width, width40, recordBits}
 use Rattle.records.specs.Fields.{bits, parted}
-use Rattle.records.specs.Record.{legalRecord}
+use Rattle.records.specs.Record.{legalIn}
+use Rattle.records.specs.RecordLaws.{Sound}
 use Rattle.records.specs.Fill.{wrote}
 use Rattle.records.specs.Bytes.{bytesOf, numberOf, body, numbersIn, Below}
 use Rattle.records.specs.ByteLaws.{length-bytesOf, bytes-back, number-back, length-body, length-numbersIn, numbers-back, body-back, drop-below, take-below}
-use Rattle.records.specs.Sheet.{headOf, sheetOf, countOf, recordsIn, allLegal, goodCount, goodSheet, packAnswer, unpackAnswer, packedInto, unpackedInto, Packs, Unpacks}
-use Rattle.records.specs.declared.sheet.Packed.{Packed}
-use Rattle.records.specs.declared.sheet.Packed.the-variants.{Written, BadCount, BadRecord, TooShort}
-use Rattle.records.specs.declared.sheet.Unpacked.{Unpacked}
-use Rattle.records.specs.declared.sheet.Unpacked.the-variants.{Records, BadSheet, Illegal, NoRoom}
+use Rattle.records.specs.Outcome.{unless, outcome, ends, passes, gives-first}
+use Rattle.records.specs.Sheet.{headOf, sheetOf, countOf, recordsIn, withEnds, withoutEnds, allLegal, allEnded, goodCount, goodSheet}
+use Rattle.records.specs.Sheet.{packRefusal, unpackRefusal, packedInto, unpackedInto, PacksIn, UnpacksIn}
+use Rattle.records.specs.declared.outcome.Outcome.{Outcome}
 
 -- a good count is not 0 and at most 1,048,576
-pub count-small : (n : ℕ) → goodCount n ≡ true → (1 ≤ n) × (n ≤ 1048576)
+pub count-small : (n : ℕ) → goodCount n ≡ true → (1 ≤ n) × (n ≤ mostRecords)
 unfolding goodCount
-count-small n e = let p = both (leb 1 n) (leb n 1048576) e in (leb-true 1 n (p .0), leb-true n 1048576 (p .1))
+count-small n e = let p = and-halves (leb 1 n) (leb n mostRecords) e in (leb-true 1 n (p .0), leb-true n mostRecords (p .1))
 
 -- what a good sheet is
 pub record Good (w : ℕ) (s : List ℕ) : Type 0 where
@@ -36,9 +43,9 @@ pub record Good (w : ℕ) (s : List ℕ) : Type 0 where
 pub sheet-good : (w : ℕ) (s : List ℕ) → goodSheet w s ≡ true → Good w s
 unfolding goodSheet
 sheet-good w s e =
-    let p = both (leb 4 (length s)) (eqb (getD s 0 0) w && (goodCount (countOf s) && eqb (length s) (4 + w * countOf s))) e in
-    let q = both (eqb (getD s 0 0) w) (goodCount (countOf s) && eqb (length s) (4 + w * countOf s)) (p .1) in
-    let r = both (goodCount (countOf s)) (eqb (length s) (4 + w * countOf s)) (q .1) in
+    let p = and-halves (leb 4 (length s)) (eqb (getD s 0 0) w && (goodCount (countOf s) && eqb (length s) (4 + w * countOf s))) e in
+    let q = and-halves (eqb (getD s 0 0) w) (goodCount (countOf s) && eqb (length s) (4 + w * countOf s)) (p .1) in
+    let r = and-halves (goodCount (countOf s)) (eqb (length s) (4 + w * countOf s)) (q .1) in
     record { long = leb-true 4 (length s) (p .0); first = eqb-true (getD s 0 0) w (q .0); count = r .0; size = eqb-true (length s) (4 + w * countOf s) (r .1) }
 
 pub good-sheet : (w : ℕ) (s : List ℕ) → Good w s → goodSheet w s ≡ true
@@ -107,104 +114,199 @@ sheet-back w s b g =
     ∙ ap (λ (x : ℕ). x ∷ drop 1 s) (sym (g .first))
     ∙ sym (drop-cons s 0 0 (omega arith))
 
--- legal records are below 2^40
-pub legal-below : (rs : List ℕ) → allLegal rs ≡ true → Below (2 ^ 40) rs
-unfolding allLegal legalRecord
-legal-below [] e k = omega arith
-legal-below (r ∷ rs) e zero = let p = both (legalRecord r) (allLegal rs) e in ltb-true r (2 ^ 40) (both (ltb r (2 ^ 40)) _ (p .0) .0)
-legal-below (r ∷ rs) e (suc k) = legal-below rs (both (legalRecord r) (allLegal rs) e .1) k
+-- ---- End bits.
 
--- what it takes to be packed
-pub record CanPack (rs : List ℕ) (room n : ℕ) : Type 0 where
-  pub count : goodCount (length rs) ≡ true
-  pub legal : allLegal rs ≡ true
-  pub fits : 4 + 5 * length rs ≤ room
-  pub size : n ≡ 4 + 5 * length rs
+module _ (w : Width) where
+  ends-back : (rs : List ℕ) → withoutEnds w (withEnds w rs) ≡ rs
+  ends-back [] = refl
+  ends-back (r ∷ rs) = λ k. shl-shr r (w .ending) k ∷ ends-back rs k
 
-pack-cases : (g l f : Bool) (m n : ℕ) → Written n ≡ cond g (cond l (cond f (Written m) TooShort) BadRecord) BadCount → (g ≡ true) × ((l ≡ true) × ((f ≡ true) × (n ≡ m)))
-pack-cases true true true m n e = (refl, (refl, (refl, cc)))
-pack-cases true true false m n e = let z : _≡_ {A = ℕ} 0 1 = cc in absurd (omega arith)
-pack-cases true false f m n e = let z : _≡_ {A = ℕ} 0 1 = cc in absurd (omega arith)
-pack-cases false l f m n e = let z : _≡_ {A = ℕ} 0 1 = cc in absurd (omega arith)
+  ends-made : (rs : List ℕ) → allEnded w (withEnds w rs) ≡ true
+  unfolding all
+  ends-made [] = refl
+  ends-made (r ∷ rs) = rw (eq-eqb (r * 2 ^ (w .ending) % 2 ^ (w .ending)) 0 (mul-mod-left r (2 ^ (w .ending)))) (ends-made rs)
 
-pub can-pack : (rs : List ℕ) (room n : ℕ) → Written n ≡ packAnswer rs room → CanPack rs room n
-unfolding packAnswer
-can-pack rs room n e =
-    let p = pack-cases (goodCount (length rs)) (allLegal rs) (leb (4 + 5 * length rs) room) (4 + 5 * length rs) n e in
-    record { count = p .0; legal = p .1 .0; fits = leb-true (4 + 5 * length rs) room (p .1 .1 .0); size = p .1 .1 .1 }
+  -- a number that ends in zeros is made again from what stands before them
+  ends-again : (ns : List ℕ) → allEnded w ns ≡ true → withEnds w (withoutEnds w ns) ≡ ns
+  unfolding all
+  ends-again [] e = refl
+  ends-again (n ∷ ns) e =
+      let c : ℕ = 2 ^ (w .ending) in
+      let p = and-halves (eqb (n % c) 0) (allEnded w ns) e in
+      let one : n / c * c ≡ n =
+      sym (add-zero (n / c * c)) ∙ ap (λ (m : ℕ). n / c * c + m) (sym (eqb-true (n % c) 0 (p .0))) ∙ div-add-mod' n c in
+      λ k. one k ∷ ends-again ns (p .1) k
 
-pub packs-so : (rs : List ℕ) (room n : ℕ) → CanPack rs room n → packAnswer rs room ≡ Written n
-unfolding packAnswer
-packs-so rs room n c = rw (c .count, c .legal, le-leb (4 + 5 * length rs) room (c .fits), sym (c .size))
+  -- a legal record and its end bits fit its bytes
+  legal-below : Sound w → (rs : List ℕ) → allLegal w rs ≡ true → Below (2 ^ (8 * w .bytes)) (withEnds w rs)
+  unfolding all legalIn
+  legal-below ok [] e k = pow-pos (8 * w .bytes)
+  legal-below ok (r ∷ rs) e zero =
+      let p = and-left (legalIn w r) (allLegal w rs) e in
+      let h = ltb-true r (2 ^ recordBits w) (and-left (ltb r (2 ^ recordBits w)) _ p) in
+      subst (λ (n : ℕ). r * 2 ^ (w .ending) < 2 ^ n) (ok .whole) (shl-lt (recordBits w) (w .ending) h)
+  legal-below ok (r ∷ rs) e (suc k) = legal-below ok rs (and-right (legalIn w r) (allLegal w rs) e) k
 
--- and unpacked
-pub record CanUnpack (s : List ℕ) (room n : ℕ) : Type 0 where
-  pub good : Good 5 s
-  pub legal : allLegal (recordsIn 5 s) ≡ true
-  pub fits : countOf s ≤ room
-  pub count : n ≡ countOf s
+-- where there are none
+pub no-ends : (rs : List ℕ) → withEnds width40 rs ≡ rs
+no-ends [] = refl
+no-ends (r ∷ rs) = λ k. mul-one r k ∷ no-ends rs k
 
-unpack-cases : (g l f : Bool) (m n : ℕ) → Records n ≡ cond g (cond l (cond f (Records m) NoRoom) Illegal) BadSheet → (g ≡ true) × ((l ≡ true) × ((f ≡ true) × (n ≡ m)))
-unpack-cases true true true m n e = (refl, (refl, (refl, cc)))
-unpack-cases true true false m n e = let z : _≡_ {A = ℕ} 0 1 = cc in absurd (omega arith)
-unpack-cases true false f m n e = let z : _≡_ {A = ℕ} 0 1 = cc in absurd (omega arith)
-unpack-cases false l f m n e = let z : _≡_ {A = ℕ} 0 1 = cc in absurd (omega arith)
+pub no-ends-off : (ns : List ℕ) → withoutEnds width40 ns ≡ ns
+no-ends-off [] = refl
+no-ends-off (n ∷ ns) = λ k. div-one n k ∷ no-ends-off ns k
 
-pub can-unpack : (s : List ℕ) (room n : ℕ) → Records n ≡ unpackAnswer s room → CanUnpack s room n
-unfolding unpackAnswer
-can-unpack s room n e =
-    let p = unpack-cases (goodSheet 5 s) (allLegal (recordsIn 5 s)) (leb (countOf s) room) (countOf s) n e in
-    record { good = sheet-good 5 s (p .0); legal = p .1 .0; fits = leb-true (countOf s) room (p .1 .1 .0); count = p .1 .1 .1 }
+pub no-ends-all : (ns : List ℕ) → allEnded width40 ns ≡ true
+unfolding all
+no-ends-all [] = refl
+no-ends-all (n ∷ ns) = rw (eq-eqb (n % 1) 0 (mod-one n)) (no-ends-all ns)
 
-pub unpacks-so : (s : List ℕ) (room n : ℕ) → CanUnpack s room n → unpackAnswer s room ≡ Records n
-unfolding unpackAnswer
-unpacks-so s room n c = rw (good-sheet 5 s (c .good), c .legal, le-leb (countOf s) room (c .fits), sym (c .count))
+-- ---- What it takes.
+
+holding : {n : ℕ} {b : Bool} {l : List Refusal} → NoneApplies (n when not b ∷ l) → b ≡ true
+holding {b = b} h = not-false b (row-fails h)
+
+module _ (w : Width) where
+  -- to be packed
+  pub record CanPack (rs : List ℕ) (room : ℕ) : Type 0 where
+    pub count : goodCount (length rs) ≡ true
+    pub legal : allLegal w rs ≡ true
+    pub fits : 4 + w .bytes * length rs ≤ room
+
+  pub can-pack : (rs : List ℕ) (room : ℕ) → packRefusal w rs room ≡ 0 → CanPack rs room
+  unfolding packRefusal positive
+  can-pack rs room e =
+      let h = given-none _ refl e in
+      let fits = ltb-false room (4 + w .bytes * length rs) (row-fails (rows-behind (rows-behind h))) in
+      record { count = holding h; legal = holding (rows-behind h); fits = fits }
+
+  pub packs-so : (rs : List ℕ) (room : ℕ) → CanPack rs room → packRefusal w rs room ≡ 0
+  unfolding packRefusal
+  packs-so rs room c =
+      gives-first (passes (ap not (c .count)) (passes (ap not (c .legal)) (passes (le-ltb room (4 + w .bytes * length rs) (c .fits)) ends)))
+
+  -- and unpacked
+  pub record CanUnpack (s : List ℕ) (room : ℕ) : Type 0 where
+    pub good : Good (w .bytes) s
+    pub ended : allEnded w (recordsIn (w .bytes) s) ≡ true
+    pub legal : allLegal w (withoutEnds w (recordsIn (w .bytes) s)) ≡ true
+    pub fits : countOf s ≤ room
+
+  pub can-unpack : (s : List ℕ) (room : ℕ) → unpackRefusal w s room ≡ 0 → CanUnpack s room
+  unfolding unpackRefusal positive
+  can-unpack s room e =
+      let h = given-none _ refl e in
+      let ns = recordsIn (w .bytes) s in
+      let p = and-halves (allEnded w ns) (allLegal w (withoutEnds w ns)) (holding (rows-behind h)) in
+      let fits = ltb-false room (countOf s) (row-fails (rows-behind (rows-behind h))) in
+      record { good = sheet-good (w .bytes) s (holding h); ended = p .0; legal = p .1; fits = fits }
+
+  pub unpacks-so : (s : List ℕ) (room : ℕ) → CanUnpack s room → unpackRefusal w s room ≡ 0
+  unfolding unpackRefusal
+  unpacks-so s room c =
+      let ns = recordsIn (w .bytes) s in
+      let legal : (allEnded w ns && allLegal w (withoutEnds w ns)) ≡ true = rw (c .ended, c .legal) in
+      let good = good-sheet (w .bytes) s (c .good) in
+      gives-first (passes (ap not good) (passes (ap not legal) (passes (le-ltb room (countOf s) (c .fits)) ends)))
 
 -- what is written from the start stands in front
 pub wrote-front : (vs s : List ℕ) (n : ℕ) → n ≡ length vs → take n (wrote 0 vs s) ≡ vs
 wrote-front vs s n e = take-at vs (drop (0 + length vs) s) n (sym e)
 
--- Unpacking what was packed gives the records back, wherever there is room for them.
-pub packed-unpacks :
-    (rs before after places placesAfter : List ℕ) (n : ℕ) (u : Unpacked) → Packs rs before (Written n) after → Unpacks (take n after) places u placesAfter → length rs ≤ length places
-    → (u ≡ Records (length rs)) × (placesAfter ≡ wrote 0 rs places)
-packed-unpacks rs before after places placesAfter n u p q room =
-    let c = can-pack rs (length before) n (p .answers) in
-    let few = count-small (length rs) (c .count) in
-    let s = sheetOf 5 rs in
-    let long : length s ≡ 4 + 5 * length rs = sheet-long 5 rs (omega arith) in
-    let sheet : take n after ≡ s = ap (take n) (p .holds) ∙ wrote-front s before n (c .size ∙ sym long) in
-    let count : countOf s ≡ length rs = sheet-count 5 rs (omega arith) (omega arith) in
-    let same : recordsIn 5 s ≡ rs = records-back 5 rs (omega arith) (omega arith) (legal-below rs (c .legal)) in
-    let can : CanUnpack s (length places) (length rs) = record { good = sheet-made-good 5 rs (omega arith) (c .count); legal = ap allLegal same ∙ c .legal; fits = omega arith; count = sym count } in
-    let answer : u ≡ Records (length rs) = q .answers ∙ ap (λ (l : List ℕ). unpackAnswer l (length places)) sheet ∙ unpacks-so s (length places) (length rs) can in (
-      answer,
-      q .holds ∙ ap (λ (v : Unpacked). unpackedInto v (take n after) places) answer ∙ ap (λ (l : List ℕ). wrote 0 (recordsIn 5 l) places) sheet ∙ ap (λ (l : List ℕ). wrote 0 l places) same,
-    )
+-- ---- There and back.
 
--- Every sheet that unpacks is, all bytes of it, the sheet of what came out.
-pub unpacked-sheet : (s places after : List ℕ) (n : ℕ) → Below 256 s → Unpacks s places (Records n) after → (sheetOf 5 (take n after) ≡ s) × (length s ≡ 4 + 5 * n)
-unfolding recordsIn
-unpacked-sheet s places after n b p =
-    let c = can-unpack s (length places) n (p .answers) in
-    let e = c .count in
-    let size = c .good .size in
-    let came : take n after ≡ recordsIn 5 s = ap (take n) (p .holds) ∙ wrote-front (recordsIn 5 s) places n (c .count ∙ sym (length-numbersIn 5 (countOf s) (drop 4 s))) in
-    (ap (sheetOf 5) came ∙ sheet-back 5 s b (c .good), omega arith)
+module _ {w : Width} (ok : Sound w) where
+  -- Unpacking what was packed gives the records back, wherever there is room for them.
+  pub packed-unpacks :
+      (rs before after places placesAfter : List ℕ) (a u : Outcome) → PacksIn w rs before a after → a .number ≡ 0
+      → UnpacksIn w (take (a .value) after) places u placesAfter
+      → length rs ≤ length places → (u ≡ outcome 0 (length rs)) × (placesAfter ≡ wrote 0 rs places)
+  packed-unpacks rs before after places placesAfter a u p z q room =
+      let b : ℕ = w .bytes in
+      let none : packRefusal w rs (length before) ≡ 0 = sym (ap (λ (x : Outcome). x .number) (p .answers)) ∙ z in
+      let c = can-pack w rs (length before) none in
+      let few = count-small (length rs) (c .count) in
+      let ns = withEnds w rs in
+      let many : length ns ≡ length rs = length-map rs (λ (r : ℕ). r * 2 ^ (w .ending)) in
+      let s = sheetOf b ns in
+      let long : length s ≡ 4 + b * length rs = sheet-long b ns (ok .byte) ∙ ap (λ (n : ℕ). 4 + b * n) many in
+      let size : a .value ≡ 4 + b * length rs =
+      ap (λ (x : Outcome). x .value) (p .answers) ∙ ap (λ (n : ℕ). unless n (4 + b * length rs) 0) none in
+      let sheet : take (a .value) after ≡ s =
+      ap (take (a .value)) (p .holds ∙ ap (λ (n : ℕ). packedInto w n rs before) z) ∙ wrote-front s before (a .value) (size ∙ sym long) in
+      let count : countOf s ≡ length rs = sheet-count b ns (ok .byte) (omega arith) ∙ many in
+      let same : recordsIn b s ≡ ns = records-back b ns (ok .byte) (omega arith) (legal-below w ok rs (c .legal)) in
+      let back : withoutEnds w (recordsIn b s) ≡ rs = ap (withoutEnds w) same ∙ ends-back w rs in
+      let can : CanUnpack w s (length places) =
+      record {
+        good = sheet-made-good b ns (ok .byte) (ap goodCount many ∙ c .count);
+        ended = ap (allEnded w) same ∙ ends-made w rs;
+        legal = ap (allLegal w) back ∙ c .legal;
+        fits = omega arith;
+      } in
+      let accepted : unpackRefusal w (take (a .value) after) (length places) ≡ 0 =
+      ap (λ (l : List ℕ). unpackRefusal w l (length places)) sheet ∙ unpacks-so w s (length places) can in
+      let answer : u ≡ outcome 0 (length rs) =
+      q .answers
+      ∙ ap (λ (n : ℕ). outcome n (countOf (take (a .value) after))) accepted
+      ∙ ap (λ (l : List ℕ). outcome 0 (countOf l)) sheet
+      ∙ ap (outcome 0) count in (
+        answer,
+        q .holds
+            ∙ ap (λ (x : Outcome). unpackedInto w (x .number) (take (a .value) after) places) answer
+            ∙ ap (λ (l : List ℕ). wrote 0 (withoutEnds w (recordsIn b l)) places) sheet
+            ∙ ap (λ (l : List ℕ). wrote 0 l places) back,
+      )
 
--- So packing what came out gives the sheet again.
-pub unpacked-packs :
-    (s places after bytes bytesAfter : List ℕ) (n : ℕ) (a : Packed) → Below 256 s → Unpacks s places (Records n) after → Packs (take n after) bytes a bytesAfter → length s ≤ length bytes
-    → (a ≡ Written (length s)) × (bytesAfter ≡ wrote 0 s bytes)
-unfolding recordsIn
-unpacked-packs s places after bytes bytesAfter n a b p q room =
-    let c = can-unpack s (length places) n (p .answers) in
-    let e = c .count in
-    let size = c .good .size in
-    let came : take n after ≡ recordsIn 5 s = ap (take n) (p .holds) ∙ wrote-front (recordsIn 5 s) places n (c .count ∙ sym (length-numbersIn 5 (countOf s) (drop 4 s))) in
-    let long : length (take n after) ≡ countOf s = ap length came ∙ length-numbersIn 5 (countOf s) (drop 4 s) in
-    let can : CanPack (take n after) (length bytes) (length s) = record { count = ap goodCount long ∙ c .good .count; legal = ap allLegal came ∙ c .legal; fits = omega arith; size = omega arith } in
-    let answer : a ≡ Written (length s) = q .answers ∙ packs-so (take n after) (length bytes) (length s) can in (
-      answer,
-      q .holds ∙ ap (λ (v : Packed). packedInto v (take n after) bytes) answer ∙ ap (λ (l : List ℕ). wrote 0 l bytes) (unpacked-sheet s places after n b p .0),
-    )
+-- what a sheet that unpacks holds, and what came out of it
+module _ (w : Width) (s places after : List ℕ) (a : Outcome) (p : UnpacksIn w s places a after) (z : a .number ≡ 0) where
+  out : List ℕ
+  out = withoutEnds w (recordsIn (w .bytes) s)
+
+  none-refused : unpackRefusal w s (length places) ≡ 0
+  none-refused = sym (ap (λ (x : Outcome). x .number) (p .answers)) ∙ z
+
+  can : CanUnpack w s (length places)
+  can = can-unpack w s (length places) none-refused
+
+  counted : a .value ≡ countOf s
+  counted = ap (λ (x : Outcome). x .value) (p .answers) ∙ ap (λ (n : ℕ). unless n (countOf s) 0) none-refused
+
+  out-long : length out ≡ countOf s
+  unfolding out recordsIn
+  out-long = length-map (recordsIn (w .bytes) s) (λ (n : ℕ). n / 2 ^ (w .ending)) ∙ length-numbersIn (w .bytes) (countOf s) (drop 4 s)
+
+  came : take (a .value) after ≡ out
+  unfolding out
+  came =
+      ap (take (a .value)) (p .holds ∙ ap (λ (n : ℕ). unpackedInto w n s places) z)
+      ∙ wrote-front out places (a .value) (counted ∙ sym out-long)
+
+  -- Every sheet that unpacks is, all bytes of it, the sheet of what came out.
+  pub unpacked-sheet : Below 256 s → (sheetOf (w .bytes) (withEnds w (take (a .value) after)) ≡ s) × (length s ≡ 4 + w .bytes * a .value)
+  unfolding out
+  unpacked-sheet b = (
+    ap (λ (l : List ℕ). sheetOf (w .bytes) (withEnds w l)) came
+        ∙ ap (sheetOf (w .bytes)) (ends-again w (recordsIn (w .bytes) s) (can .ended))
+        ∙ sheet-back (w .bytes) s b (can .good),
+    can .good .size ∙ ap (λ (n : ℕ). 4 + w .bytes * n) (sym counted),
+  )
+
+  -- So packing what came out gives the sheet again.
+  pub unpacked-packs : Below 256 s → (bytes bytesAfter : List ℕ) (o : Outcome) → PacksIn w (take (a .value) after) bytes o bytesAfter
+      → length s ≤ length bytes
+      → (o ≡ outcome 0 (length s)) × (bytesAfter ≡ wrote 0 s bytes)
+  unfolding out
+  unpacked-packs b bytes bytesAfter o q room =
+      let rs = take (a .value) after in
+      let many : length rs ≡ countOf s = ap length came ∙ out-long in
+      let size : 4 + w .bytes * length rs ≡ length s = ap (λ (n : ℕ). 4 + w .bytes * n) many ∙ sym (can .good .size) in
+      let so : CanPack w rs (length bytes) =
+      record { count = ap goodCount many ∙ can .good .count; legal = ap (allLegal w) came ∙ can .legal; fits = rw size room } in
+      let answer : o ≡ outcome 0 (length s) =
+      q .answers ∙ ap (λ (n : ℕ). outcome n (4 + w .bytes * length rs)) (packs-so w rs (length bytes) so) ∙ ap (outcome 0) size in (
+        answer,
+        q .holds
+            ∙ ap (λ (x : Outcome). packedInto w (x .number) rs bytes) answer
+            ∙ ap (λ (l : List ℕ). wrote 0 l bytes) (unpacked-sheet b .0),
+      )

@@ -1,23 +1,20 @@
 -- Each public function's promise leaves one answer, and one content of each slice lent. Assumes nothing.
-use mathlib.Core.Path.{_≡_, refl, sym, ap, _∙_}
+use mathlib.Core.Path.{_≡_, sym, ap, _∙_}
 use mathlib.Core.Bool.{Bool}
 use mathlib.Core.List.{List, map}
-use mathlib.Core.Logic.{_⊎_, ⊎-elim}
+use mathlib.Core.Logic.{⊎-elim}
 use Prim.Native.Nat.{ℕ, _≤_, _<_}
 use native.Mathlib.Omega.{arith}
-use lib.ListN.{length, getD, take, replicate}
+use lib.ListN.{length, take, replicate}
+use Rattle.records.specs.Width.{Width}
 use Rattle.records.specs.Record.{onSurface, inVolume, recordOf, within, isVoxel, structureOf, payloadOf, iOf, jOf, kOf, keyOf, legalRecord}
-use Rattle.records.specs.Numbers.{lt?}
-use Rattle.records.specs.Sheet.{Packs, Unpacks, packedInto, unpackedInto}
-use Rattle.records.specs.Find.{AbsentBelow, Finds, first, nowhere}
-use Rattle.records.specs.Repeat.{Judged, noRoom, twice, once, Checks}
+use Rattle.records.specs.Numbers.{eq?, lt?}
+use Rattle.records.specs.Sheet.{PacksIn, UnpacksIn, packedInto, unpackedInto}
+use Rattle.records.specs.Find.{FirstPlace, Finds}
+use Rattle.records.specs.Repeat.{Checks}
 use Rattle.records.specs.declared.counters.Vertex.{Vertex}
 use Rattle.records.specs.declared.search.Found.{Found}
-use Rattle.records.specs.declared.search.Found.the-variants.{At, Nowhere}
-use Rattle.records.specs.declared.sheet.Packed.{Packed}
-use Rattle.records.specs.declared.sheet.Unpacked.{Unpacked}
-use Rattle.records.specs.declared.repeat.Repeat.{Repeat}
-use Rattle.records.specs.declared.repeat.Repeat.the-variants.{Once, Twice, NoRoom}
+use Rattle.records.specs.declared.outcome.Outcome.{Outcome}
 
 pub surface-record-unique : (s v a b : ℕ) → a ≡ recordOf (within (onSurface s v)) → b ≡ recordOf (within (onSurface s v)) → a ≡ b
 surface-record-unique s v a b p q = p ∙ sym q
@@ -52,42 +49,41 @@ key-unique r a b p q = p ∙ sym q
 pub clear-unique : (before a b : List ℕ) → a ≡ replicate (length before) 0 → b ≡ replicate (length before) 0 → a ≡ b
 clear-unique before a b p q = p ∙ sym q
 
-pub pack-unique : (rs before : List ℕ) (a b : Packed) (x y : List ℕ) → Packs rs before a x → Packs rs before b y → (a ≡ b) × (x ≡ y)
-pack-unique rs before a b x y p q =
+pub pack-unique :
+    {w : Width} (rs before : List ℕ) (a b : Outcome) (x y : List ℕ) → PacksIn w rs before a x → PacksIn w rs before b y → (a ≡ b) × (x ≡ y)
+pack-unique {w} rs before a b x y p q =
     let e : a ≡ b = p .answers ∙ sym (q .answers) in
-    (e, p .holds ∙ ap (λ (v : Packed). packedInto v rs before) e ∙ sym (q .holds))
+    (e, p .holds ∙ ap (λ (v : Outcome). packedInto w (v .number) rs before) e ∙ sym (q .holds))
 
-pub unpack-unique : (s before : List ℕ) (a b : Unpacked) (x y : List ℕ) → Unpacks s before a x → Unpacks s before b y → (a ≡ b) × (x ≡ y)
-unpack-unique s before a b x y p q =
+pub unpack-unique :
+    {w : Width} (s before : List ℕ) (a b : Outcome) (x y : List ℕ) → UnpacksIn w s before a x → UnpacksIn w s before b y → (a ≡ b) × (x ≡ y)
+unpack-unique {w} s before a b x y p q =
     let e : a ≡ b = p .answers ∙ sym (q .answers) in
-    (e, p .holds ∙ ap (λ (v : Unpacked). unpackedInto v s before) e ∙ sym (q .holds))
+    (e, p .holds ∙ ap (λ (v : Outcome). unpackedInto w (v .number) s before) e ∙ sym (q .holds))
 
-same-place : (p q : ℕ) (rs : List ℕ) (x : ℕ) → getD rs p 0 ≡ x → getD rs q 0 ≡ x → AbsentBelow p rs x → AbsentBelow q rs x → p ≡ q
-same-place p q rs x hp hq np nq = ⊎-elim (λ (h : p < q). absurd (nq p h hp)) (λ (h : q ≤ p). ⊎-elim (λ (k : q < p). absurd (np q k hq)) (λ (k : p ≤ q). omega arith) (lt? q p)) (lt? p q)
+same-place : (rs : List ℕ) (x p q : ℕ) → FirstPlace rs x p → FirstPlace rs x q → p ≡ q
+same-place rs x p q f g =
+    ⊎-elim (λ (h : p < q). absurd (g .absent p h (f .stands)))
+    (λ (h : q ≤ p). ⊎-elim (λ (k : q < p). absurd (f .absent q k (g .stands))) (λ (k : p ≤ q). omega arith) (lt? q p)) (lt? p q)
 
 pub find-unique : (rs : List ℕ) (x : ℕ) (a b : Found) → Finds rs x a → Finds rs x b → a ≡ b
-find-unique rs x (At p) (At q) (first hp ep np) (first hq eq nq) = let e : p .0 ≡ q .0 = same-place (p .0) (q .0) rs x ep eq np nq in λ k. At (record { 0 = e k })
-find-unique rs x (At p) Nowhere (first hp ep np) (nowhere n) = absurd (n (p .0) hp ep)
-find-unique rs x Nowhere (At q) (nowhere n) (first hq eq nq) = absurd (n (q .0) hq eq)
-find-unique rs x Nowhere Nowhere (nowhere n) (nowhere m) = refl
+find-unique rs x a b p q =
+    let e : a .number ≡ b .number = p .numbered ∙ sym (q .numbered) in
+    let f : a .place .0 ≡ b .place .0 =
+    ⊎-elim (λ (z : a .number ≡ 0). same-place rs x (a .place .0) (b .place .0) (p .found z) (q .found (sym e ∙ z)))
+    (λ (z : a .number ≡ 0 → ⊥). p .refused z ∙ sym (q .refused (λ (y : b .number ≡ 0). z (e ∙ y)))) (eq? (a .number) 0) in
+    λ k. record { number = e k; place = record { 0 = f k } }
 
-judged-unique : (n room : ℕ) (xs : List ℕ) (a b : Repeat) → Judged n room xs a → Judged n room xs b → a ≡ b
-judged-unique n room xs NoRoom NoRoom (noRoom p) (noRoom q) = refl
-judged-unique n room xs NoRoom Twice (noRoom p) (twice q r) = absurd (omega arith)
-judged-unique n room xs NoRoom Once (noRoom p) (once q r) = absurd (omega arith)
-judged-unique n room xs Twice NoRoom (twice p r) (noRoom q) = absurd (omega arith)
-judged-unique n room xs Twice Twice (twice p r) (twice q s) = refl
-judged-unique n room xs Twice Once (twice p r) (once q s) = absurd (s r)
-judged-unique n room xs Once NoRoom (once p r) (noRoom q) = absurd (omega arith)
-judged-unique n room xs Once Twice (once p r) (twice q s) = absurd (r s)
-judged-unique n room xs Once Once (once p r) (once q s) = refl
+pub checks-unique :
+    (n : ℕ) (xs before : List ℕ) (a b : ℕ) (x y : List ℕ) → Checks n xs before a x → Checks n xs before b y → (a ≡ b) × (x ≡ y)
+checks-unique n xs before a b x y p q = (p .answers ∙ sym (q .answers), p .zero ∙ sym (q .zero))
 
-pub checks-unique : (n : ℕ) (xs before : List ℕ) (a b : Repeat) (x y : List ℕ) → Checks n xs before a x → Checks n xs before b y → (a ≡ b) × (x ≡ y)
-checks-unique n xs before a b x y p q = (judged-unique n (length before) xs a b (p .answers) (q .answers), p .zero ∙ sym (q .zero))
-
-pub repeats-in-unique : (n : ℕ) (before : List ℕ) (a b : Repeat) (x y : List ℕ) → Checks n (take n before) before a x → Checks n (take n before) before b y → (a ≡ b) × (x ≡ y)
+pub repeats-in-unique :
+    (n : ℕ) (before : List ℕ) (a b : ℕ) (x y : List ℕ) → Checks n (take n before) before a x
+    → Checks n (take n before) before b y → (a ≡ b) × (x ≡ y)
 repeats-in-unique n before = checks-unique n (take n before) before
 
 pub twice-unique :
-    (rs before : List ℕ) (a b : Repeat) (x y : List ℕ) → Checks (length rs) (map keyOf rs) before a x → Checks (length rs) (map keyOf rs) before b y → (a ≡ b) × (x ≡ y)
+    (rs before : List ℕ) (a b : ℕ) (x y : List ℕ) → Checks (length rs) (map keyOf rs) before a x
+    → Checks (length rs) (map keyOf rs) before b y → (a ≡ b) × (x ≡ y)
 twice-unique rs before = checks-unique (length rs) (map keyOf rs) before

@@ -1,6 +1,7 @@
 // Records of locations: the three counters, the 40 bits of a record, sheets of records, finding one, and whether two
 // name the same place.
 mod counters;
+mod outcome;
 mod record;
 mod repeat;
 mod search;
@@ -9,6 +10,7 @@ mod sheet;
 pub use counters::Index;
 pub use counters::Place;
 pub use counters::Vertex;
+pub use outcome::Outcome;
 pub use record::i_of;
 pub use record::is_voxel;
 pub use record::j_of;
@@ -19,13 +21,10 @@ pub use record::structure_of;
 pub use record::surface_record;
 pub use record::vertex_of;
 pub use record::voxel_record;
-pub use repeat::Repeat;
 pub use repeat::clear;
 pub use repeat::repeats_in;
 pub use repeat::twice;
 pub use search::Found;
 pub use search::find;
-pub use sheet::Packed;
-pub use sheet::Unpacked;
 pub use sheet::pack;
 pub use sheet::unpack;

@@ -2,9 +2,10 @@
 use super::counters::Place;
 ghost use Rattle.records.specs.Find.{Finds};
 
-pub enum Found {
-    At(Place),
-    Nowhere,
+// 0 and the place, or 19 and place 0.
+pub struct Found {
+    pub number: u64,
+    pub place: Place,
 }
 
 pub fn find(records: &[u64], number: u64) -> Found
@@ -13,9 +14,15 @@ pub fn find(records: &[u64], number: u64) -> Found
     let mut i = 0;
     while i < records.len() {
         if records[i] == number {
-            return Found::At(Place(i));
+            return Found {
+                number: 0,
+                place: Place(i),
+            };
         }
         i += 1;
     }
-    Found::Nowhere
+    Found {
+        number: 19,
+        place: Place(0),
+    }
 }

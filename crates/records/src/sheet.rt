@@ -1,27 +1,13 @@
 // Sheets: records packed into bytes, and unpacked.
+use super::outcome::Outcome;
 use super::record::legal;
 ghost use mathlib.Core.Path.{_≡_};
 ghost use Prim.Native.Nat.{_+_, _*_, _≤_, _<_};
 ghost use lib.ListN.{length, take, drop};
+ghost use Rattle.records.specs.Width.{width40};
 ghost use Rattle.records.specs.Bytes.{bytesOf, numberOf, body, numbersIn};
 ghost use Rattle.records.specs.Fill.{wrote};
 ghost use Rattle.records.specs.Sheet.{allLegal, goodCount, sheetCount, countOf, headOf, Packs, Unpacks};
-
-pub enum Packed {
-    // So many bytes.
-    Written(usize),
-    BadCount,
-    BadRecord,
-    TooShort,
-}
-
-pub enum Unpacked {
-    // So many records.
-    Records(usize),
-    BadSheet,
-    Illegal,
-    NoRoom,
-}
 
 fn good_count(n: usize) -> bool
     ensures { λ ok. ⌜ ok ≡ goodCount n ⌝ }
@@ -30,7 +16,7 @@ fn good_count(n: usize) -> bool
 }
 
 fn all_legal(records: &[u64]) -> bool
-    ensures { λ ok. ⌜ ok ≡ allLegal (now (records .entry)) ⌝ }
+    ensures { λ ok. ⌜ ok ≡ allLegal width40 (now (records .entry)) ⌝ }
 {
     let mut i = 0;
     while i < records.len() {
@@ -74,24 +60,36 @@ fn put_records(sheet: &mut [u8], records: &[u64])
     }
 }
 
-// All records go into the sheet, from its start.
-pub fn pack(records: &[u64], sheet: &mut [u8]) -> Packed
+// All records go into the sheet, from its start; the value is the bytes written.
+pub fn pack(records: &[u64], sheet: &mut [u8]) -> Outcome
     ensures { λ r. ⌜ Packs (now (records .entry)) (now (sheet .entry)) r (now (sheet .exit)) ⌝ }
 {
     let n = records.len();
     if !good_count(n) {
-        return Packed::BadCount;
+        return Outcome {
+            number: 15,
+            value: 0,
+        };
     }
     if !all_legal(records) {
-        return Packed::BadRecord;
+        return Outcome {
+            number: 16,
+            value: 0,
+        };
     }
     let size = 4 + 5 * n;
     if sheet.len() < size {
-        return Packed::TooShort;
+        return Outcome {
+            number: 17,
+            value: 0,
+        };
     }
     put_head(sheet, n);
     put_records(sheet, records);
-    Packed::Written(size)
+    Outcome {
+        number: 0,
+        value: size as u64,
+    }
 }
 
 // A byte as a number of 64 bits.
@@ -139,7 +137,7 @@ fn record_at(sheet: &[u8], at: usize) -> u64
 
 fn sheet_legal(sheet: &[u8], n: usize) -> bool
     requires { ⌜ length (now sheet) ≡ 4 + 5 * n ⌝ }
-    ensures { λ ok. ⌜ ok ≡ allLegal (numbersIn 5 n (drop 4 (now (sheet .entry)))) ⌝ }
+    ensures { λ ok. ⌜ ok ≡ allLegal width40 (numbersIn 5 n (drop 4 (now (sheet .entry)))) ⌝ }
 {
     let mut i = 0;
     while i < n {
@@ -162,20 +160,32 @@ fn take_records(sheet: &[u8], records: &mut [u64], n: usize)
     }
 }
 
-// The sheet's records go to the start of the places lent.
-pub fn unpack(sheet: &[u8], records: &mut [u64]) -> Unpacked
+// The sheet's records go to the start of the places lent; the value is their count.
+pub fn unpack(sheet: &[u8], records: &mut [u64]) -> Outcome
     ensures { λ r. ⌜ Unpacks (now (sheet .entry)) (now (records .entry)) r (now (records .exit)) ⌝ }
 {
     let n = sheet_count(sheet);
     if n == 0 {
-        return Unpacked::BadSheet;
+        return Outcome {
+            number: 15,
+            value: 0,
+        };
     }
     if !sheet_legal(sheet, n) {
-        return Unpacked::Illegal;
+        return Outcome {
+            number: 16,
+            value: 0,
+        };
     }
     if records.len() < n {
-        return Unpacked::NoRoom;
+        return Outcome {
+            number: 17,
+            value: 0,
+        };
     }
     take_records(sheet, records, n);
-    Unpacked::Records(n)
+    Outcome {
+        number: 0,
+        value: n as u64,
+    }
 }

@@ -1,7 +1,5 @@
 // The three records of the paper's case A, packed into a sheet, and unpacked again.
 use libc::STDOUT_FILENO;
-use records::Packed;
-use records::Unpacked;
 use records::Vertex;
 
 fn digit(n: u8) -> u8 {
@@ -31,25 +29,22 @@ fn same(a: [u64; 3], b: [u64; 3]) -> bool {
     a[2] == b[2]
 }
 
+// `refused N`, alone on its line.
+fn refused(number: u64) {
+    io::write_all(STDOUT_FILENO, b"refused ");
+    io::print_decimal(STDOUT_FILENO, number);
+    io::write_all(STDOUT_FILENO, b"\n");
+}
+
 fn back(sheet: &[u8], table: [u64; 3]) {
     let mut again = [0u64; 3];
-    match records::unpack(sheet, &mut again) {
-        Unpacked::Records(_) => {
-            if same(table, again) {
-                io::write_all(STDOUT_FILENO, b"unpacked: the same records\n");
-            } else {
-                io::write_all(STDOUT_FILENO, b"unpacked: other records\n");
-            }
-        }
-        Unpacked::BadSheet => {
-            io::write_all(STDOUT_FILENO, b"refused 15\n");
-        }
-        Unpacked::Illegal => {
-            io::write_all(STDOUT_FILENO, b"refused 16\n");
-        }
-        Unpacked::NoRoom => {
-            io::write_all(STDOUT_FILENO, b"refused 17\n");
-        }
+    let said = records::unpack(sheet, &mut again);
+    if said.number != 0 {
+        refused(said.number);
+    } else if same(table, again) {
+        io::write_all(STDOUT_FILENO, b"unpacked: the same records\n");
+    } else {
+        io::write_all(STDOUT_FILENO, b"unpacked: other records\n");
     }
 }
 
@@ -60,19 +55,11 @@ fn main() {
         records::voxel_record(6, 2, 3, 5),
     ];
     let mut sheet = [0u8; 19];
-    match records::pack(&table, &mut sheet) {
-        Packed::Written(_) => {
-            show(&sheet);
-            back(&sheet, table);
-        }
-        Packed::BadCount => {
-            io::write_all(STDOUT_FILENO, b"refused 15\n");
-        }
-        Packed::BadRecord => {
-            io::write_all(STDOUT_FILENO, b"refused 16\n");
-        }
-        Packed::TooShort => {
-            io::write_all(STDOUT_FILENO, b"refused 17\n");
-        }
+    let said = records::pack(&table, &mut sheet);
+    if said.number != 0 {
+        refused(said.number);
+    } else {
+        show(&sheet);
+        back(&sheet, table);
     }
 }

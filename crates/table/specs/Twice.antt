@@ -6,16 +6,17 @@ use mathlib.Core.Bool.{Bool, true, false}
 use Prim.Native.Nat.{ℕ, zero, _+_, _-_, _<_, _≤_}
 use native.Mathlib.Decide.{decLt}
 use native.Mathlib.Omega.{arith}
+use lib.Dec.{eqb}
 use lib.ListN.{length, getD, set, take, drop, replicate, length-set, length-map}
 use lib.Seq.{length-take-le, take-all, take-at, getD-take}
 use borrow.Author.Needs.{needs}
-use Rattle.lists.specs.Lists.{total}
+use Rattle.lists.specs.Booleans.{refute, both-ways}
+use Rattle.lists.specs.Lists.{total, twoOf}
 use Rattle.records.specs.Record.{keyOf}
 use Rattle.records.specs.RecordLaws.{key-at}
 use Rattle.records.specs.Fill.{wrote, wrote-none, wrote-next, length-wrote}
-use Rattle.records.specs.Repeat.{Repeats, Judged, noRoom, twice, once, Checks}
-use Rattle.records.specs.declared.repeat.Repeat.{Repeat}
-use Rattle.records.specs.declared.repeat.Repeat.the-variants.{Once, Twice, NoRoom}
+use Rattle.records.specs.Repeat.{Repeats, repeatRefusal, Checks}
+use Rattle.records.specs.RepeatLaws.{two-repeats, repeat-told}
 use Rattle.cifti.specs.Maps.{models, lengthOf}
 use Rattle.cifti.specs.Conditions.{repeats}
 use Rattle.cifti.specs.Answer.{recordAt, stretch}
@@ -163,42 +164,21 @@ module _ {text : List ℕ} {m : ℕ} {before : List ℕ} (r : Ready text m (leng
       unfolding stretchKeys
       keys-are = ap (take n) k ∙ take-at (map keyOf (take n w₁)) (drop (0 + length (map keyOf (take n w₁))) w₁) n keys-n ∙ ap (map keyOf) records
 
-      module _ {a : Repeat} {w₃ : List ℕ} (c : Checks n (take n w₂) w₂ a w₃) where
+      module _ {a : ℕ} {w₃ : List ℕ} (c : Checks n (take n w₂) w₂ a w₃) where
         zeros : w₃ ≡ replicate (length before) 0
         zeros = c .zero ∙ ap (λ j. replicate j 0) kept₂
-
-        judged : Judged n (length w₂) (stretchKeys r) a
-        judged = rw keys-are at (c .answers)
 
         room₂ : n ≤ length w₂
         room₂ = omega (arith, kept₂, kept₁, judge-enough)
 
-        pub judge-twice : a ≡ Twice → Judges text m before true w₃
-        judge-twice q = record { told = sym (applies r .1 (go a judged q)); cleared = zeros }
+        told : eqb a 14 ≡ twoOf eqb (stretchKeys r)
+        told = ap (λ j. eqb j 14) (c .answers ∙ ap (repeatRefusal n (length w₂)) keys-are) ∙ repeat-told n (length w₂) (stretchKeys r) room₂
+
+        pub judge-told : Judges text m before (eqb a 14) w₃
+        judge-told = record { told = told ∙ go (twoOf eqb (stretchKeys r)) refl; cleared = zeros }
           where
-            go : (x : Repeat) → Judged n (length w₂) (stretchKeys r) x → x ≡ Twice → Key r
-            go x (noRoom h) q = absurd (omega (arith, room₂))
-            go x (twice h t) q = to-key r t
-            go x (once h t) q = absurd (let z : _≡_ {A = ℕ} 0 1 = cc in omega arith)
+            go : (b : Bool) → twoOf eqb (stretchKeys r) ≡ b → b ≡ repeats (models (mapAt text m))
+            go true e = sym (applies r .1 (to-key r (two-repeats (stretchKeys r) .0 e)))
+            go false e = sym (refute (repeats (models (mapAt text m))) (λ h. both-ways (two-repeats (stretchKeys r) .1 (from-key r (applies r .0 h))) e))
 
-        pub judge-once : a ≡ Once → Judges text m before false w₃
-        judge-once q = record { told = none (repeats (models (mapAt text m))) refl; cleared = zeros }
-          where
-            go : (x : Repeat) → Judged n (length w₂) (stretchKeys r) x → x ≡ Once → Repeats (stretchKeys r) → ⊥
-            go x (noRoom h) q t = omega (arith, room₂)
-            go x (twice h u) q t = let z : _≡_ {A = ℕ} 0 1 = cc in omega arith
-            go x (once h u) q t = u t
-
-            none : (b : Bool) → repeats (models (mapAt text m)) ≡ b → false ≡ b
-            none false e = refl
-            none true e = absurd (go a judged q (from-key r (applies r .0 e)))
-
-        pub judge-full : a ≡ NoRoom → Judges text m before false w₃
-        judge-full q = absurd (go a judged q)
-          where
-            go : (x : Repeat) → Judged n (length w₂) (stretchKeys r) x → x ≡ NoRoom → ⊥
-            go x (noRoom h) q = omega (arith, room₂)
-            go x (twice h u) q = let z : _≡_ {A = ℕ} 0 1 = cc in omega arith
-            go x (once h u) q = let z : _≡_ {A = ℕ} 0 1 = cc in omega arith
-
-pub ruleset judging = (judge-enough, judge-twice, judge-once, judge-full, needs)
+pub ruleset judging = (judge-enough, judge-told, needs)

@@ -1,4 +1,4 @@
--- `table::twice::location_twice` meets its contract. Assumes nothing.
+-- `reader::twice::location_twice` meets its contract. Assumes nothing.
 use Rattle.table.specs.Twice.{judging}
 use Rattle.reader.proofs.twice.location_twice.Statement.{statement}
 use Rattle.reader.proofs.twice.location_twice.Tie as tie
@@ -10,12 +10,5 @@ location-twice-spec =
     (λ c κs. search judging)
     (λ c κs. search judging)
     (λ c κs. search judging)
-    (λ c. search judging)
-    (λ c. search judging)
-    (λ c. search judging)
-    (λ c. search judging)
-    (λ c. search judging)
-    (λ c. search judging)
-    (λ c. search judging)
     (λ c. search judging)
     (λ c. search judging))

@@ -1,4 +1,4 @@
--- `table::twice::to_keys` meets its contract. The invariant: the first i are keys, the others as they were. Assumes nothing.
+-- `reader::twice::to_keys` meets its contract. The invariant: the first i are keys, the others as they were. Assumes nothing.
 use Prim.Native.Nat.{_-_}
 use Rattle.table.specs.Twice.{Keying, keying}
 use Rattle.reader.proofs.twice.to_keys.Statement.{statement}

@@ -1,10 +1,10 @@
 -- `records::record::j_of` meets its contract. Assumes nothing.
 use Rattle.records.specs.Fields.{bits, parted}
-use Rattle.records.specs.Record.{jOf}
+use Rattle.records.specs.Record.{jIn}
 use native.Mathlib.Omega.{arith}
 use Rattle.records.proofs.record.j_of.Statement.{statement}
 use Rattle.records.proofs.record.j_of.Tie as tie
 
 pub j-of-spec : {M : Type 1} → statement M
-unfolding jOf bits parted
+unfolding jIn bits parted
 j-of-spec = tie.close (tie.spec (λ c. omega arith))

@@ -5,21 +5,22 @@ use Prim.Native.Nat.{ℕ, _/_, _%_, _^_, _≤_, _<_}
 use lib.Dec.{eqb, leb, ltb}
 use borrow.Author.Tests.{lt-ltb, eq-eqb, ne-eqb, ltb-true}
 use native.Mathlib.Nat.{div-one}
+use Rattle.records.specs.Limits.{mostVertex}
 use Rattle.records.specs.Fields.{bits, parted}
-use Rattle.records.specs.Record.{legalRecord, isVoxel, payloadOf}
+use Rattle.records.specs.Record.{legalRecord, legalIn, isVoxelIn, payloadIn}
 use native.Mathlib.Omega.{arith}
 use Rattle.records.proofs.record.legal.Statement.{statement}
 use Rattle.records.proofs.record.legal.Tie as tie
 
-low : (r : ℕ) → r < 2 ^ 39 → leb (r % 2 ^ 34) 1048575 ≡ legalRecord r
-unfolding legalRecord isVoxel payloadOf bits parted
+low : (r : ℕ) → r < 2 ^ 39 → leb (r % 2 ^ 34) mostVertex ≡ legalRecord r
+unfolding legalIn isVoxelIn payloadIn bits parted
 low r h = rw (lt-ltb r (2 ^ 40) (omega arith), ne-eqb (r / 2 ^ 39 % 2) 1 (omega arith), div-one)
 
 high : (r : ℕ) → 2 ^ 39 ≤ r → ltb r (2 ^ 40) ≡ legalRecord r
-unfolding legalRecord isVoxel payloadOf bits parted
+unfolding legalIn isVoxelIn payloadIn bits parted
 high r h = by (ltb r (2 ^ 40)) refl
   where
-    by : (b : Bool) → ltb r (2 ^ 40) ≡ b → b ≡ (b && (eqb (r / 2 ^ 39 % 2) 1 || leb (r / 1 % 2 ^ 34) 1048575))
+    by : (b : Bool) → ltb r (2 ^ 40) ≡ b → b ≡ (b && (eqb (r / 2 ^ 39 % 2) 1 || leb (r / 1 % 2 ^ 34) mostVertex))
     by true e = let s = ltb-true r (2 ^ 40) e in rw (eq-eqb (r / 2 ^ 39 % 2) 1 (omega arith))
     by false e = refl
 

@@ -1,10 +1,10 @@
 -- `records::record::structure_of` meets its contract. Assumes nothing.
 use Rattle.records.specs.Fields.{bits, parted}
-use Rattle.records.specs.Record.{structureOf}
+use Rattle.records.specs.Record.{structureIn}
 use native.Mathlib.Omega.{arith}
 use Rattle.records.proofs.record.structure_of.Statement.{statement}
 use Rattle.records.proofs.record.structure_of.Tie as tie
 
 pub structure-of-spec : {M : Type 1} → statement M
-unfolding structureOf bits parted
+unfolding structureIn bits parted
 structure-of-spec = tie.close (tie.spec (λ c. omega arith))

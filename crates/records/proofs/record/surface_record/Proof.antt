@@ -1,10 +1,10 @@
 -- `records::record::surface_record` meets its contract. Assumes nothing.
 use Rattle.records.specs.Fields.{bits, joined}
-use Rattle.records.specs.Record.{recordOf, within}
+use Rattle.records.specs.Record.{recordIn, withinIn}
 use native.Mathlib.Omega.{arith}
 use Rattle.records.proofs.record.surface_record.Statement.{statement}
 use Rattle.records.proofs.record.surface_record.Tie as tie
 
 pub surface-record-spec : {M : Type 1} → statement M
-unfolding recordOf within bits joined
+unfolding recordIn withinIn bits joined
 surface-record-spec = tie.close (tie.spec (λ c. omega arith) (λ c. omega arith) (λ c. omega arith))

@@ -1,12 +1,12 @@
 -- `records::record::voxel_record` meets its contract. Assumes nothing.
 use Rattle.records.specs.Fields.{bits, joined}
-use Rattle.records.specs.Record.{recordOf, within}
+use Rattle.records.specs.Record.{recordIn, withinIn}
 use native.Mathlib.Omega.{arith}
 use Rattle.records.proofs.record.voxel_record.Statement.{statement}
 use Rattle.records.proofs.record.voxel_record.Tie as tie
 
 pub voxel-record-spec : {M : Type 1} → statement M
-unfolding recordOf within bits joined
+unfolding recordIn withinIn bits joined
 voxel-record-spec =
     tie.close
     (tie.spec

@@ -4,6 +4,7 @@ use mathlib.Core.Bool.{Bool, _&&_}
 use Prim.Native.Nat.{_+_, _≤_, _-_}
 use lib.ListN.{length, drop}
 use borrow.Author.Tests.{not-true, not-false}
+use Rattle.records.specs.Width.{width40}
 use Rattle.records.specs.Sheet.{allLegal}
 use Rattle.records.proofs.LawsSheet.{legal-step, legal-end}
 use native.Mathlib.Omega.{arith}
@@ -11,7 +12,7 @@ use Rattle.records.proofs.sheet.all_legal.Statement.{statement}
 use Rattle.records.proofs.sheet.all_legal.Tie as tie
 
 abbrev Inv-loop : tie.InvT-loop
-Inv-loop records i₀ i = (i ≤ length records) × (allLegal records ≡ allLegal (drop i records))
+Inv-loop records i₀ i = (i ≤ length records) × (allLegal width40 records ≡ allLegal width40 (drop i records))
 
 abbrev μ-loop : tie.MeasureT-loop
 μ-loop records i₀ i = length records - i
@@ -25,7 +26,7 @@ returns c =
     let at-loop = call .before .before .before in
     let rs = at-loop .before .before .args .records .now in
     let i = at-loop .loop .i in
-    sym (at-loop .loop .inv .1 ∙ legal-step rs i _ (omega arith) (call .legal .ensures) ∙ ap (λ (b : Bool). b && allLegal (drop (i + 1) rs)) (not-true (call .legal .result) (c .if1 .taken)))
+    sym (at-loop .loop .inv .1 ∙ legal-step rs i _ (omega arith) (call .legal .ensures) ∙ ap (λ (b : Bool). b && allLegal width40 (drop (i + 1) rs)) (not-true (call .legal .result) (c .if1 .taken)))
 
 loop-again : tie.Need-loop-again Inv-loop μ-loop
 loop-again c =
@@ -33,7 +34,7 @@ loop-again c =
     let at-loop = call .before .before .before in
     let rs = at-loop .before .before .args .records .now in
     let i = at-loop .loop .i in
-    (omega arith, at-loop .loop .inv .1 ∙ legal-step rs i _ (omega arith) (call .legal .ensures) ∙ ap (λ (b : Bool). b && allLegal (drop (i + 1) rs)) (not-false (call .legal .result) (c .if1 .left)))
+    (omega arith, at-loop .loop .inv .1 ∙ legal-step rs i _ (omega arith) (call .legal .ensures) ∙ ap (λ (b : Bool). b && allLegal width40 (drop (i + 1) rs)) (not-false (call .legal .result) (c .if1 .left)))
 
 returns-2 : tie.Need-returns-2 Inv-loop μ-loop
 returns-2 c = let at-loop = c .before in sym (at-loop .loop .inv .1 ∙ legal-end (at-loop .before .before .args .records .now) (at-loop .loop .i) (omega arith))

@@ -4,6 +4,7 @@ use mathlib.Core.Path.{_≡_, refl, sym, ap, _∙_}
 use mathlib.Core.Bool.{Bool, _&&_}
 use Prim.Native.Nat.{_+_, _≤_, _-_}
 use borrow.Author.Tests.{not-true, not-false}
+use Rattle.records.specs.Width.{width40}
 use Rattle.records.specs.Record.{legalRecord}
 use Rattle.records.specs.Bytes.{numbersIn}
 use Rattle.records.specs.ByteLaws.{number-behind, length-numbersIn}
@@ -14,7 +15,7 @@ use Rattle.records.proofs.sheet.sheet_legal.Statement.{statement}
 use Rattle.records.proofs.sheet.sheet_legal.Tie as tie
 
 abbrev Inv-loop : tie.InvT-loop
-Inv-loop sheet n i₀ i = (i ≤ n) × (allLegal (numbersIn 5 n (drop 4 sheet)) ≡ allLegal (drop i (numbersIn 5 n (drop 4 sheet))))
+Inv-loop sheet n i₀ i = (i ≤ n) × (allLegal width40 (numbersIn 5 n (drop 4 sheet)) ≡ allLegal width40 (drop i (numbersIn 5 n (drop 4 sheet))))
 
 abbrev μ-loop : tie.MeasureT-loop
 μ-loop sheet n i₀ i = n - i
@@ -32,7 +33,7 @@ returns c =
     let i = at-loop .loop .i in
     let value : ask .result ≡ legalRecord (getD rs i 0) = ask .ensures ∙ ap legalRecord (read .ensures ∙ sym (number-behind 5 (a .n) i 4 (a .sheet .now) (omega arith))) in
     let step = at-loop .loop .inv .1 ∙ legal-step rs i (ask .result) (omega (arith, length-numbersIn 5 (a .n) (drop 4 (a .sheet .now)))) value in
-    sym (step ∙ ap (λ (b : Bool). b && allLegal (drop (i + 1) rs)) (not-true (ask .result) (c .if1 .taken)))
+    sym (step ∙ ap (λ (b : Bool). b && allLegal width40 (drop (i + 1) rs)) (not-true (ask .result) (c .if1 .taken)))
 
 loop-again : tie.Need-loop-again Inv-loop μ-loop
 loop-again c =
@@ -44,7 +45,7 @@ loop-again c =
     let i = at-loop .loop .i in
     let value : ask .result ≡ legalRecord (getD rs i 0) = ask .ensures ∙ ap legalRecord (read .ensures ∙ sym (number-behind 5 (a .n) i 4 (a .sheet .now) (omega arith))) in
     let step = at-loop .loop .inv .1 ∙ legal-step rs i (ask .result) (omega (arith, length-numbersIn 5 (a .n) (drop 4 (a .sheet .now)))) value in
-    (omega arith, step ∙ ap (λ (b : Bool). b && allLegal (drop (i + 1) rs)) (not-false (ask .result) (c .if1 .left)))
+    (omega arith, step ∙ ap (λ (b : Bool). b && allLegal width40 (drop (i + 1) rs)) (not-false (ask .result) (c .if1 .left)))
 
 returns-2 : tie.Need-returns-2 Inv-loop μ-loop
 returns-2 c =
