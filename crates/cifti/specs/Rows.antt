@@ -1,7 +1,7 @@
 -- THE ELEMENTS (000, 002): the table of document 01, a row for each kind of element.
 use mathlib.Core.List.{List, [], _∷_, _++_}
 use Rattle.numbers.specs.Numbers.{whole, volumeDimensions, dimensionList, exponent, decimal, wholes, sixteen}
-use Rattle.schema.specs.Schema.{anyValue, word, number, AttributeRow, required, anyText, numbers, once, atMostOnce, anyTimes, atLeastOnce, neededWith, Case, _⇒_, always, chosen, child, anyOrder, Row, branch, leaf}
+use Rattle.schema.specs.Schema.{anyValue, word, number, AttributeRow, required, anyText, numbers, once, atMostOnce, anyTimes, atLeastOnce, neededBelow, Case, _⇒_, always, chosen, child, anyOrder, Row, branch, leaf}
 use Rattle.cifti.specs.Words.{structures, units}
 
 -- the kinds of elements; `words` are those with any text, and nothing else: Name, Value, MapName
@@ -62,7 +62,7 @@ rows md = branch [] anyOrder
 rows words = leaf [] anyText
 rows brainModels = branch mapAttributes anyOrder
     (child "BrainModel" atLeastOnce (chosen "ModelType" modelTypes)
-    ∷ child "Volume" (neededWith "BrainModel" "ModelType" "CIFTI_MODEL_TYPE_VOXELS") (always volume)
+    ∷ child "Volume" (neededBelow "VoxelIndicesIJK") (always volume)
     ∷ [])
 rows series = branch (mapAttributes ++ seriesAttributes) anyOrder []
 rows scalars = branch mapAttributes anyOrder

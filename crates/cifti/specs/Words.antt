@@ -1,9 +1,7 @@
 -- THE NAMED WORDS (000, 002). Structures and units are numbered by their place in the list, from 0.
 use mathlib.Core.List.{List, [], _∷_}
-use mathlib.Core.Bool.{cond}
-use Prim.Native.Nat.{ℕ, suc}
 use Prim.Native.String.{String}
-use Rattle.grammar.specs.Look.{Word, is}
+unfoldable pub use Rattle.schema.specs.Words.{numberIn}
 
 unfoldable pub structures : List String
 structures =
@@ -31,11 +29,6 @@ structures =
 
 unfoldable pub units : List String
 units = "SECOND" ∷ "HERTZ" ∷ "METER" ∷ "RADIAN" ∷ []
-
--- the number of a word that is in the list
-unfoldable pub numberIn : List String → Word → ℕ
-numberIn [] w = 0
-numberIn (s ∷ l) w = cond (is s w) 0 (suc (numberIn l w))
 
 unfoldable pub namedWords : Unit {0}
 unfolding structures units numberIn

@@ -19,7 +19,7 @@ use Rattle.grammar.specs.Parser.{same}
 use Rattle.grammar.specs.Tokens.{same-equal}
 use Rattle.grammar.specs.Facts.{and-left, and-right}
 use Rattle.numbers.specs.Numbers.{whole, volumeDimensions, dimensionList, exponent, decimal, wholes, sixteen}
-use Rattle.schema.specs.Schema.{Form, anyValue, word, number, AttributeRow, required, optional, TextForm, numbers, ChildRow, child, Which, always, chosen, Case, _⇒_, Row, branch, leaf, Order, anyOrder, Times, once, kindOf, kindBy, kindChosen, kindAmong, childRows, everywhere, shaped, numbered, attributesShaped, attributeShaped, attributeNumbered, isWord, isNumber, isText, childrenShaped, childShaped, standsSo, orderly, neededWith, atLeastOnce, atMostOnce, anyTimes}
+use Rattle.schema.specs.Schema.{Form, anyValue, word, number, AttributeRow, required, optional, TextForm, numbers, ChildRow, child, Which, always, chosen, Case, _⇒_, Row, branch, leaf, Order, anyOrder, Times, once, kindOf, kindBy, kindChosen, kindAmong, childRows, everywhere, shaped, numbered, attributesShaped, attributeShaped, attributeNumbered, isWord, isNumber, isText, childrenShaped, childShaped, standsSo, orderly, neededBelow, atLeastOnce, atMostOnce, anyTimes}
 use Rattle.cifti.specs.Words.{structures, units}
 use Rattle.cifti.specs.Rows.{ElementKind, cifti, matrix, metaData, md, words, brainModels, series, scalars, namedMap, volume, transform, surface, voxels, vertexIndices, voxelIndices, mapKinds, modelTypes, mapAttributes, seriesAttributes, modelAttributes, rows}
 use Rattle.maps.specs.Good.{Good, GoodAs, good-as, AllGood, none-left, one-good, shape-here, number-here, good-children, row-met, attributes-shape, attributes-number, required-number, required-word}
@@ -45,7 +45,7 @@ matrixRows = child "MetaData" atMostOnce (always metaData) ∷ child "MatrixIndi
 abbrev pub brainRows : List (ChildRow ElementKind)
 brainRows =
     child "BrainModel" atLeastOnce (chosen "ModelType" modelTypes)
-    ∷ child "Volume" (neededWith "BrainModel" "ModelType" "CIFTI_MODEL_TYPE_VOXELS") (always volume)
+    ∷ child "Volume" (neededBelow "VoxelIndicesIJK") (always volume)
     ∷ []
 
 abbrev pub scalarRows : List (ChildRow ElementKind)

@@ -1,5 +1,6 @@
 pub mod Good
 pub mod Kinds
+pub mod Voxels
 pub mod Chain
 pub mod Fill
 pub mod Table

@@ -1,18 +1,14 @@
--- The words of the structures by their numbers.
+-- The number of a structure's word is below 32.
 use mathlib.Core.Path.{_≡_, refl}
 use mathlib.Core.List.{List, [], _∷_}
 use mathlib.Core.Bool.{Bool, true, false, cond, _||_}
 use Prim.Native.Nat.{ℕ, suc, _<_}
 use Prim.Native.String.{String}
 use native.Mathlib.Omega.{arith}
-use lib.ListN.{length, getD}
+use lib.ListN.{length}
 use Rattle.lists.specs.Lists.{any}
 use Rattle.grammar.specs.Look.{Word, is}
 use Rattle.cifti.specs.Words.{structures, numberIn}
-
--- the word of a structure
-unfoldable pub structureWord : ℕ → String
-structureWord n = getD structures n ""
 
 pub thirty-two : length structures ≡ 32
 unfolding structures

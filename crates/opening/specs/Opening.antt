@@ -15,14 +15,11 @@ use borrow.Author.Tests.{lt-ltb, le-ltb, le-leb, lt-leb, eq-eqb, ne-eqb, leb-tru
 use Rattle.lists.specs.Lists.{any, each, eachIn, those, there, isSome}
 use Rattle.grammar.specs.Bytes.{between}
 use Rattle.grammar.specs.Document.{Element}
-use Rattle.grammar.specs.Grammar.{Writes}
 use Rattle.grammar.specs.Look.{is, nameOf, contentsOf, elements, children}
 use Rattle.grammar.specs.Parser.{parse}
-use Rattle.grammar.specs.Theorems.{parse-iff}
-use Rattle.markup.specs.WellFormed.{WellFormed}
 use Rattle.nodes.specs.Places.{Stands, the}
 use Rattle.nodes.specs.Children.{first, next}
-use Rattle.nodes.specs.Root.{root, Rooted, root-law}
+use Rattle.nodes.specs.Root.{root}
 use Rattle.nodes.specs.Walk.{kids, Walk, Turn, walk-children, kids-children, walk-none, turn-at, turn-splits}
 use Rattle.nodes.specs.declared.Kid.{Kid}
 use Rattle.nodes.specs.declared.Kid.the-variants.{Child, Done}
@@ -31,7 +28,9 @@ use Rattle.cifti.specs.Rows.{cifti, matrix, rows}
 use Rattle.cifti.specs.Maps.{Map, mapOf, mapElements, mapsOf}
 use Rattle.cifti.specs.Conditions as C
 use Rattle.cifti.specs.Conditions.{_when_, lengthsWrong, textTooLong, noDocument, rootWrong, kindNotRead, shapeWrong, numberWrong, conditionsTo9}
-use Rattle.opening.specs.Faults as Faults
+use Rattle.opening.specs.Agree.{rootFault, Judged, ChecksCifti}
+use Rattle.shape.specs.declared.Checked.{Checked}
+use Rattle.lists.specs.Booleans.{never-some}
 use Rattle.maps.specs.Good.{Good}
 use Rattle.maps.specs.Kinds.{root-child}
 use Rattle.maps.specs.Ready.{mapsIn}
@@ -77,7 +76,8 @@ module _ {l : List ℕ} {i : ℕ} (go : Measuring l i) where
     length-large n h = sym (rw (ne-eqb (getD l i 0) 0 n, lt-ltb 1048576 (getD l i 0) h) at split)
 
     pub length-fine : (getD l i 0 ≡ 0 → ⊥) → getD l i 0 ≤ 1048576 → Measuring l (i + 1)
-    length-fine n h = record { two = go .two; three = go .three; so-far = rw (ne-eqb (getD l i 0) 0 n, le-ltb 1048576 (getD l i 0) h) at split }
+    length-fine n h =
+        record { two = go .two; three = go .three; so-far = rw (ne-eqb (getD l i 0) 0 n, le-ltb 1048576 (getD l i 0) h) at split }
 
 pub ruleset measuring = (few-lengths, many-lengths, lengths-start, lengths-done, length-zero, length-large, length-fine, needs)
 
@@ -89,21 +89,6 @@ lengths-three l h = go (leb (length l) 3) refl (leb 2 (length l)) h
     go true e a k = leb-true (length l) 3 e
     go false e true k = absurd (true≢false k)
     go false e false k = absurd (true≢false k)
-
--- ---- The document.
-
-never : {A : Type 0} {e : A} → _≡_ {A = Option A} Option.none (some e) → ⊥
-never p = let z : _≡_ {A = ℕ} 0 1 = cc in omega arith
-
-pub not-written : {text : List ℕ} {b : Bool} → WellFormed text b → b ≡ false → parse text ≡ Option.none
-not-written {text} w f = go (parse text) refl
-  where
-    go : (d : Option Element) → parse text ≡ d → d ≡ Option.none
-    go Option.none p = refl
-    go (some e) p = absurd (w .refuses f e (parse-iff text e .0 p))
-
-pub is-written : {text : List ℕ} {b : Bool} → WellFormed text b → b ≡ true → (e : Element) × (parse text ≡ some e)
-is-written {text} w t = let (e, h) = w .accepts t in (e, parse-iff text e .1 h)
 
 -- ---- What the root of a document that passes 4 to 7 gives: a good matrix, its only child.
 
@@ -155,6 +140,22 @@ pub record Opens (text lengths : List ℕ) (r : Opening) : Type 0 where
 
 -- ---- The table of nine, row by row.
 
+first-row : (n : ℕ) (b : Bool) (l : List C.Refusal) → C.first (n when b ∷ l) ≡ cond b n (C.first l)
+unfolding C.first
+first-row n true l = refl
+first-row n false l = refl
+
+seven-rows : (a b c d f g h : Bool) (l : List C.Refusal)
+    → C.first (1 when a ∷ 2 when b ∷ 3 when c ∷ 4 when d ∷ 5 when f ∷ 6 when g ∷ 7 when h ∷ l)
+    ≡ cond a 1 (cond b 2 (cond c 3 (cond d 4 (cond f 5 (cond g 6 (cond h 7 (C.first l)))))))
+seven-rows a b c d f g h l =
+    first-row 1 a _ ∙ ap (cond a 1) (first-row 2 b _ ∙ ap (cond b 2) (first-row 3 c _ ∙ ap (cond c 3) (first-row 4 d _ ∙ ap (cond d 4)
+    (first-row 5 f _ ∙ ap (cond f 5) (first-row 6 g _ ∙ ap (cond g 6) (first-row 7 h l))))))
+
+-- the first of 4 to 7 that applies to a root, or what comes behind them
+abbrev pub fourToSeven : Element → ℕ → ℕ
+fourToSeven e n = cond (rootWrong e) 4 (cond (kindNotRead e) 5 (cond (shapeWrong e) 6 (cond (numberWrong e) 7 n)))
+
 module _ (text lengths : List ℕ) where
   pub nine-lengths : lengthsWrong lengths ≡ true → number9 text lengths ≡ 1
   unfolding conditionsTo9 C.first
@@ -171,38 +172,33 @@ module _ (text lengths : List ℕ) where
       nine-unwritten h = rw (fine, short, h)
 
       module _ (e : Element) (p : parse text ≡ some e) where
-        nine-from : (a b c d : Bool) → rootWrong e ≡ a → kindNotRead e ≡ b → shapeWrong e ≡ c → numberWrong e ≡ d
-            → C.first (conditionsTo9 lengths (length text) (some e))
-            ≡ cond a 4 (cond b 5 (cond c 6 (cond d 7 (C.first (8 when C.ofMaps (C.dimensionsWrong lengths) (some e) ∷ 9 when C.ofMaps (C.lengthWrong lengths) (some e) ∷ [])))))
-        unfolding conditionsTo9 C.first noDocument isSome there
-        nine-from true b c d x y z w = rw (fine, short, x)
-        nine-from false true c d x y z w = rw (fine, short, x, y)
-        nine-from false false true d x y z w = rw (fine, short, x, y, z)
-        nine-from false false false true x y z w = rw (fine, short, x, y, z, w)
-        nine-from false false false false x y z w = rw (fine, short, x, y, z, w)
-
         pub nine-document : number9 text lengths
-            ≡ cond (rootWrong e) 4 (cond (kindNotRead e) 5 (cond (shapeWrong e) 6 (cond (numberWrong e) 7 (C.first (8 when C.ofMaps (C.dimensionsWrong lengths) (some e) ∷ 9 when C.ofMaps (C.lengthWrong lengths) (some e) ∷ [])))))
-        nine-document = ap (λ d. C.first (conditionsTo9 lengths (length text) d)) p ∙ nine-from (rootWrong e) (kindNotRead e) (shapeWrong e) (numberWrong e) refl refl refl refl
+            ≡ fourToSeven e (C.first (8 when C.ofMaps (C.dimensionsWrong lengths) (some e) ∷ 9 when C.ofMaps (C.lengthWrong lengths) (some e) ∷ []))
+        unfolding conditionsTo9 noDocument isSome there
+        nine-document =
+            ap (λ d. C.first (conditionsTo9 lengths (length text) d)) p
+            ∙ seven-rows (lengthsWrong lengths) (textTooLong (length text)) false (rootWrong e) (kindNotRead e) (shapeWrong e) (numberWrong e) _
+            ∙ rw (fine, short)
 
 -- ---- The root.
 
--- what is found in the document e, whose root stands at r
-pub record Found (text : List ℕ) (r : ℕ) (e : Element) (o : Opening) : Type 0 where
+-- what is found in the document, whose root stands at r
+pub record Found (text : List ℕ) (r : ℕ) (o : Opening) : Type 0 where
   pub among : o .number ≤ 7
   pub nowhere : (o .number ≡ 0 → ⊥) → o .matrix ≡ 0
   pub there-it-is : o .number ≡ 0 → o .matrix ≡ placeOf (first text r)
-  pub refused : (o .number ≡ 0 → ⊥) → (n : ℕ) → cond (rootWrong e) 4 (cond (kindNotRead e) 5 (cond (shapeWrong e) 6 (cond (numberWrong e) 7 n))) ≡ o .number
-  pub right-root : o .number ≡ 0 → rootWrong e ≡ false
-  pub read-kinds : o .number ≡ 0 → kindNotRead e ≡ false
-  pub shape : o .number ≡ 0 → shapeWrong e ≡ false
-  pub numbers : o .number ≡ 0 → numberWrong e ≡ false
+  pub refused : (o .number ≡ 0 → ⊥) → (n : ℕ) → fourToSeven (the text r) n ≡ o .number
+  pub right-root : o .number ≡ 0 → rootWrong (the text r) ≡ false
+  pub read-kinds : o .number ≡ 0 → kindNotRead (the text r) ≡ false
+  pub shape : o .number ≡ 0 → shapeWrong (the text r) ≡ false
+  pub numbers : o .number ≡ 0 → numberWrong (the text r) ≡ false
   pub stands : o .number ≡ 0 → Stands text (o .matrix)
   pub good : o .number ≡ 0 → Good matrix (the text (o .matrix))
-  pub maps : o .number ≡ 0 → mapsOf e ≡ mapsIn (the text (o .matrix))
-  pub only : o .number ≡ 0 → children "Matrix" e ≡ the text (o .matrix) ∷ []
+  pub maps : o .number ≡ 0 → mapsOf (the text r) ≡ mapsIn (the text (o .matrix))
+  pub only : o .number ≡ 0 → children "Matrix" (the text r) ≡ the text (o .matrix) ∷ []
 
-refuses : {text : List ℕ} {r : ℕ} {e : Element} (o : Opening) → (o .number ≡ 0 → ⊥) → o .number ≤ 7 → o .matrix ≡ 0 → ((n : ℕ) → cond (rootWrong e) 4 (cond (kindNotRead e) 5 (cond (shapeWrong e) 6 (cond (numberWrong e) 7 n))) ≡ o .number) → Found text r e o
+refuses : {text : List ℕ} {r : ℕ} (o : Opening) → (o .number ≡ 0 → ⊥) → o .number ≤ 7 → o .matrix ≡ 0
+    → ((n : ℕ) → fourToSeven (the text r) n ≡ o .number) → Found text r o
 refuses o k a m h = record {
   among = a;
   nowhere = λ _. m;
@@ -218,144 +214,147 @@ refuses o k a m h = record {
   only = λ z. absurd (k z);
 }
 
-module _ {text : List ℕ} {r : ℕ} (st : Stands text r) where
-  pub root-four : {b : Bool} → b ≡ rootWrong (the text r) → b ≡ true → (o : Opening) → o .number ≡ 4 → o .matrix ≡ 0 → Found text r (the text r) o
+module _ {text : List ℕ} {r n : ℕ} (j : Judged text r n) where
+  pub root-stands : Stands text r
+  root-stands = j .stands
+
+  pub root-four : {b : Bool} → b ≡ rootWrong (the text r) → b ≡ true → (o : Opening) → o .number ≡ 4 → o .matrix ≡ 0 → Found text r o
   root-four p t o q m = refuses o (λ z. omega arith) (omega arith) m (λ n. rw (sym p ∙ t, q))
 
   module _ {b : Bool} (p : b ≡ rootWrong (the text r)) (f : b ≡ false) where
-    pub root-five : {c : Bool} → c ≡ kindNotRead (the text r) → c ≡ true → (o : Opening) → o .number ≡ 5 → o .matrix ≡ 0 → Found text r (the text r) o
+    pub root-five : {c : Bool} → c ≡ kindNotRead (the text r) → c ≡ true → (o : Opening) → o .number ≡ 5 → o .matrix ≡ 0 → Found text r o
     root-five q t o s m = refuses o (λ z. omega arith) (omega arith) m (λ n. rw (sym p ∙ f, sym q ∙ t, s))
 
-    module _ {n : ℕ} (s : n ≡ Faults.refusal (the text r)) where
-      pub root-fault : {c : Bool} → c ≡ kindNotRead (the text r) → c ≡ false → (n ≡ 0 → ⊥) → (o : Opening) → o .number ≡ n → o .matrix ≡ 0 → Found text r (the text r) o
-      unfolding Faults.refusal
-      root-fault q g k o t z₀ = refuses o (λ z. k (sym t ∙ z)) (rw (t ∙ s) (few (shapeWrong (the text r)) (numberWrong (the text r)))) z₀ (λ m. rw (sym p ∙ f, sym q ∙ g) (go m (shapeWrong (the text r)) (numberWrong (the text r)) refl refl))
+    pub root-fault : {c : Bool} → c ≡ kindNotRead (the text r) → c ≡ false → (n ≡ 0 → ⊥) → (o : Opening) → o .number ≡ n → o .matrix ≡ 0
+        → Found text r o
+    unfolding rootFault
+    root-fault q g k o t z₀ = refuses o (λ z. k (sym t ∙ z)) (rw (t ∙ j .fault-is) (few (shapeWrong (the text r)) (numberWrong (the text r)))) z₀ (λ m. rw (sym p ∙ f, sym q ∙ g) (go m (shapeWrong (the text r)) (numberWrong (the text r)) refl refl))
+      where
+        few : (x y : Bool) → cond x 6 (cond y 7 0) ≤ 7
+        few true y = omega arith
+        few false true = omega arith
+        few false false = omega arith
+
+        go : (m : ℕ) (x y : Bool) → shapeWrong (the text r) ≡ x → numberWrong (the text r) ≡ y → cond x 6 (cond y 7 m) ≡ o .number
+        go m true y a b = sym (t ∙ j .fault-is ∙ rw a)
+        go m false true a b = sym (t ∙ j .fault-is ∙ rw (a, b))
+        go m false false a b = absurd (k (j .fault-is ∙ rw (a, b)))
+
+    module _ (z : n ≡ 0) where
+      both : (shapeWrong (the text r) ≡ false) × (numberWrong (the text r) ≡ false)
+      unfolding rootFault
+      both = go (shapeWrong (the text r)) (numberWrong (the text r)) refl refl
         where
-          few : (x y : Bool) → cond x 6 (cond y 7 0) ≤ 7
-          few true y = omega arith
-          few false true = omega arith
-          few false false = omega arith
+          go : (x y : Bool) → shapeWrong (the text r) ≡ x → numberWrong (the text r) ≡ y → (x ≡ false) × (y ≡ false)
+          go true y a b = absurd (let w : 0 ≡ 6 = sym z ∙ j .fault-is ∙ rw a in omega arith)
+          go false true a b = absurd (let w : 0 ≡ 7 = sym z ∙ j .fault-is ∙ rw (a, b) in omega arith)
+          go false false a b = (refl, refl)
 
-          go : (m : ℕ) (x y : Bool) → shapeWrong (the text r) ≡ x → numberWrong (the text r) ≡ y → cond x 6 (cond y 7 m) ≡ o .number
-          go m true y a b = sym (t ∙ s ∙ rw a)
-          go m false true a b = sym (t ∙ s ∙ rw (a, b))
-          go m false false a b = absurd (k (s ∙ rw (a, b)))
+      good-here : Good cifti (the text r)
+      good-here = good-root (the text r) (both .0) (both .1)
 
-      module _ (z : n ≡ 0) where
-        both : (shapeWrong (the text r) ≡ false) × (numberWrong (the text r) ≡ false)
-        unfolding Faults.refusal
-        both = go (shapeWrong (the text r)) (numberWrong (the text r)) refl refl
-          where
-            go : (x y : Bool) → shapeWrong (the text r) ≡ x → numberWrong (the text r) ≡ y → (x ≡ false) × (y ≡ false)
-            go true y a b = absurd (let w : 0 ≡ 6 = sym z ∙ s ∙ rw a in omega arith)
-            go false true a b = absurd (let w : 0 ≡ 7 = sym z ∙ s ∙ rw (a, b) in omega arith)
-            go false false a b = (refl, refl)
+      pub root-passes : {m : ℕ} {kid : Kid} → kid ≡ first text r → kid ≡ Child m → (o : Opening) → o .number ≡ 0 → o .matrix ≡ m
+          → Found text r o
+      unfolding placeOf
+      root-passes {m} {kid} e h o u v =
+          let w : Walk text (first text r) = walk-children (j .stands) in
+          let is-child : first text r ≡ Child m = sym e ∙ h in
+          let t = turn-at w is-child in
+          let only = root-child good-here in
+          let same : the text m ∷ kids text (next text m) ≡ only .one ∷ [] = sym (turn-splits w is-child) ∙ kids-children (j .stands) ∙ only .alone in
+          let here : the text m ≡ only .one = cc in
+          let list : elements (contentsOf (the text r)) ≡ the text m ∷ [] = only .alone ∙ ap (λ x. x ∷ []) (sym here) in
+          record {
+            among = omega (arith, u);
+            nowhere = λ k. absurd (k u);
+            there-it-is = λ _. rw is-child v;
+            refused = λ k. absurd (k u);
+            right-root = λ _. sym p ∙ f;
+            read-kinds = λ _. all-read good-here;
+            shape = λ _. both .0;
+            numbers = λ _. both .1;
+            stands = λ _. rw v (t .stands);
+            good = λ _. rw (v, here) (only .good);
+            maps = λ _. rw v (maps-one (the text r) (the text m) list (rw here (only .name)));
+            only = λ _. rw v (matrix-one (the text r) (the text m) list (rw here (only .name)));
+          }
 
-        good-here : Good cifti (the text r)
-        good-here = good-root (the text r) (both .0) (both .1)
+      pub root-bare : {kid : Kid} → kid ≡ first text r → kid ≡ Done → (o : Opening) → Found text r o
+      root-bare e h o =
+          let w : Walk text (first text r) = walk-children (j .stands) in
+          let none : kids text (first text r) ≡ [] = walk-none w (sym e ∙ h) in
+          let only = root-child good-here in
+          let bad : [] ≡ only .one ∷ [] = sym none ∙ kids-children (j .stands) ∙ only .alone in
+          absurd (let y : _≡_ {A = ℕ} 0 1 = cc in omega arith)
 
-        pub root-passes : {m : ℕ} {kid : Kid} → kid ≡ first text r → kid ≡ Child m → (o : Opening) → o .number ≡ 0 → o .matrix ≡ m → Found text r (the text r) o
-        unfolding placeOf
-        root-passes {m} {kid} e h o u v =
-            let w : Walk text (first text r) = walk-children st in
-            let is-child : first text r ≡ Child m = sym e ∙ h in
-            let t = turn-at w is-child in
-            let only = root-child good-here in
-            let same : the text m ∷ kids text (next text m) ≡ only .one ∷ [] = sym (turn-splits w is-child) ∙ kids-children st ∙ only .alone in
-            let here : the text m ≡ only .one = cc in
-            let list : elements (contentsOf (the text r)) ≡ the text m ∷ [] = only .alone ∙ ap (λ x. x ∷ []) (sym here) in
-            record {
-              among = omega (arith, u);
-              nowhere = λ k. absurd (k u);
-              there-it-is = λ _. rw is-child v;
-              refused = λ k. absurd (k u);
-              right-root = λ _. sym p ∙ f;
-              read-kinds = λ _. all-read good-here;
-              shape = λ _. both .0;
-              numbers = λ _. both .1;
-              stands = λ _. rw v (t .stands);
-              good = λ _. rw (v, here) (only .good);
-              maps = λ _. rw v (maps-one (the text r) (the text m) list (rw here (only .name)));
-              only = λ _. rw v (matrix-one (the text r) (the text m) list (rw here (only .name)));
-            }
-
-        pub root-bare : {kid : Kid} → kid ≡ first text r → kid ≡ Done → (o : Opening) → Found text r (the text r) o
-        root-bare e h o =
-            let w : Walk text (first text r) = walk-children st in
-            let none : kids text (first text r) ≡ [] = walk-none w (sym e ∙ h) in
-            let only = root-child good-here in
-            let bad : [] ≡ only .one ∷ [] = sym none ∙ kids-children st ∙ only .alone in
-            absurd (let y : _≡_ {A = ℕ} 0 1 = cc in omega arith)
-
-pub ruleset rooted = (root-four, root-five, root-fault, root-passes, root-bare, needs)
+pub ruleset rooted = (root-stands, root-four, root-five, root-fault, root-passes, root-bare, needs)
 
 -- ---- The whole.
-
--- what is found in the document of the text, if it has one
-abbrev pub FoundIn : List ℕ → Opening → Type 0
-FoundIn text o = (e : Element) → parse text ≡ some e → Found text (placeOf (root text)) e o
-
-pub root-there : {text : List ℕ} {kid : Kid} {r : ℕ} {o : Opening} → kid ≡ root text → kid ≡ Child r → Found text r (the text r) o → FoundIn text o
-unfolding placeOf
-root-there {text} {kid} {r} {o} e h f d p =
-    let t = root-law text d p in
-    let same : Child (t .place) ≡ Child r = sym (t .found) ∙ sym e ∙ h in
-    let q : t .place ≡ r = cc in
-    let is-it : the text r ≡ d = ap (the text) (sym q) ∙ t .is in
-    let root-place : placeOf (root text) ≡ r = ap placeOf (sym e ∙ h) in
-    rw (← is-it, root-place) f
-
-pub root-missing : {text : List ℕ} {kid : Kid} → kid ≡ root text → kid ≡ Done → (o : Opening) → FoundIn text o
-root-missing {text} e h o d p =
-    let t = root-law text d p in
-    let bad : Done ≡ Child (t .place) = sym h ∙ e ∙ t .found in
-    absurd (let y : _≡_ {A = ℕ} 0 1 = cc in omega arith)
-
-pub record Written (text : List ℕ) : Type 0 where
-  pub document : Element
-  pub parsed : parse text ≡ some document
-
-pub root-stands : {text : List ℕ} {kid : Kid} {r : ℕ} → Written text → kid ≡ root text → kid ≡ Child r → Stands text r
-root-stands {text} {kid} {r} w e h =
-    let t = root-law text (w .document) (w .parsed) in
-    let same : Child (t .place) ≡ Child r = sym (t .found) ∙ sym e ∙ h in
-    let q : t .place ≡ r = cc in
-    rw (← q) (t .stands)
-
-pub ruleset in-document = (root-there, root-missing, root-stands, needs)
 
 pub not-long : (text : List ℕ) → length text ≤ 16777216 → textTooLong (length text) ≡ false
 unfolding textTooLong
 not-long text h = le-ltb 16777216 (length text) h
 
+module _ {text : List ℕ} {c : Checked} (w : ChecksCifti text c) where
+  not-written : c .number ≡ 3 → parse text ≡ Option.none
+  unfolding rootFault
+  not-written z = go (parse text) refl
+    where
+      never : (x y : Bool) → _≡_ {A = ℕ} 3 (cond x 6 (cond y 7 0)) → ⊥
+      never true y h = omega arith
+      never false true h = omega arith
+      never false false h = omega arith
+
+      go : (d : Option Element) → parse text ≡ d → d ≡ Option.none
+      go Option.none p = refl
+      go (some e) p = absurd (never (shapeWrong (the text (c .root))) (numberWrong (the text (c .root))) (sym z ∙ w .written e p .fault-is))
+
+  pub open-judged : (c .number ≡ 3 → ⊥) → Judged text (c .root) (c .number)
+  open-judged z = go (parse text) refl
+    where
+      go : (d : Option Element) → parse text ≡ d → Judged text (c .root) (c .number)
+      go Option.none p = absurd (z (w .unwritten p .0))
+      go (some e) p = w .written e p
+
 module _ {text : List ℕ} (lengths : List ℕ) {a : Bool} (p : a ≡ lengthsWrong lengths) where
+  refused-as : (n : ℕ) → (n ≡ 0 → ⊥) → n ≤ 7 → number9 text lengths ≡ n → (o : Opening) → o .number ≡ n → o .matrix ≡ 0
+      → Opens text lengths o
+  refused-as n k u e o q m = record {
+    among = rw q u;
+    nowhere = λ _. m;
+    there-it-is = λ z. absurd (k (sym q ∙ z));
+    refused = λ _. q ∙ sym e;
+    passed = λ z. absurd (k (sym q ∙ z));
+  }
+
   pub open-lengths : a ≡ true → (o : Opening) → o .number ≡ 1 → o .matrix ≡ 0 → Opens text lengths o
-  open-lengths t o q m = record { among = omega (arith, q); nowhere = λ _. m; there-it-is = λ z. absurd (omega arith); refused = λ _. q ∙ sym (nine-lengths text lengths (sym p ∙ t)); passed = λ z. absurd (omega arith) }
+  open-lengths t = refused-as 1 (λ z. omega arith) (omega arith) (nine-lengths text lengths (sym p ∙ t))
 
   module _ (f : a ≡ false) where
     pub open-long : 16777216 < length text → (o : Opening) → o .number ≡ 2 → o .matrix ≡ 0 → Opens text lengths o
     unfolding textTooLong
-    open-long h o q m = record { among = omega (arith, q); nowhere = λ _. m; there-it-is = λ z. absurd (omega arith); refused = λ _. q ∙ sym (nine-long text lengths (sym p ∙ f) (lt-ltb 16777216 (length text) h)); passed = λ z. absurd (omega arith) }
+    open-long h = refused-as 2 (λ z. omega arith) (omega arith) (nine-long text lengths (sym p ∙ f) (lt-ltb 16777216 (length text) h))
 
-    module _ (short : length text ≤ 16777216) {b : Bool} (w : WellFormed text b) where
-      pub open-unwritten : b ≡ false → (o : Opening) → o .number ≡ 3 → o .matrix ≡ 0 → Opens text lengths o
-      open-unwritten g o q m = record { among = omega (arith, q); nowhere = λ _. m; there-it-is = λ z. absurd (omega arith); refused = λ _. q ∙ sym (nine-unwritten text lengths (sym p ∙ f) (not-long text short) (not-written w g)); passed = λ z. absurd (omega arith) }
+    module _ (short : length text ≤ 16777216) {c : Checked} (w : ChecksCifti text c) where
+      pub open-unwritten : c .number ≡ 3 → (o : Opening) → o .number ≡ 3 → o .matrix ≡ 0 → Opens text lengths o
+      open-unwritten g =
+          refused-as 3 (λ z. omega arith) (omega arith) (nine-unwritten text lengths (sym p ∙ f) (not-long text short) (not-written w g))
 
-      pub open-document : b ≡ true → {o : Opening} → FoundIn text o → Opens text lengths o
-      unfolding matrixPlace
-      open-document t {o} found =
-          let (e, h) = is-written w t in
-          let d = found e h in
+      pub open-document : (c .number ≡ 3 → ⊥) → {o : Opening} → Found text (c .root) o → Opens text lengths o
+      unfolding matrixPlace placeOf
+      open-document t {o} d =
+          let j = open-judged w t in
           record {
             among = d .among;
             nowhere = d .nowhere;
-            there-it-is = d .there-it-is;
-            refused = λ k. sym (nine-document text lengths (sym p ∙ f) (not-long text short) e h ∙ d .refused k _);
+            there-it-is = λ z. d .there-it-is z ∙ sym (ap (λ k. placeOf (first text (placeOf k))) (j .placed));
+            refused =
+                λ k. sym (nine-document text lengths (sym p ∙ f) (not-long text short) (the text (c .root)) (j .parsed) ∙ d .refused k _);
             passed = λ z. record {
               fine = sym p ∙ f;
               short = short;
-              document = e;
-              parsed = h;
+              document = the text (c .root);
+              parsed = j .parsed;
               right-root = d .right-root z;
               read-kinds = d .read-kinds z;
               shape = d .shape z;
@@ -367,7 +366,4 @@ module _ {text : List ℕ} (lengths : List ℕ) {a : Bool} (p : a ≡ lengthsWro
             };
           }
 
-pub open-written : {text : List ℕ} {b : Bool} → WellFormed text b → b ≡ true → Written text
-open-written w t = let (e, h) = is-written w t in record { document = e; parsed = h }
-
-pub ruleset opening = (open-lengths, open-long, open-unwritten, open-document, open-written, needs)
+pub ruleset opening = (open-lengths, open-long, open-unwritten, open-judged, open-document, needs)

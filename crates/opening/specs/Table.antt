@@ -1,114 +1,137 @@
--- THE CODE'S TABLES, and the rows that they stand for.
-use mathlib.Core.Path.{_≡_, refl, subst}
-use mathlib.Core.List.{List, [], _∷_}
-use Prim.Native.Nat.{ℕ, zero, suc, _+_, _-_, _<_, _*_, _^_, _/_, _%_}
-use native.Mathlib.Omega.{arith}
-use lib.ListN.{getD}
-use Rattle.lists.specs.Lists.{countUp}
-use Rattle.numbers.specs.Numbers.{whole, volumeDimensions, dimensionList, exponent, decimal, wholes, sixteen}
-use Rattle.schema.specs.Schema.{Form, anyValue, word, number, AttributeRow, required, TextForm, anyText, numbers, Times, once, atMostOnce, anyTimes, atLeastOnce, neededWith, Which, always, chosen, ChildRow, child, anyOrder, Row, branch, leaf}
+-- CIFTI's table as numbers and letters, as the code lays them out; shape's `Table` says how such a table is read, and `Agree` that it is that of the paper.
+use mathlib.Core.List.{List, [], _∷_, _++_}
+use Prim.Native.Nat.{ℕ, _+_}
+use Prim.Native.String.{String}
+use Rattle.lists.specs.Lists.{eachIn}
+use lib.ListN.{length}
+use Rattle.grammar.specs.Bytes.{ascii}
 use Rattle.cifti.specs.Words.{structures, units}
-use Rattle.cifti.specs.Rows.{ElementKind, cifti, matrix, metaData, md, words, brainModels, series, scalars, namedMap, volume, transform, surface, voxels, vertexIndices, voxelIndices, rows, mapKinds, modelTypes, mapAttributes, seriesAttributes, modelAttributes}
-use Rattle.opening.specs.Words.{dictionary, wordAt}
 
--- KINDS, by number
-unfoldable pub kinds : List ElementKind
-kinds = cifti ∷ matrix ∷ metaData ∷ md ∷ words ∷ brainModels ∷ series ∷ scalars ∷ namedMap ∷ volume ∷ transform ∷ surface ∷ voxels ∷ vertexIndices ∷ voxelIndices ∷ []
+-- attributes from, up to; children from, up to; text; order
+kinds : List ℕ
+kinds =
+    0 ∷ 1 ∷ 0 ∷ 1 ∷ 0 ∷ 0  -- cifti
+    ∷ 1 ∷ 1 ∷ 1 ∷ 3 ∷ 0 ∷ 0  -- matrix
+    ∷ 1 ∷ 1 ∷ 3 ∷ 4 ∷ 0 ∷ 0  -- metaData
+    ∷ 1 ∷ 1 ∷ 4 ∷ 6 ∷ 0 ∷ 0  -- md
+    ∷ 1 ∷ 1 ∷ 6 ∷ 6 ∷ 1 ∷ 0  -- words
+    ∷ 1 ∷ 3 ∷ 6 ∷ 8 ∷ 0 ∷ 0  -- brainModels
+    ∷ 1 ∷ 8 ∷ 8 ∷ 8 ∷ 0 ∷ 0  -- series
+    ∷ 1 ∷ 3 ∷ 8 ∷ 9 ∷ 0 ∷ 0  -- scalars
+    ∷ 8 ∷ 8 ∷ 9 ∷ 11 ∷ 0 ∷ 0  -- namedMap
+    ∷ 8 ∷ 9 ∷ 11 ∷ 12 ∷ 0 ∷ 0  -- volume
+    ∷ 9 ∷ 10 ∷ 12 ∷ 12 ∷ 10 ∷ 0  -- transform
+    ∷ 10 ∷ 15 ∷ 12 ∷ 13 ∷ 0 ∷ 0  -- surface
+    ∷ 10 ∷ 14 ∷ 13 ∷ 14 ∷ 0 ∷ 0  -- voxels
+    ∷ 15 ∷ 15 ∷ 14 ∷ 14 ∷ 11 ∷ 0  -- vertexIndices
+    ∷ 15 ∷ 15 ∷ 14 ∷ 14 ∷ 12 ∷ 0  -- voxelIndices
+    ∷ []
 
-unfoldable pub kindAt : ℕ → ElementKind
-kindAt k = getD kinds k words
+-- word; form; whether it may be left out
+attributes : List ℕ
+attributes =
+    0 ∷ 0 ∷ 0  -- Version
+    ∷ 1 ∷ 1 ∷ 0  -- AppliesToMatrixDimension
+    ∷ 2 ∷ 0 ∷ 0  -- IndicesMapToDataType
+    ∷ 3 ∷ 3 ∷ 0  -- NumberOfSeriesPoints
+    ∷ 4 ∷ 4 ∷ 0  -- SeriesStart
+    ∷ 5 ∷ 4 ∷ 0  -- SeriesStep
+    ∷ 6 ∷ 5 ∷ 0  -- SeriesExponent
+    ∷ 7 ∷ 7 ∷ 0  -- SeriesUnit
+    ∷ 13 ∷ 6 ∷ 0  -- VolumeDimensions
+    ∷ 14 ∷ 5 ∷ 0  -- MeterExponent
+    ∷ 8 ∷ 2 ∷ 0  -- IndexOffset
+    ∷ 9 ∷ 3 ∷ 0  -- IndexCount
+    ∷ 10 ∷ 0 ∷ 0  -- ModelType
+    ∷ 11 ∷ 8 ∷ 0  -- BrainStructure
+    ∷ 12 ∷ 3 ∷ 0  -- SurfaceNumberOfVertices
+    ∷ []
 
--- ATTRIBUTES: those of a kind are words in a row, each of one form
--- sixteen small numbers in one, the first lowest
-unfoldable pub entryAt : (packed i : ℕ) → ℕ
-entryAt packed i = packed / 2 ^ (4 * i) % 16
+-- word; times; choice; kind
+children : List ℕ
+children =
+    15 ∷ 0 ∷ 0 ∷ 1  -- Matrix
+    ∷ 16 ∷ 1 ∷ 0 ∷ 2  -- MetaData
+    ∷ 17 ∷ 3 ∷ 1 ∷ 0  -- MatrixIndicesMap
+    ∷ 18 ∷ 2 ∷ 0 ∷ 3  -- MD
+    ∷ 19 ∷ 0 ∷ 0 ∷ 4  -- Name
+    ∷ 20 ∷ 0 ∷ 0 ∷ 4  -- Value
+    ∷ 21 ∷ 3 ∷ 2 ∷ 0  -- BrainModel
+    ∷ 22 ∷ 4 ∷ 0 ∷ 9  -- Volume
+    ∷ 23 ∷ 2 ∷ 0 ∷ 8  -- NamedMap
+    ∷ 24 ∷ 0 ∷ 0 ∷ 4  -- MapName
+    ∷ 16 ∷ 1 ∷ 0 ∷ 2  -- MetaData
+    ∷ 25 ∷ 0 ∷ 0 ∷ 10  -- TransformationMatrixVoxelIndicesIJKtoXYZ
+    ∷ 26 ∷ 0 ∷ 0 ∷ 13  -- VertexIndices
+    ∷ 27 ∷ 0 ∷ 0 ∷ 14  -- VoxelIndicesIJK
+    ∷ []
 
-unfoldable pub attributesFrom : List ℕ
-attributesFrom = 0 ∷ 0 ∷ 0 ∷ 0 ∷ 0 ∷ 1 ∷ 1 ∷ 1 ∷ 0 ∷ 13 ∷ 14 ∷ 8 ∷ 8 ∷ 0 ∷ 0 ∷ []
+-- word of the attribute; cases from, up to; else
+choices : List ℕ
+choices =
+    2 ∷ 0 ∷ 3 ∷ 0  -- the kind of a map
+    ∷ 10 ∷ 3 ∷ 5 ∷ 0  -- the kind of a model
+    ∷ []
 
-unfoldable pub attributesTo : List ℕ
-attributesTo = 1 ∷ 0 ∷ 0 ∷ 0 ∷ 0 ∷ 3 ∷ 8 ∷ 3 ∷ 0 ∷ 14 ∷ 15 ∷ 13 ∷ 12 ∷ 0 ∷ 0 ∷ []
+-- word; kind
+cases : List ℕ
+cases =
+    28 ∷ 5  -- brainModels
+    ∷ 29 ∷ 6  -- series
+    ∷ 30 ∷ 7  -- scalars
+    ∷ 31 ∷ 11  -- surface
+    ∷ 32 ∷ 12  -- voxels
+    ∷ []
 
-unfoldable pub forms : List Form
+-- what it is; limits
+forms : List ℕ
 forms =
-    anyValue ∷ number dimensionList ∷ number (whole 0 1048576) ∷ number (whole 1 1048576) ∷ number decimal ∷ number (exponent 30)
-    ∷ number (volumeDimensions 2048 2048 4096) ∷ word units ∷ word structures ∷ []
+    0 ∷ 0 ∷ 0 ∷ 0  -- any value, any text
+    ∷ 2 ∷ 0 ∷ 0 ∷ 0  -- a dimension list
+    ∷ 3 ∷ 0 ∷ 1048576 ∷ 0  -- a whole number
+    ∷ 3 ∷ 1 ∷ 1048576 ∷ 0  -- a whole number above 0
+    ∷ 4 ∷ 0 ∷ 0 ∷ 0  -- a decimal
+    ∷ 5 ∷ 30 ∷ 0 ∷ 0  -- an exponent
+    ∷ 6 ∷ 2048 ∷ 2048 ∷ 4096  -- the sizes of a volume
+    ∷ 1 ∷ 33 ∷ 37 ∷ 0  -- a unit
+    ∷ 1 ∷ 37 ∷ 69 ∷ 0  -- a structure
+    ∷ 1 ∷ 0 ∷ 0 ∷ 0  -- text: the sixteen
+    ∷ 2 ∷ 1048575 ∷ 0 ∷ 0  -- text: vertices
+    ∷ 2 ∷ 4095 ∷ 0 ∷ 0  -- text: voxels
+    ∷ []
 
-unfoldable pub formAt : ℕ → Form
-formAt f = getD forms f anyValue
+-- the words, from 0
+vocabulary : List String
+unfolding structures units
+vocabulary =
+    "Version" ∷ "AppliesToMatrixDimension" ∷ "IndicesMapToDataType" ∷ "NumberOfSeriesPoints"  -- 0
+    ∷ "SeriesStart" ∷ "SeriesStep" ∷ "SeriesExponent" ∷ "SeriesUnit" ∷ "IndexOffset" ∷ "IndexCount"  -- 4
+    ∷ "ModelType" ∷ "BrainStructure" ∷ "SurfaceNumberOfVertices" ∷ "VolumeDimensions" ∷ "MeterExponent"  -- 10
+    ∷ "Matrix" ∷ "MetaData" ∷ "MatrixIndicesMap" ∷ "MD" ∷ "Name" ∷ "Value" ∷ "BrainModel" ∷ "Volume"  -- 15
+    ∷ "NamedMap" ∷ "MapName" ∷ "TransformationMatrixVoxelIndicesIJKtoXYZ" ∷ "VertexIndices"  -- 23
+    ∷ "VoxelIndicesIJK" ∷ "CIFTI_INDEX_TYPE_BRAIN_MODELS" ∷ "CIFTI_INDEX_TYPE_SERIES"  -- 27
+    ∷ "CIFTI_INDEX_TYPE_SCALARS" ∷ "CIFTI_MODEL_TYPE_SURFACE" ∷ "CIFTI_MODEL_TYPE_VOXELS"  -- 30
+    ∷ (units ++ structures)  -- 33, 37
 
-unfoldable pub attributeForms : List ℕ
-attributeForms = 0 ∷ 1 ∷ 0 ∷ 3 ∷ 4 ∷ 4 ∷ 5 ∷ 7 ∷ 2 ∷ 3 ∷ 0 ∷ 8 ∷ 3 ∷ 6 ∷ 5 ∷ []
+unfoldable pub letters : List ℕ
+unfolding vocabulary eachIn
+letters = eachIn ascii vocabulary
 
-unfoldable pub attributeAt : ℕ → AttributeRow
-attributeAt w = required (wordAt w) (formAt (getD attributeForms w 0))
+-- where each word begins in the letters, and where the last ends
+startsFrom : ℕ → List String → List ℕ
+startsFrom n [] = n ∷ []
+startsFrom n (s ∷ l) = n ∷ startsFrom (n + length (ascii s)) l
 
-unfoldable pub attributesOfKind : ℕ → List AttributeRow
-attributesOfKind k = countUp attributeAt (getD attributesFrom k 0) (getD attributesTo k 0 - getD attributesFrom k 0)
+-- where each part begins
+partsFrom : ℕ → List (List ℕ) → List ℕ
+partsFrom n [] = []
+partsFrom n (p ∷ l) = n ∷ partsFrom (n + length p) l
 
--- CHILDREN: those of a kind are lines in a row. A line has a name, how often, and a kind, or the first of the kinds that the words of an attribute choose.
-unfoldable pub linesFrom : List ℕ
-linesFrom = 0 ∷ 1 ∷ 3 ∷ 4 ∷ 0 ∷ 6 ∷ 0 ∷ 8 ∷ 9 ∷ 11 ∷ 0 ∷ 12 ∷ 13 ∷ 0 ∷ 0 ∷ []
+parts : List (List ℕ)
+unfolding kinds attributes children choices cases forms vocabulary startsFrom
+parts = kinds ∷ attributes ∷ children ∷ choices ∷ cases ∷ startsFrom 0 vocabulary ∷ forms ∷ []
 
-unfoldable pub linesTo : List ℕ
-linesTo = 1 ∷ 3 ∷ 4 ∷ 6 ∷ 0 ∷ 8 ∷ 0 ∷ 9 ∷ 11 ∷ 12 ∷ 0 ∷ 13 ∷ 14 ∷ 0 ∷ 0 ∷ []
-
-unfoldable pub lineNames : List ℕ
-lineNames = 15 ∷ 16 ∷ 17 ∷ 18 ∷ 19 ∷ 20 ∷ 21 ∷ 22 ∷ 23 ∷ 24 ∷ 16 ∷ 25 ∷ 26 ∷ 27 ∷ []
-
-unfoldable pub lineTimes : List ℕ
-lineTimes = 0 ∷ 1 ∷ 3 ∷ 2 ∷ 0 ∷ 0 ∷ 3 ∷ 4 ∷ 2 ∷ 0 ∷ 1 ∷ 0 ∷ 0 ∷ 0 ∷ []
-
-unfoldable pub lineKinds : List ℕ
-lineKinds = 1 ∷ 2 ∷ 15 ∷ 3 ∷ 4 ∷ 4 ∷ 16 ∷ 9 ∷ 8 ∷ 4 ∷ 2 ∷ 10 ∷ 13 ∷ 14 ∷ []
-
-unfoldable pub times : List Times
-times = once ∷ atMostOnce ∷ anyTimes ∷ atLeastOnce ∷ neededWith "BrainModel" "ModelType" "CIFTI_MODEL_TYPE_VOXELS" ∷ []
-
-unfoldable pub timesAt : ℕ → Times
-timesAt t = getD times t anyTimes
-
--- 15 and 16: the kind is chosen
-unfoldable pub choices : List (Which ElementKind)
-choices = chosen "IndicesMapToDataType" mapKinds ∷ chosen "ModelType" modelTypes ∷ []
-
-unfoldable pub whichAt : ℕ → Which ElementKind
-whichAt k = getD (always cifti ∷ always matrix ∷ always metaData ∷ always md ∷ always words ∷ always brainModels ∷ always series ∷ always scalars ∷ always namedMap ∷ always volume ∷ always transform ∷ always surface ∷ always voxels ∷ always vertexIndices ∷ always voxelIndices ∷ choices) k (always words)
-
-unfoldable pub lineAt : ℕ → ChildRow ElementKind
-lineAt i = child (wordAt (getD lineNames i 0)) (timesAt (getD lineTimes i 0)) (whichAt (getD lineKinds i 0))
-
-unfoldable pub linesOfKind : ℕ → List (ChildRow ElementKind)
-linesOfKind k = countUp lineAt (getD linesFrom k 0) (getD linesTo k 0 - getD linesFrom k 0)
-
--- TEXT: only blanks (0), any (1), or numbers of a form
-unfoldable pub texts : List ℕ
-texts = 0 ∷ 0 ∷ 0 ∷ 0 ∷ 1 ∷ 0 ∷ 0 ∷ 0 ∷ 0 ∷ 0 ∷ 2 ∷ 0 ∷ 0 ∷ 3 ∷ 4 ∷ []
-
-unfoldable pub textForms : List TextForm
-textForms = anyText ∷ anyText ∷ numbers sixteen ∷ numbers (wholes 1048575) ∷ numbers (wholes 4095) ∷ []
-
-unfoldable pub rowBy : ℕ → List AttributeRow → List (ChildRow ElementKind) → Row ElementKind
-rowBy zero a l = branch a anyOrder l
-rowBy (suc t) a l = leaf a (getD textForms (suc t) anyText)
-
-unfoldable pub rowAt : ℕ → Row ElementKind
-rowAt k = rowBy (getD texts k 0) (attributesOfKind k) (linesOfKind k)
-
--- what holds of n numbers in a row, from i on
-abbrev pub Each : (ℕ → Type 0) → ℕ → ℕ → Type 0
-Each P i zero = Unit {0}
-Each P i (suc n) = P i × Each P (suc i) n
-
-each-at : (P : ℕ → Type 0) (i n : ℕ) → Each P i n → (k : ℕ) → k < n → P (i + k)
-each-at P i zero e k h = absurd (omega arith)
-each-at P i (suc n) e zero h = subst P (let z : i ≡ i + 0 = omega arith in z) (e .0)
-each-at P i (suc n) e (suc k) h = subst P (let z : suc i + k ≡ i + suc k = omega arith in z) (each-at P (suc i) n (e .1) k (omega arith))
-
-pub each-below : (P : ℕ → Type 0) (n : ℕ) → Each P 0 n → (k : ℕ) → k < n → P k
-each-below P n e k h = subst P (let z : 0 + k ≡ k = omega arith in z) (each-at P 0 n e k h)
-
--- THE LAW: the tables are the rows of the paper
-pub rows-are : (k : ℕ) → k < 15 → rows (kindAt k) ≡ rowAt k
-unfolding rows kindAt kinds rowAt rowBy texts textForms attributesOfKind attributesFrom attributesTo attributeAt attributeForms formAt forms linesOfKind linesFrom linesTo lineAt lineNames lineTimes lineKinds times timesAt whichAt choices countUp wordAt dictionary mapAttributes seriesAttributes modelAttributes mapKinds modelTypes
-rows-are k h = each-below (λ k. rows (kindAt k) ≡ rowAt k) 15 (refl, (refl, (refl, (refl, (refl, (refl, (refl, (refl, (refl, (refl, (refl, (refl, (refl, (refl, (refl, tt))))))))))))))) k h
+-- the watched word is VoxelIndicesIJK
+unfoldable pub table : List ℕ
+unfolding parts partsFrom eachIn
+table = partsFrom 8 parts ++ (27 ∷ eachIn (λ p. p) parts)

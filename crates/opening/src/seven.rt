@@ -1,15 +1,13 @@
 // Conditions 1 to 7, in the paper's order.
 use super::root::root_wrong;
 use super::unread::kind_not_read;
-use markup::well_formed;
+use super::vocabulary;
 use nodes::Kid;
 use nodes::children::first_child;
-use nodes::children::root_of;
 ghost use mathlib.Core.Path.{_≡_};
 ghost use Rattle.cifti.specs.Conditions.{lengthsWrong};
-ghost use Rattle.opening.specs.Opening.{Opens, Found, FoundIn, Written};
-ghost use Rattle.opening.specs.Faults.{refusal};
-ghost use Rattle.nodes.specs.Places.{Stands, the};
+ghost use Rattle.opening.specs.Agree.{Judged};
+ghost use Rattle.opening.specs.Opening.{Opens, Found};
 
 // The number of the first that applies; where it is 0, the matrix begins at `matrix`.
 pub struct Opening {
@@ -40,10 +38,10 @@ fn lengths_wrong(lengths: &[u64]) -> bool
     false
 }
 
-// Conditions 4 to 7, at the root: where 6 and 7 do not apply, neither does 5.
-fn of_root(text: &[u8], root: usize) -> Opening
-    requires { ⌜ Stands (now text) root ⌝ }
-    ensures { λ r. ⌜ Found (now (text .entry)) root (the (now (text .entry)) root) r ⌝ }
+// Conditions 4 to 7, at the root, whose fault by 6 and 7 is known: where they do not apply, neither does 5.
+fn of_root(text: &[u8], root: usize, fault: u8) -> Opening
+    requires { ⌜ Judged (now text) root fault ⌝ }
+    ensures { λ r. ⌜ Found (now (text .entry)) root r ⌝ }
 {
     if root_wrong(text, root) {
         return Opening {
@@ -51,7 +49,6 @@ fn of_root(text: &[u8], root: usize) -> Opening
             matrix: 0,
         };
     }
-    let fault = fault_number(text, root);
     if fault != 0 {
         if kind_not_read(text, root) {
             return Opening {
@@ -60,7 +57,7 @@ fn of_root(text: &[u8], root: usize) -> Opening
             };
         }
         return Opening {
-            number: fault,
+            number: fault as u64,
             matrix: 0,
         };
     }
@@ -71,27 +68,6 @@ fn of_root(text: &[u8], root: usize) -> Opening
         },
         Kid::Done => Opening {
             number: 0,
-            matrix: 0,
-        },
-    }
-}
-
-// The first of 6 and 7 that applies, or 0.
-fn fault_number(text: &[u8], root: usize) -> u64
-    requires { ⌜ Stands (now text) root ⌝ }
-    ensures { λ r. ⌜ r ≡ refusal (the (now (text .entry)) root) ⌝ }
-{
-    super::fault(text, root) as u64
-}
-
-fn in_document(text: &[u8]) -> Opening
-    requires { ⌜ Written (now text) ⌝ }
-    ensures { λ r. ⌜ FoundIn (now (text .entry)) r ⌝ }
-{
-    match root_of(text) {
-        Kid::Child(r) => of_root(text, r),
-        Kid::Done => Opening {
-            number: 3,
             matrix: 0,
         },
     }
@@ -112,11 +88,12 @@ pub fn opened(text: &[u8], lengths: &[u64]) -> Opening
             matrix: 0,
         };
     }
-    if well_formed(text) {
-        return in_document(text);
+    let checked = vocabulary::checked(text);
+    if checked.number == 3 {
+        return Opening {
+            number: 3,
+            matrix: 0,
+        };
     }
-    Opening {
-        number: 3,
-        matrix: 0,
-    }
+    of_root(text, checked.root, checked.number)
 }

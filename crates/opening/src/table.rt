@@ -1,11 +1,222 @@
-// The rows of the elements as numbers: kinds 0 to 14, words 0 to 68, lines of children 0 to 13. A new row is a new number in these tables.
-ghost use mathlib.Core.Path.{_≡_};
-ghost use Prim.Native.Nat.{_<_};
-ghost use lib.ListN.{getD};
-ghost use Rattle.opening.specs.Table.{entryAt, attributesFrom, attributesTo, attributeForms, linesFrom, linesTo, lineNames, lineTimes, lineKinds, texts};
-
-// Where each word begins.
-pub(crate) const BOUNDS: [usize; 70] = [
+// CIFTI's table: all its rows, words and limits. Where each part begins and the watched word; kinds; attributes; children; choices; cases; words; forms.
+pub(crate) const TABLE: [u32; 335] = [
+    8,
+    98,
+    143,
+    199,
+    207,
+    217,
+    287,
+    27,
+    0,
+    1,
+    0,
+    1,
+    0,
+    0,
+    1,
+    1,
+    1,
+    3,
+    0,
+    0,
+    1,
+    1,
+    3,
+    4,
+    0,
+    0,
+    1,
+    1,
+    4,
+    6,
+    0,
+    0,
+    1,
+    1,
+    6,
+    6,
+    1,
+    0,
+    1,
+    3,
+    6,
+    8,
+    0,
+    0,
+    1,
+    8,
+    8,
+    8,
+    0,
+    0,
+    1,
+    3,
+    8,
+    9,
+    0,
+    0,
+    8,
+    8,
+    9,
+    11,
+    0,
+    0,
+    8,
+    9,
+    11,
+    12,
+    0,
+    0,
+    9,
+    10,
+    12,
+    12,
+    10,
+    0,
+    10,
+    15,
+    12,
+    13,
+    0,
+    0,
+    10,
+    14,
+    13,
+    14,
+    0,
+    0,
+    15,
+    15,
+    14,
+    14,
+    11,
+    0,
+    15,
+    15,
+    14,
+    14,
+    12,
+    0,
+    0,
+    0,
+    0,
+    1,
+    1,
+    0,
+    2,
+    0,
+    0,
+    3,
+    3,
+    0,
+    4,
+    4,
+    0,
+    5,
+    4,
+    0,
+    6,
+    5,
+    0,
+    7,
+    7,
+    0,
+    13,
+    6,
+    0,
+    14,
+    5,
+    0,
+    8,
+    2,
+    0,
+    9,
+    3,
+    0,
+    10,
+    0,
+    0,
+    11,
+    8,
+    0,
+    12,
+    3,
+    0,
+    15,
+    0,
+    0,
+    1,
+    16,
+    1,
+    0,
+    2,
+    17,
+    3,
+    1,
+    0,
+    18,
+    2,
+    0,
+    3,
+    19,
+    0,
+    0,
+    4,
+    20,
+    0,
+    0,
+    4,
+    21,
+    3,
+    2,
+    0,
+    22,
+    4,
+    0,
+    9,
+    23,
+    2,
+    0,
+    8,
+    24,
+    0,
+    0,
+    4,
+    16,
+    1,
+    0,
+    2,
+    25,
+    0,
+    0,
+    10,
+    26,
+    0,
+    0,
+    13,
+    27,
+    0,
+    0,
+    14,
+    2,
+    0,
+    3,
+    0,
+    10,
+    3,
+    5,
+    0,
+    28,
+    5,
+    29,
+    6,
+    30,
+    7,
+    31,
+    11,
+    32,
+    12,
     0,
     7,
     31,
@@ -76,84 +287,56 @@ pub(crate) const BOUNDS: [usize; 70] = [
     1455,
     1484,
     1514,
+    0,
+    0,
+    0,
+    0,
+    2,
+    0,
+    0,
+    0,
+    3,
+    0,
+    1048576,
+    0,
+    3,
+    1,
+    1048576,
+    0,
+    4,
+    0,
+    0,
+    0,
+    5,
+    30,
+    0,
+    0,
+    6,
+    2048,
+    2048,
+    4096,
+    1,
+    33,
+    37,
+    0,
+    1,
+    37,
+    69,
+    0,
+    1,
+    0,
+    0,
+    0,
+    2,
+    1048575,
+    0,
+    0,
+    2,
+    4095,
+    0,
+    0,
 ];
 
-// Sixteen small numbers in one, the first lowest: so a table needs no memory.
-fn entry(packed: u64, i: usize) -> u64
-    requires { ⌜ i < 16 ⌝ }
-    ensures { λ r. ⌜ (r ≡ entryAt packed i) × (r < 16) ⌝ }
-{
-    (packed >> (4 * i)) % 16
-}
-
-// The attributes of a kind are the words from here ..
-pub(crate) fn attributes_from(kind: usize) -> usize
-    requires { ⌜ kind < 15 ⌝ }
-    ensures { λ r. ⌜ r ≡ getD attributesFrom kind 0 ⌝ }
-{
-    entry(0x88ed011100000, kind) as usize
-}
-
-// .. up to here.
-pub(crate) fn attributes_to(kind: usize) -> usize
-    requires { ⌜ kind < 15 ⌝ }
-    ensures { λ r. ⌜ r ≡ getD attributesTo kind 0 ⌝ }
-{
-    entry(0xcdfe038300001, kind) as usize
-}
-
-// The form of an attribute.
-pub(crate) fn form(w: usize) -> u8
-    requires { ⌜ w < 15 ⌝ }
-    ensures { λ r. ⌜ r ≡ getD attributeForms w 0 ⌝ }
-{
-    entry(0x563803275443010, w) as u8
-}
-
-// The children of a kind are the lines from here ..
-pub(crate) fn lines_from(kind: usize) -> usize
-    requires { ⌜ kind < 15 ⌝ }
-    ensures { λ r. ⌜ r ≡ getD linesFrom kind 0 ⌝ }
-{
-    entry(0xdc0b980604310, kind) as usize
-}
-
-// .. up to here.
-pub(crate) fn lines_to(kind: usize) -> usize
-    requires { ⌜ kind < 15 ⌝ }
-    ensures { λ r. ⌜ r ≡ getD linesTo kind 0 ⌝ }
-{
-    entry(0xed0cb90806431, kind) as usize
-}
-
-// The word that names a line's child.
-pub(crate) fn line_name(i: usize) -> usize
-    requires { ⌜ i < 14 ⌝ }
-    ensures { λ r. ⌜ r ≡ getD lineNames i 0 ⌝ }
-{
-    (entry(0xfed4cba9876543, i) + 12) as usize
-}
-
-// How often a line's child stands.
-pub(crate) fn line_times(i: usize) -> u8
-    requires { ⌜ i < 14 ⌝ }
-    ensures { λ r. ⌜ r ≡ getD lineTimes i 0 ⌝ }
-{
-    entry(0x10243002310, i) as u8
-}
-
-// The kind of a line's child, or the choice that gives it.
-pub(crate) fn line_kind(i: usize) -> usize
-    requires { ⌜ i < 14 ⌝ }
-    ensures { λ r. ⌜ r ≡ getD lineKinds i 0 ⌝ }
-{
-    (entry(0xdc91378f332e10, i) + 1) as usize
-}
-
-// The text of a kind.
-pub(crate) fn text_form(kind: usize) -> u8
-    requires { ⌜ kind < 15 ⌝ }
-    ensures { λ r. ⌜ r ≡ getD texts kind 0 ⌝ }
-{
-    entry(0x430020000010000, kind) as u8
-}
+// The letters of the words, one behind the other.
+pub(crate) const LETTERS: [u8; 1514] =
+    *b"VersionAppliesToMatrixDimensionIndicesMapToDataTypeNumberOfSeriesPointsSeriesStartSeriesStepSeriesExponentSeriesUnitIndexOffsetIndexCountModelTypeBrainStructureSurfaceNumberOfVerticesVolumeDimensionsMeterExponentMatrixMetaDataMatrixIndicesMapMDNameValueBrainModelVolumeNamedMapMapNameTransformationMatrixVoxelIndicesIJKtoXYZVertexIndicesVoxelIndicesIJKCIFTI_INDEX_TYPE_BRAIN_MODELSCIFTI_INDEX_TYPE_SERIESCIFTI_INDEX_TYPE_SCALARSCIFTI_MODEL_TYPE_SURFACECIFTI_MODEL_TYPE_VOXELSSECONDHERTZMETERRADIANCIFTI_STRUCTURE_ACCUMBENS_LEFTCIFTI_STRUCTURE_ACCUMBENS_RIGHTCIFTI_STRUCTURE_ALL_WHITE_MATTERCIFTI_STRUCTURE_ALL_GREY_MATTERCIFTI_STRUCTURE_AMYGDALA_LEFTCIFTI_STRUCTURE_AMYGDALA_RIGHTCIFTI_STRUCTURE_BRAIN_STEMCIFTI_STRUCTURE_CAUDATE_LEFTCIFTI_STRUCTURE_CAUDATE_RIGHTCIFTI_STRUCTURE_CEREBELLAR_WHITE_MATTER_LEFTCIFTI_STRUCTURE_CEREBELLAR_WHITE_MATTER_RIGHTCIFTI_STRUCTURE_CEREBELLUMCIFTI_STRUCTURE_CEREBELLUM_LEFTCIFTI_STRUCTURE_CEREBELLUM_RIGHTCIFTI_STRUCTURE_CEREBRAL_WHITE_MATTER_LEFTCIFTI_STRUCTURE_CEREBRAL_WHITE_MATTER_RIGHTCIFTI_STRUCTURE_CORTEXCIFTI_STRUCTURE_CORTEX_LEFTCIFTI_STRUCTURE_CORTEX_RIGHTCIFTI_STRUCTURE_DIENCEPHALON_VENTRAL_LEFTCIFTI_STRUCTURE_DIENCEPHALON_VENTRAL_RIGHTCIFTI_STRUCTURE_HIPPOCAMPUS_LEFTCIFTI_STRUCTURE_HIPPOCAMPUS_RIGHTCIFTI_STRUCTURE_OTHERCIFTI_STRUCTURE_OTHER_GREY_MATTERCIFTI_STRUCTURE_OTHER_WHITE_MATTERCIFTI_STRUCTURE_PALLIDUM_LEFTCIFTI_STRUCTURE_PALLIDUM_RIGHTCIFTI_STRUCTURE_PUTAMEN_LEFTCIFTI_STRUCTURE_PUTAMEN_RIGHTCIFTI_STRUCTURE_THALAMUS_LEFTCIFTI_STRUCTURE_THALAMUS_RIGHT";

@@ -1,5 +1,4 @@
 // What a series map says.
-use super::fields::attribute_is;
 use cifti::Series;
 use nodes::Found;
 use numbers::Decimal;
@@ -48,19 +47,10 @@ fn unit_number(text: &[u8], at: usize) -> u64
     requires { ⌜ Stands (now text) at ⌝ }
     ensures { λ r. ⌜ r ≡ numberIn units (attr "SeriesUnit" (the (now (text .entry)) at)) ⌝ }
 {
-    if attribute_is(text, at, b"SeriesUnit", b"SECOND") {
-        return 0;
+    match nodes::attributes::attribute(text, at, b"SeriesUnit") {
+        Found::At(v) => opening::unit_named(text, v),
+        Found::Nothing => 4,
     }
-    if attribute_is(text, at, b"SeriesUnit", b"HERTZ") {
-        return 1;
-    }
-    if attribute_is(text, at, b"SeriesUnit", b"METER") {
-        return 2;
-    }
-    if attribute_is(text, at, b"SeriesUnit", b"RADIAN") {
-        return 3;
-    }
-    4
 }
 
 pub(crate) fn series_at(text: &[u8], at: usize) -> Series

@@ -9,17 +9,28 @@ use Prim.Native.String.{String}
 use Rattle.lists.specs.Lists.{all, any, count, each, isSome, ifThere}
 use Rattle.lists.specs.Laws.{any-same, all-same, count-same, any-each, all-each, count-each, length-each}
 use Rattle.grammar.specs.Document.{Attribute, Element, element, Contents, nothing, child as inside, run}
-use Rattle.grammar.specs.Look.{is, nameOf, has, elements}
-use Rattle.grammar.specs.Plain.{plain, plainIn, name-erased, attributes-erased, has-erased, elements-erased, characters-erased}
-use Rattle.schema.specs.Schema.{Times, once, atMostOnce, anyTimes, atLeastOnce, neededWith, Which, always, chosen, ChildRow, child, Order, anyOrder, inOrder, Row, branch, leaf, kindBy, kindOf, childRows, everywhere, everywhereIn, standsSo, childShaped, rowPlace, inOrderOf, orderly, childrenShaped, shaped, numbered}
+use Rattle.grammar.specs.Look.{is, nameOf, elements}
+use Rattle.grammar.specs.Plain.{plain, plainIn, name-erased, attributes-erased, elements-erased, characters-erased}
+use Rattle.schema.specs.Schema.{Times, once, atMostOnce, anyTimes, atLeastOnce, neededBelow, Which, always, chosen, chosenElse, ChildRow, child, Order, anyOrder, inOrder, Row, branch, leaf, kindBy, kindOf, childRows, everywhere, everywhereIn, below, belowIn, standsSo, childShaped, rowPlace, inOrderOf, orderly, childrenShaped, shaped, numbered}
 
 -- ---- How often a child stands.
 
 named : (s : String) (l : List Element) → count (λ e. is s (nameOf e)) (each plain l) ≡ count (λ e. is s (nameOf e)) l
 named s l = count-each plain (λ e. is s (nameOf e)) l ∙ count-same (λ e. ap (is s) (name-erased e)) l
 
-needed : (s a w : String) (l : List Element) → any (λ e. is s (nameOf e) && has a w e) (each plain l) ≡ any (λ e. is s (nameOf e) && has a w e) l
-needed s a w l = any-each plain (λ e. is s (nameOf e) && has a w e) l ∙ any-same (λ e. ap₂ (λ n b. is s n && b) (name-erased e) (has-erased a w e)) l
+mutual
+  unfolding below plain
+
+  pub below-erased : (s : String) (e : Element) → below s (plain e) ≡ below s e
+  below-erased s (element n l c w) = below-erasedIn s c
+
+  below-erasedIn : (s : String) (c : Contents) → belowIn s (plainIn c) ≡ belowIn s c
+  below-erasedIn s nothing = refl
+  below-erasedIn s (run w c) = below-erasedIn s c
+  below-erasedIn s (inside e c) = rw (name-erased e, below-erased s e, below-erasedIn s c) refl
+
+any-below : (s : String) (l : List Element) → any (below s) (each plain l) ≡ any (below s) l
+any-below s l = any-each plain (below s) l ∙ any-same (below-erased s) l
 
 stands : (t : Times) (n : ℕ) (l : List Element) → standsSo t n (each plain l) ≡ standsSo t n l
 unfolding standsSo
@@ -27,7 +38,7 @@ stands once n l = refl
 stands atMostOnce n l = refl
 stands anyTimes n l = refl
 stands atLeastOnce n l = refl
-stands (neededWith s a w) n l = rw (needed s a w l) refl
+stands (neededBelow s) n l = rw (any-below s l) refl
 
 -- ---- The kind of a child, and the two tests.
 
@@ -36,6 +47,7 @@ module _ {K : Type 0} where
   unfolding kindBy
   by-erased (always k) e = refl
   by-erased (chosen a l) e = rw (attributes-erased e) refl
+  by-erased (chosenElse a l k) e = rw (attributes-erased e) refl
 
   pub kind-erased : (r : List (ChildRow K)) (e : Element) → kindOf r (plain e) ≡ kindOf r e
   unfolding kindOf
@@ -97,4 +109,5 @@ module _ {K : Type 0} (rows : K → Row K) (test : Row K → List Attribute → 
     walk-erasedIn : (c : Contents) (r : List (ChildRow K)) → everywhereIn rows test r (plainIn c) ≡ everywhereIn rows test r c
     walk-erasedIn nothing r = refl
     walk-erasedIn (run w c) r = walk-erasedIn c r
-    walk-erasedIn (inside e c) r = rw (kind-erased r e) (ap₂ (λ a b. a && b) (child-same e (λ k. walk-erased e k) (kindOf r e)) (walk-erasedIn c r))
+    walk-erasedIn (inside e c) r =
+        rw (kind-erased r e) (ap₂ (λ a b. a && b) (child-same e (λ k. walk-erased e k) (kindOf r e)) (walk-erasedIn c r))

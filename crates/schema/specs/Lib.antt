@@ -1,3 +1,5 @@
 pub mod Schema
 pub mod Walk
 pub mod Erased
+pub mod Renamed
+pub mod Words

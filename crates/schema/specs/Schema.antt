@@ -2,7 +2,7 @@
 use mathlib.Core.List.{List, [], _∷_}
 use mathlib.Core.Option.{Option, some}
 use mathlib.Core.Option
-use mathlib.Core.Bool.{Bool, true, _&&_, cond}
+use mathlib.Core.Bool.{Bool, true, false, _&&_, _||_, cond}
 use Prim.Native.Nat.{ℕ, suc}
 use Prim.Native.String.{String}
 use lib.Dec.{eqb, leb}
@@ -10,7 +10,7 @@ use lib.ListN.{length}
 use Rattle.lists.specs.Lists.{all, any, count, isSome, ifThere, there}
 use Rattle.grammar.specs.Bytes.{blank}
 use Rattle.grammar.specs.Document.{Attribute, attribute, Element, element, Contents, nothing, child as inside, run}
-use Rattle.grammar.specs.Look.{Word, is, nameOf, attributesOf, valueIn, has, elements, characters}
+use Rattle.grammar.specs.Look.{Word, is, nameOf, attributesOf, valueIn, elements, characters}
 
 -- ---- The tables.
 
@@ -29,12 +29,13 @@ pub data TextForm : Type 0 where
   anyText : TextForm
   numbers : (Word → Bool) → TextForm
 
--- How often a child stands: 1, 0..1, 0..N, 1..N; or 0..1, and 1 with any child of the name whose attribute has the word.
+-- How often a child stands: 1, 0..1, 0..N, 1..N; or 0..1, and 1 where an element of the name stands anywhere below a child of the same parent.
 pub data Times : Type 0 where
   once atMostOnce anyTimes atLeastOnce : Times
-  neededWith : (name attribute word : String) → Times
+  neededBelow : (name : String) → Times
 
--- Of which kind a child is: always of one, or of the kind that the word of an attribute chooses.
+-- Of which kind a child is: always of one; of the kind that the word of an attribute chooses;
+-- or of that, and of another where the word chooses none or the attribute is missing.
 infix 80 _⇒_
 pub data Case (K : Type 0) : Type 0 where
   _⇒_ : String → K → Case K
@@ -42,6 +43,7 @@ pub data Case (K : Type 0) : Type 0 where
 pub data Which (K : Type 0) : Type 0 where
   always : K → Which K
   chosen : (attribute : String) → List (Case K) → Which K
+  chosenElse : (attribute : String) → List (Case K) → K → Which K
 
 pub data ChildRow (K : Type 0) : Type 0 where
   child : (name : String) → Times → Which K → ChildRow K
@@ -66,9 +68,14 @@ module _ {K : Type 0} where
   kindChosen l Option.none = Option.none
   kindChosen l (some v) = kindAmong l v
 
+  unfoldable pub orElse : K → Option K → Option K
+  orElse k Option.none = some k
+  orElse k (some j) = some j
+
   unfoldable pub kindBy : Which K → Element → Option K
   kindBy (always k) e = some k
   kindBy (chosen a l) e = kindChosen l (valueIn a (attributesOf e))
+  kindBy (chosenElse a l k) e = orElse k (kindChosen l (valueIn a (attributesOf e)))
 
   unfoldable pub kindOf : List (ChildRow K) → Element → Option K
   kindOf [] e = Option.none
@@ -112,13 +119,23 @@ attributeShaped l (optional s f) = ifThere (isWord f) (valueIn s l)
 unfoldable pub attributesShaped : List AttributeRow → List Attribute → Bool
 attributesShaped r l = all (λ a. any (isNamed a) r) l && all (attributeShaped l) r
 
+-- an element of the name stands below, at any depth
+unfoldable mutual
+  pub below : String → Element → Bool
+  below s (element n l c w) = belowIn s c
+
+  pub belowIn : String → Contents → Bool
+  belowIn s nothing = false
+  belowIn s (run w c) = belowIn s c
+  belowIn s (inside e c) = (is s (nameOf e) || below s e) || belowIn s c
+
 -- n children of the row's name stand among the children l
 unfoldable pub standsSo : Times → ℕ → List Element → Bool
 standsSo once n l = eqb n 1
 standsSo atMostOnce n l = leb n 1
 standsSo anyTimes n l = true
 standsSo atLeastOnce n l = leb 1 n
-standsSo (neededWith s a w) n l = cond (any (λ e. is s (nameOf e) && has a w e) l) (eqb n 1) (leb n 1)
+standsSo (neededBelow s) n l = cond (any (below s) l) (eqb n 1) (leb n 1)
 
 module _ {K : Type 0} where
   unfoldable pub childShaped : List Element → ChildRow K → Bool
@@ -166,5 +183,5 @@ module _ {K : Type 0} where
   numbered (leaf a t) l c = all (attributeNumbered l) a && isText t (characters c)
 
 unfoldable pub schema : Unit {0}
-unfolding kindAmong kindChosen kindBy kindOf childRows everywhere rowName isNamed isWord attributeShaped attributesShaped standsSo childShaped rowPlace inOrderOf orderly childrenShaped shaped isNumber isText attributeNumbered numbered
+unfolding kindAmong kindChosen orElse kindBy kindOf childRows everywhere rowName isNamed isWord attributeShaped attributesShaped below standsSo childShaped rowPlace inOrderOf orderly childrenShaped shaped isNumber isText attributeNumbered numbered
 schema = tt

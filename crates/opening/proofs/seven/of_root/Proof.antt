@@ -9,7 +9,6 @@ of-root-spec =
     (λ c κs. search rooted)
     (λ c. search rooted)
     (λ c κs. search rooted)
-    (λ c κs. search rooted)
     (λ c. search rooted)
     (λ c. search rooted)
     (λ c κs. search rooted)

@@ -10,6 +10,6 @@ opened-spec =
     (λ c. search opening)
     (λ c. search opening)
     (λ c κs. search opening)
-    (λ c κs. search opening)
     (λ c. search opening)
+    (λ c κs. search opening)
     (λ c. search opening))

@@ -1,4 +1,5 @@
-use Rattle.describe.specs.Series.{unitSteps}
+use Rattle.models.specs.LawsStructures.{structured}
+use borrow.Author.Needs.{needs}
 use Rattle.reader.proofs.series.unit_number.Statement.{statement}
 use Rattle.reader.proofs.series.unit_number.Tie as tie
 
@@ -6,20 +7,10 @@ pub unit-number-spec : {M : Type 1} → statement M
 unit-number-spec =
     tie.close
     (tie.spec
-    (λ c. search unitSteps)
-    (λ c. search unitSteps)
-    (λ c κs. search unitSteps)
-    (λ c. search unitSteps)
-    (λ c. search unitSteps)
-    (λ c. search unitSteps)
-    (λ c κs. search unitSteps)
-    (λ c. search unitSteps)
-    (λ c. search unitSteps)
-    (λ c. search unitSteps)
-    (λ c κs. search unitSteps)
-    (λ c. search unitSteps)
-    (λ c. search unitSteps)
-    (λ c. search unitSteps)
-    (λ c κs. search unitSteps)
-    (λ c. search unitSteps)
-    (λ c. search unitSteps))
+    (λ c. search needs)
+    (λ c κs. search needs)
+    (λ c. search needs)
+    (λ c κs. search needs)
+    (λ c. search needs)
+    (λ c. search structured)
+    (λ c. search structured))

@@ -1,7 +1,0 @@
-use Rattle.opening.proofs.LawsForms.{telling}
-use Rattle.opening.proofs.forms.are_lengths.Statement.{statement}
-use Rattle.opening.proofs.forms.are_lengths.Tie as tie
-
-pub are-lengths-spec : {M : Type 1} → statement M
-are-lengths-spec =
-    tie.close (tie.spec (λ c κs. search telling) (λ c. search telling) (λ c. search telling) (λ c. search telling) (λ c. search telling))

@@ -1,8 +1,0 @@
-use Rattle.opening.proofs.LawsForms.{inside-text}
-use Rattle.opening.proofs.forms.are_sixteen.Statement.{statement}
-use Rattle.opening.proofs.forms.are_sixteen.Tie as tie
-
-pub are-sixteen-spec : {M : Type 1} → statement M
-are-sixteen-spec =
-    tie.close
-    (tie.spec (λ c κs. search inside-text) (λ c. search inside-text) (λ c κs. search inside-text) (λ c. search inside-text) (λ c. search inside-text) (λ c. search inside-text))

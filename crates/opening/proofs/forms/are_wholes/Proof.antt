@@ -1,8 +1,0 @@
-use Rattle.opening.proofs.LawsForms.{inside-text}
-use Rattle.opening.proofs.forms.are_wholes.Statement.{statement}
-use Rattle.opening.proofs.forms.are_wholes.Tie as tie
-
-pub are-wholes-spec : {M : Type 1} → statement M
-are-wholes-spec =
-    tie.close
-    (tie.spec (λ c κs. search inside-text) (λ c. search inside-text) (λ c κs. search inside-text) (λ c. search inside-text) (λ c. search inside-text) (λ c. search inside-text))

@@ -1,6 +1,0 @@
-use Rattle.opening.proofs.LawsForms.{telling}
-use Rattle.opening.proofs.forms.is_whole.Statement.{statement}
-use Rattle.opening.proofs.forms.is_whole.Tie as tie
-
-pub is-whole-spec : {M : Type 1} → statement M
-is-whole-spec = tie.close (tie.spec (λ c κs. search telling) (λ c. search telling) (λ c. search telling) (λ c. search telling) (λ c. search telling))

@@ -1,8 +1,0 @@
-use Rattle.opening.proofs.LawsValues.{texting}
-use Rattle.opening.proofs.values.text_fault.Statement.{statement}
-use Rattle.opening.proofs.values.text_fault.Tie as tie
-
-pub text-fault-spec : {M : Type 1} → statement M
-text-fault-spec =
-    tie.close
-    (tie.spec (λ c κs. search texting) (λ c. search texting) (λ c. search texting))

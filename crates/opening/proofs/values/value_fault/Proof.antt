@@ -1,7 +1,0 @@
-use Rattle.opening.proofs.LawsValues.{faulting}
-use Rattle.opening.proofs.values.value_fault.Statement.{statement}
-use Rattle.opening.proofs.values.value_fault.Tie as tie
-
-pub value-fault-spec : {M : Type 1} → statement M
-value-fault-spec =
-    tie.close (tie.spec (λ c κs. search faulting) (λ c. search faulting) (λ c κs. search faulting) (λ c. search faulting) (λ c. search faulting))

@@ -1,8 +1,0 @@
-use Rattle.opening.proofs.LawsLines.{of-line}
-use Rattle.opening.proofs.walk.line_kind.Statement.{statement}
-use Rattle.opening.proofs.walk.line_kind.Tie as tie
-
-pub line-kind-spec : {M : Type 1} → statement M
-line-kind-spec =
-    tie.close
-    (tie.spec (λ c κs. search of-line) (λ c. search of-line) (λ c κs. search of-line) (λ c. search of-line) (λ c κs. search of-line) (λ c. search of-line))

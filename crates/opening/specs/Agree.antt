@@ -1,0 +1,124 @@
+-- CIFTI's numbers are CIFTI's rows: one computed theorem; so what the walker says is conditions 3, 6 and 7.
+use mathlib.Core.Path.{_≡_, refl, ap, ap₂, sym, _∙_}
+use mathlib.Core.List.{List, [], _∷_}
+use mathlib.Core.Option.{Option, some}
+use mathlib.Core.Option
+use mathlib.Core.Bool.{Bool, true, false, not, cond}
+use Prim.Native.Nat.{ℕ}
+use Rattle.lists.specs.Lists.{countUp, each}
+use Rattle.grammar.specs.Document.{Element}
+use Rattle.grammar.specs.Look.{Word}
+use Rattle.grammar.specs.Parser.{parse}
+use Rattle.grammar.specs.Theorems.{parse-iff}
+use Rattle.lists.specs.Booleans.{never-some}
+use Rattle.nodes.specs.Places.{Stands, the}
+use Rattle.nodes.specs.Root.{root}
+use Rattle.nodes.specs.declared.Kid.the-variants.{Child}
+use Rattle.schema.specs.Schema.{everywhere, shaped, numbered, Row}
+use Rattle.cifti.specs.Rows.{ElementKind, cifti, matrix, metaData, md, words, brainModels, series, scalars, namedMap, volume, transform, surface, voxels, vertexIndices, voxelIndices, rows, rowTable}
+use Rattle.cifti.specs.Words.{structures, units, numberIn}
+use Rattle.cifti.specs.Conditions.{shapeWrong, numberWrong}
+use Rattle.shape.specs.Letters.{lettering}
+use Rattle.shape.specs.Table.{tableWords, rowsOf, wordsAt}
+use Rattle.shape.specs.Faults.{fault, faultOf}
+use Rattle.shape.specs.Checked.{Checks, Judges}
+use Rattle.shape.specs.declared.Checked.{Checked}
+use Rattle.opening.specs.Table.{table, letters}
+use Rattle.schema.specs.Renamed.{rowNamed, renaming, shaped-named, numbered-named, walk-named}
+
+unfoldable pub numberOf : ElementKind → ℕ
+numberOf cifti = 0
+numberOf matrix = 1
+numberOf metaData = 2
+numberOf md = 3
+numberOf words = 4
+numberOf brainModels = 5
+numberOf series = 6
+numberOf scalars = 7
+numberOf namedMap = 8
+numberOf volume = 9
+numberOf transform = 10
+numberOf surface = 11
+numberOf voxels = 12
+numberOf vertexIndices = 13
+numberOf voxelIndices = 14
+
+-- THE LAW: the table stands for the rows of the paper
+pub rows-are : (k : ElementKind) → rowsOf table letters (numberOf k) ≡ rowNamed numberOf (rows k)
+unfolding rowTable numberOf renaming each countUp table letters lettering tableWords
+rows-are cifti = refl
+rows-are matrix = refl
+rows-are metaData = refl
+rows-are md = refl
+rows-are words = refl
+rows-are brainModels = refl
+rows-are series = refl
+rows-are scalars = refl
+rows-are namedMap = refl
+rows-are volume = refl
+rows-are transform = refl
+rows-are surface = refl
+rows-are voxels = refl
+rows-are vertexIndices = refl
+rows-are voxelIndices = refl
+
+-- and its lists of words are the paper's
+structures-are : wordsAt table letters 8 ≡ structures
+unfolding rowTable countUp table letters lettering tableWords
+structures-are = refl
+
+units-are : wordsAt table letters 7 ≡ units
+unfolding rowTable countUp table letters lettering tableWords
+units-are = refl
+
+pub structure-is : (x : Word) {r : ℕ} → r ≡ numberIn (wordsAt table letters 8) x → r ≡ numberIn structures x
+structure-is x e = e ∙ ap (λ l. numberIn l x) structures-are
+
+pub unit-is : (x : Word) {r : ℕ} → r ≡ numberIn (wordsAt table letters 7) x → r ≡ numberIn units x
+unit-is x e = e ∙ ap (λ l. numberIn l x) units-are
+
+pub shape-is : (e : Element) → everywhere (rowsOf table letters) shaped (numberOf cifti) e ≡ everywhere rows shaped cifti e
+shape-is e = walk-named numberOf rows (rowsOf table letters) rows-are shaped shaped (shaped-named numberOf) e cifti
+
+pub number-is : (e : Element) → everywhere (rowsOf table letters) numbered (numberOf cifti) e ≡ everywhere rows numbered cifti e
+number-is e = walk-named numberOf rows (rowsOf table letters) rows-are numbered numbered (numbered-named numberOf) e cifti
+
+-- 6 or 7, whichever applies first to a root, or 0
+unfoldable pub rootFault : Element → ℕ
+rootFault e = cond (shapeWrong e) 6 (cond (numberWrong e) 7 0)
+
+fault-so : (s n : Bool) → fault s n ≡ cond (not s) 6 (cond (not n) 7 0)
+unfolding fault
+fault-so true true = refl
+fault-so true false = refl
+fault-so false n = refl
+
+root-fault : (e : Element) → faultOf table letters 0 e ≡ rootFault e
+unfolding rootFault shapeWrong numberWrong faultOf numberOf
+root-fault e = rw (shape-is e, number-is e) (fault-so (everywhere rows shaped cifti e) (everywhere rows numbered cifti e))
+
+-- the root stands at the place, and its fault is known
+pub record Judged (text : List ℕ) (at fault : ℕ) : Type 0 where
+  pub parsed : parse text ≡ some (the text at)
+  pub placed : root text ≡ Child at
+  pub stands : Stands text at
+  pub fault-is : fault ≡ rootFault (the text at)
+
+-- CONDITIONS 3, 6 AND 7: 3 where no document writes the text; else the fault of the root
+pub record ChecksCifti (text : List ℕ) (r : Checked) : Type 0 where
+  pub unwritten : parse text ≡ Option.none → (r .number ≡ 3) × (r .root ≡ 0)
+  pub written : (e : Element) → parse text ≡ some e → Judged text (r .root) (r .number)
+
+pub cifti-checked : {text : List ℕ} {r : Checked} → Checks table letters 0 text r → ChecksCifti text r
+cifti-checked {text} {r} c = record {
+  unwritten = λ n. c .none (λ e w. never-some (sym n ∙ parse-iff text e .1 w));
+  written = λ e p. judged e p (c .some-one e (parse-iff text e .0 p));
+}
+  where
+    judged : (e : Element) → parse text ≡ some e → Judges table letters 0 text r e → Judged text (r .root) (r .number)
+    judged e p j = record {
+      parsed = p ∙ ap some (sym (j .root-is));
+      placed = j .placed;
+      stands = j .stands;
+      fault-is = j .number-is ∙ root-fault e ∙ ap rootFault (sym (j .root-is));
+    }

@@ -1,0 +1,227 @@
+-- Attributes by their names: every one is listed. The walk over keys is that of nodes.
+use mathlib.Core.Path.{_≡_, refl, ap, sym, _∙_}
+use mathlib.Core.List.{List, [], _∷_}
+use Prim.Native.String.{String}
+use Prim.Native.Nat.{ℕ, zero, suc, _+_, _-_, _≤_, _<_}
+use native.Mathlib.Omega.{arith}
+use mathlib.Core.Bool.{Bool, true, false, not, _&&_, _||_}
+use borrow.Author.Needs.{needs}
+use borrow.Author.Tests.{not-true, not-false}
+use lib.ListN.{length, drop, length-drop}
+use Rattle.lists.specs.Lists.{all, any, countUp}
+use Rattle.grammar.specs.Bytes.{ascii}
+use Rattle.grammar.specs.Document.{Attribute, attribute}
+use Rattle.grammar.specs.Look.{Word, is, attributesOf}
+use Rattle.grammar.specs.Read.{Read, fail, got, bind, byte, ok-got}
+use Rattle.grammar.specs.Parser.{name-at, gap-at, equals-at, value-at, ends, closing, same}
+use Rattle.tokens.specs.Step.{stepped, at-end, fell, Went, went}
+use Rattle.tokens.specs.Leaves.{name-tails, value-tails}
+use Rattle.tokens.specs.Noted.{part}
+use Rattle.tokens.specs.Keys as tokens-keys
+use Rattle.tokens.specs.Keys.{keyed, Keyed}
+use Rattle.tokens.specs.declared.Step.{Step}
+use Rattle.tokens.specs.declared.Step.the-variants.{To, No}
+use Rattle.tokens.specs.declared.attributes.Key as token-key
+use Rattle.tokens.specs.declared.attributes.Key.the-variants as key-is
+use Rattle.nodes.specs.Places.{Stands, the, pick}
+use Rattle.nodes.specs.Attributes.{Key, key-at, key, keys-at, keys-by, keys-then, keys-step, key-eats, value-keeps, keys, keys-in, Hold, no-key, one-key, keys-law}
+use Rattle.nodes.proofs.LawsNames.{part-is}
+use Rattle.schema.specs.Schema.{Form, AttributeRow, rowName, isNamed}
+use Rattle.shape.specs.Table.{wordAt, formAt, attributeBy, attributeAt, attributeCell}
+use Rattle.shape.specs.Parts.{namedOnly, nameListed, keyListed}
+use Rattle.shape.proofs.LawsValues.{count-more, count-end}
+
+-- KEYS, as the program finds them
+fail-each : {A B C : Type 0} (m : Read A) (f : A → List ℕ → Read B) (g : A → List ℕ → Read C)
+    → ((a : A) (r : List ℕ) → f a r ≡ fail → g a r ≡ fail) → bind m f ≡ fail → bind m g ≡ fail
+unfolding bind
+fail-each fail f g k e = refl
+fail-each (got a r) f g k e = k a r e
+
+no-pure : {A B : Type 0} {a : A} {b : B} {r : List ℕ} → got a r ≡ fail → got b r ≡ fail
+no-pure e = let z : _≡_ {A = ℕ} 0 1 = cc in absurd (omega arith)
+
+missed : (s : List ℕ) → tokens-keys.key-at s ≡ fail → key-at s ≡ fail
+unfolding tokens-keys.key-at key-at
+missed s e =
+    fail-each (gap-at s) _ _ (λ _ r₁ e₁. fail-each (name-at r₁) _ _ (λ n r₂ e₂. fail-each (equals-at r₂) _ _ (λ _ r₃ e₃. no-pure e₃) e₂) e₁) e
+
+reads-key : (text : List ℕ) (i : ℕ) {from to end : ℕ} (k : Keyed text i from to end)
+    → key-at (drop i text) ≡ got (k .name .value) (drop end text)
+unfolding key-at bind
+reads-key text i k = rw (k .gap .reads, k .name .reads, k .equals .reads)
+
+module _ (text : List ℕ) (i : ℕ) {b : Bool} (eb : b ≡ ends closing (drop i text)) where
+  pub keys-end : b ≡ true → keys-at (length text) (drop i text) ≡ []
+  keys-end e = keys-step (length text) (drop i text) ∙ rw (sym eb ∙ e)
+
+  module _ (on : b ≡ false) {k : token-key.Key} (ek : k ≡ keyed (length text) (tokens-keys.key-at (drop i text))) where
+    pub keys-none : k ≡ key-is.No → keys-at (length text) (drop i text) ≡ []
+    unfolding keys-by
+    keys-none z = let m : key-at (drop i text) ≡ fail = missed (drop i text) (tokens-keys.key-missed text i ek z) in keys-step (length text) (drop i text) ∙ rw (sym eb ∙ on, m)
+
+    module _ {from to end : ℕ} (z : k ≡ key-is.Is from to end) where
+      found : Keyed text i from to end
+      found = tokens-keys.key-found text i ek z
+
+      named : part from to text ≡ found .name .value
+      named = part-is (found .name) (found .gap .inside)
+
+      keys-more : keys-at (length text) (drop i text)
+          ≡ key (part from to text) end ∷ keys-then (value-at (drop end text)) (keys-at (length text))
+      unfolding keys-by
+      keys-more =
+          let p : length text - length (drop end text) ≡ end = simp length-drop (omega (arith, found .equals .inside)) in
+          keys-step (length text) (drop i text) ∙ rw (sym eb ∙ on, reads-key text i found, p, named)
+
+      key-falls : length text - end < length text - i
+      key-falls =
+          let h : length (drop end text) < length (drop i text) = ok-got (rw (reads-key text i found) at (key-eats (drop i text))) in
+          omega (arith, length-drop end text, length-drop i text)
+
+      module _ {x : Step} (ex : x ≡ stepped (length text) (value-at (drop end text))) where
+        keys-stuck : x ≡ No → keys-at (length text) (drop i text) ≡ key (part from to text) end ∷ []
+        unfolding keys-then
+        keys-stuck w = keys-more ∙ rw (fell (length text) (value-at (drop end text)) (sym w ∙ ex))
+
+        module _ {j : ℕ} (w : x ≡ To j) where
+          valued : Went value-at text end j
+          valued = went value-at text end j (value-tails (drop end text)) (sym w ∙ ex)
+
+          keys-go : keys-at (length text) (drop i text) ≡ key (part from to text) end ∷ keys-at (length text) (drop j text)
+          unfolding keys-then
+          keys-go = keys-more ∙ rw (valued .reads)
+
+          keys-fall : length text - j < length text - i
+          keys-fall =
+              let h : length (drop j text) ≤ length (drop end text) = ok-got (rw (valued .reads) at (value-keeps (drop end text))) in
+              omega (arith, key-falls, length-drop j text, length-drop end text)
+
+-- A NAME AMONG THOSE OF ATTRIBUTES
+by-name : (n : ℕ) (s : String) (f : Form) → rowName (attributeBy n s f) ≡ s
+unfolding attributeBy rowName
+by-name zero s f = refl
+by-name (suc n) s f = refl
+
+row-name : (t l : List ℕ) (i : ℕ) → rowName (attributeAt t l i) ≡ wordAt t l (attributeCell t i 0)
+unfolding attributeAt
+row-name t l i = by-name (attributeCell t i 2) (wordAt t l (attributeCell t i 0)) (formAt t l (attributeCell t i 1))
+
+pub record Naming (t l : List ℕ) (n : Word) (from to i : ℕ) : Type 0 where
+  pub same-named : nameListed (countUp (attributeAt t l) from (to - from)) n ≡ nameListed (countUp (attributeAt t l) i (to - i)) n
+
+pub naming-start : (t l : List ℕ) (n : Word) (from to : ℕ) → Naming t l n from to from
+naming-start t l n from to = record { same-named = refl }
+
+module _ {t l : List ℕ} {n : Word} {from to i : ℕ} (go : Naming t l n from to i) where
+  pub naming-end : to ≤ i → false ≡ nameListed (countUp (attributeAt t l) from (to - from)) n
+  unfolding nameListed any
+  naming-end h = sym (go .same-named ∙ rw (count-end (attributeAt t l) i to h))
+
+  module _ (h : i < to) {c : ℕ} (ce : c ≡ attributeCell t i 0) {w : List ℕ} (e : w ≡ ascii (wordAt t l c)) {b : Bool} (f : b ≡ same n w)
+    where
+      called : b ≡ is (rowName (attributeAt t l i)) n
+      unfolding is
+      called = f ∙ rw (e, ce, row-name t l i)
+
+      pub naming-hit : b ≡ true → true ≡ nameListed (countUp (attributeAt t l) from (to - from)) n
+      unfolding nameListed any
+      naming-hit k = sym (go .same-named ∙ rw (count-more (attributeAt t l) i to h, sym called ∙ k))
+
+      pub naming-on : b ≡ false → Naming t l n from to (i + 1)
+      unfolding nameListed any
+      naming-on k = record { same-named = go .same-named ∙ rw (count-more (attributeAt t l) i to h, sym called ∙ k) }
+
+pub ruleset naming = (naming-start, naming-end, naming-hit, naming-on, needs)
+
+-- EVERY KEY IS LISTED
+pub record Listing (r : List AttributeRow) (text : List ℕ) (at i : ℕ) : Type 0 where
+  pub same-all : all (keyListed r) (keys-at (length text) (drop at text)) ≡ all (keyListed r) (keys-at (length text) (drop i text))
+
+pub listing-start : (r : List AttributeRow) (text : List ℕ) (at : ℕ) → Listing r text at at
+listing-start r text at = record { same-all = refl }
+
+module _ {r : List AttributeRow} {text : List ℕ} {at i : ℕ} (go : Listing r text at i) {b : Bool} (eb : b ≡ ends closing (drop i text))
+  where
+    pub listing-end : b ≡ true → true ≡ all (keyListed r) (keys-at (length text) (drop at text))
+    unfolding all
+    listing-end e = sym (go .same-all ∙ rw (keys-end text i eb e))
+
+    module _ (on : b ≡ false) {k : token-key.Key} (ek : k ≡ keyed (length text) (tokens-keys.key-at (drop i text))) where
+      pub listing-none : k ≡ key-is.No → true ≡ all (keyListed r) (keys-at (length text) (drop at text))
+      unfolding all
+      listing-none z = sym (go .same-all ∙ rw (keys-none text i eb on ek z))
+
+      module _ {from to end : ℕ} (z : k ≡ key-is.Is from to end) {o : Bool} (eo : o ≡ nameListed r (part from to text)) where
+        pub listing-other : not o ≡ true → false ≡ all (keyListed r) (keys-at (length text) (drop at text))
+        unfolding all keyListed
+        listing-other h = sym (go .same-all ∙ rw (keys-more text i eb on ek z, sym eo ∙ not-true o h))
+
+        module _ (h : not o ≡ false) {x : Step} (ex : x ≡ stepped (length text) (value-at (drop end text))) where
+          pub listing-stuck : x ≡ No → true ≡ all (keyListed r) (keys-at (length text) (drop at text))
+          unfolding all keyListed
+          listing-stuck w = sym (go .same-all ∙ rw (keys-stuck text i eb on ek z ex w, sym eo ∙ not-false o h))
+
+          pub listing-on : {j : ℕ} → x ≡ To j → Listing r text at j
+          unfolding all keyListed
+          listing-on w = record { same-all = go .same-all ∙ rw (keys-go text i eb on ek z ex w, sym eo ∙ not-false o h) }
+
+pub listing-less : (text : List ℕ) (i : ℕ) {b : Bool} → b ≡ ends closing (drop i text) → b ≡ false → {k : token-key.Key}
+    → k ≡ keyed (length text) (tokens-keys.key-at (drop i text))
+    → {from to end : ℕ} → k ≡ key-is.Is from to end → {x : Step} → x ≡ stepped (length text) (value-at (drop end text)) → {j : ℕ}
+    → x ≡ To j → length text - j < length text - i
+listing-less text i eb on ek z ex w = keys-fall text i eb on ek z ex w
+
+pub key-ahead : (text : List ℕ) (i : ℕ) {k : token-key.Key} → k ≡ keyed (length text) (tokens-keys.key-at (drop i text))
+    → {from to end : ℕ} → k ≡ key-is.Is from to end → from ≤ to
+key-ahead text i ek z = let f = tokens-keys.key-found text i ek z in f .name .ahead (f .gap .inside)
+
+pub key-inside : (text : List ℕ) (i : ℕ) {k : token-key.Key} → k ≡ keyed (length text) (tokens-keys.key-at (drop i text))
+    → {from to end : ℕ} → k ≡ key-is.Is from to end → to ≤ length text
+key-inside text i ek z = tokens-keys.key-found text i ek z .name .inside
+
+pub ruleset listing = (
+  listing-start,
+  listing-end,
+  listing-none,
+  listing-other,
+  listing-stuck,
+  listing-on,
+  listing-less,
+  key-ahead,
+  key-inside,
+  needs,
+)
+
+-- OF AN ELEMENT
+module _ (r : List AttributeRow) (text : List ℕ) (at : ℕ) where
+  no-tag : length text ≤ at → keys text at ≡ []
+  unfolding keys keys-in name-at bind byte
+  no-tag h = let k : length text ≤ at + 1 = omega arith in rw (at-end text (at + 1) k)
+
+  pub listed-past : length text ≤ at → true ≡ all (keyListed r) (keys text at)
+  unfolding all
+  listed-past h = rw (no-tag h)
+
+  module _ {x : Step} (ex : x ≡ stepped (length text) (name-at (drop (at + 1) text))) where
+    pub listed-unnamed : x ≡ No → true ≡ all (keyListed r) (keys text at)
+    unfolding all keys keys-in
+    listed-unnamed w = rw (fell (length text) (name-at (drop (at + 1) text)) (sym w ∙ ex))
+
+    pub listed-there : {i : ℕ} → x ≡ To i → {b : Bool} → b ≡ all (keyListed r) (keys-at (length text) (drop i text))
+        → b ≡ all (keyListed r) (keys text at)
+    unfolding keys keys-in
+    listed-there {i} w e = e ∙ rw (went name-at text (at + 1) i (name-tails (drop (at + 1) text)) (sym w ∙ ex) .reads)
+
+pub ruleset listed = (listed-past, listed-unnamed, listed-there, needs)
+
+-- THE LAW
+held-listed : (r : List AttributeRow) {text : List ℕ} {ks : List Key} {l : List Attribute} → Hold text ks l
+    → all (keyListed r) ks ≡ namedOnly r l
+unfolding namedOnly all keyListed nameListed isNamed
+held-listed r no-key = refl
+held-listed r (one-key {n} {v} {x} {ks} {l} k h) = ap (λ b. any (λ row. is (rowName row) n) r && b) (held-listed r h)
+
+pub listed-law : (r : List AttributeRow) {text : List ℕ} {at : ℕ} → Stands text at
+    → all (keyListed r) (keys text at) ≡ namedOnly r (attributesOf (the text at))
+listed-law r st = held-listed r (keys-law st)

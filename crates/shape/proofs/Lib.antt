@@ -1,0 +1,12 @@
+pub mod LawsFaults
+pub mod LawsTable
+pub mod LawsValues
+pub mod LawsKeys
+pub mod LawsAttributes
+pub mod LawsRows
+pub mod LawsLines
+pub mod LawsTimes
+pub mod LawsCounted
+pub mod LawsKids
+pub mod LawsWalk
+pub mod LawsWords
