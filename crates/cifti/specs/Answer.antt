@@ -12,7 +12,7 @@ use Rattle.lists.specs.Lists.{any, each, eachIn, table}
 use Rattle.grammar.specs.Document.{Element}
 use Rattle.numbers.specs.Numbers.{noDecimal}
 use Rattle.records.specs.Record.{recordOf}
-use Rattle.cifti.specs.Maps.{Model, Content, Map, mapsOf, models, brainMaps, lengthOf, lengthBy, covers, locations}
+use Rattle.cifti.specs.Maps.{Model, Map, SeriesValues, isBrain, isSeries, mapsOf, brainMaps, lengthOf, covers, locations}
 use Rattle.cifti.specs.Conditions.{refusal}
 use Rattle.cifti.specs.Text.{Answers}
 use Rattle.cifti.specs.declared.answer.Kind.{Kind}
@@ -29,7 +29,7 @@ recordAt [] n = 0
 recordAt (m ∷ l) n = cond (covers n m) (getD (each recordOf (locations m)) (n - m .offset) 0) (recordAt l n)
 
 unfoldable pub stretch : Map → List ℕ
-stretch m = table (lengthOf m) (recordAt (models m))
+stretch m = table (lengthOf m) (recordAt (m .models))
 
 unfoldable pub stretches : List Map → List ℕ
 stretches l = eachIn stretch (brainMaps l)
@@ -62,22 +62,21 @@ dimensionBy kind length start series = record { kind = kind; length = length; st
 abbrev pub unused : Dimension
 unused = dimensionBy None 0 0 noSeries
 
+unfoldable pub asSeries : SeriesValues → S.Series
+asSeries s = record { start = s .start; step = s .step; exponent = s .exponent; unit = s .unit }
+
 -- what the answer says of a map whose stretch begins at `at`, if it has one
-unfoldable pub described : (at : ℕ) → Content → Dimension
-described at (Content.brain v l) = dimensionBy Brain (lengthBy (Content.brain v l)) at noSeries
-described at (Content.series n a b x u) = dimensionBy Series n 0 (record { start = a; step = b; exponent = x; unit = u })
-described at (Content.scalars n) = dimensionBy Scalars n 0 noSeries
+unfoldable pub described : (at : ℕ) → Map → Dimension
+described at m = dimensionBy (m .kind) (lengthOf m) (cond (isBrain (m .kind)) at 0) (cond (isSeries (m .kind)) (asSeries (m .series)) noSeries)
 
 -- how many places a map's stretch takes
-unfoldable pub reach : Content → ℕ
-reach (Content.brain v l) = lengthBy (Content.brain v l)
-reach (Content.series n a b x u) = 0
-reach (Content.scalars n) = 0
+unfoldable pub reach : Map → ℕ
+reach m = cond (isBrain (m .kind)) (lengthOf m) 0
 
 -- dimension d: the map that lists it
 unfoldable pub dimensionAt : (at : ℕ) → List Map → (d : ℕ) → Dimension
 dimensionAt at [] d = unused
-dimensionAt at (m ∷ l) d = cond (any (eqb d) (m .dimensions)) (described at (m .content)) (dimensionAt (at + reach (m .content)) l d)
+dimensionAt at (m ∷ l) d = cond (any (eqb d) (m .dimensions)) (described at m) (dimensionAt (at + reach m) l d)
 
 unfoldable pub acceptedWith : List Map → Answer
 acceptedWith l = record { number = 0; dimensions = dimensionAt 0 l 0 ∷ dimensionAt 0 l 1 ∷ dimensionAt 0 l 2 ∷ [] }
@@ -116,5 +115,5 @@ pub record Reads (text lengths records work : List ℕ) (answer : Answer) (after
   pub cleared : workAfter ≡ replicate (length work) 0
 
 unfoldable pub answerWords : Unit {0}
-unfolding recordAt stretch stretches filledWith described reach dimensionAt acceptedWith mapsIn answerBy recordsBy answerTo recordsAfter
+unfolding recordAt stretch stretches filledWith asSeries described reach dimensionAt acceptedWith mapsIn answerBy recordsBy answerTo recordsAfter
 answerWords = tt

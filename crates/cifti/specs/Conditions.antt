@@ -13,7 +13,7 @@ use Rattle.grammar.specs.Document.{Element}
 use Rattle.grammar.specs.Look.{is, nameOf, has}
 use Rattle.schema.specs.Schema.{everywhere, shaped, numbered}
 use Rattle.cifti.specs.Rows.{cifti, rows}
-use Rattle.cifti.specs.Maps.{Voxel, Listed, vertices, voxels, Model, Map, mapElements, mapsOf, models, brainMaps, lengthOf, volumeOf, vertexNumbers, voxelsOf, sameVoxel, covers}
+use Rattle.cifti.specs.Maps.{Voxel, Listed, vertices, voxels, Model, Map, mapElements, mapsOf, brainMaps, lengthOf, vertexNumbers, voxelsOf, sameVoxel, covers}
 
 -- 1: lengths are not 2 or 3, or one is 0 or above 1,048,576
 unfoldable pub lengthsWrong : List ℕ → Bool
@@ -67,7 +67,7 @@ unfoldable pub alike : Model → Model → Bool
 alike a b = sameType (a .listed) (b .listed) && eqb (a .structure) (b .structure)
 
 unfoldable pub modelsShare : List Map → Bool
-modelsShare l = any (λ m. twoOf alike (models m)) l
+modelsShare l = any (λ m. twoOf alike (m .models)) l
 
 -- 11: a model does not list IndexCount numbers (voxels: three times that), or some index of the map is in no model's range or in two
 unfoldable pub listsCount : ℕ → Listed → Bool
@@ -76,8 +76,8 @@ listsCount n (voxels l) = eqb (length l) (3 * n)
 
 unfoldable pub uneven : Map → Bool
 uneven m =
-    any (λ b. not (listsCount (b .count) (b .listed))) (models m)
-    || not (allBelow (lengthOf m) (λ n. eqb (count (covers n) (models m)) 1))
+    any (λ b. not (listsCount (b .count) (b .listed))) (m .models)
+    || not (allBelow (lengthOf m) (λ n. eqb (count (covers n) (m .models)) 1))
 
 unfoldable pub rangesWrong : List Map → Bool
 rangesWrong l = any uneven (brainMaps l)
@@ -91,7 +91,7 @@ beyond volume (vertices n l) = any (λ v. not (ltb v n)) l
 beyond volume (voxels l) = any (outside volume) (voxelsOf (voxels l))
 
 unfoldable pub numbersOutside : List Map → Bool
-numbersOutside l = any (λ m. any (λ b. beyond (volumeOf m) (b .listed)) (models m)) l
+numbersOutside l = any (λ m. any (λ b. beyond (m .volume) (b .listed)) (m .models)) l
 
 -- 13: records lent are fewer than all stretches, or work space than the longest
 unfoldable pub roomShort : (room work : ℕ) → List Map → Bool
@@ -104,7 +104,7 @@ repeats l =
     || twoOf sameVoxel (eachIn (λ b. voxelsOf (b .listed)) l)
 
 unfoldable pub locationTwice : List Map → Bool
-locationTwice l = any (λ m. repeats (models m)) l
+locationTwice l = any (λ m. repeats (m .models)) l
 
 -- ---- THE ORDER OF REFUSALS: rows of a number and whether its condition applies. Where there is no document, the conditions on one do not arise.
 

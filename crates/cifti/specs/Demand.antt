@@ -14,7 +14,7 @@ use Rattle.lists.specs.RefusalLaws.{row-fails, rows-past}
 use Rattle.grammar.specs.Document.{Element}
 use Rattle.grammar.specs.Grammar.{Writes}
 use Rattle.records.specs.Record.{onSurface, recordOf}
-use Rattle.cifti.specs.Maps.{Content, Model, Map, mapsOf, models, brainMaps, lengthOf, lengthBy, isBrainBy, covers, locations}
+use Rattle.cifti.specs.Maps.{Model, Map, mapsOf, brainMaps, lengthOf, isBrain, covers, locations}
 use Rattle.cifti.specs.Conditions.{ofMaps, rangesWrong, uneven, conditions, conditionsTo9, conditionsFrom10, refusal}
 use Rattle.cifti.specs.Answer.{stretch, stretches, filledWith, reach, described, dimensionAt, mapsIn, acceptedWith, answerBy, recordsBy, answerTo, recordsAfter, unused, recordAt, Reads}
 use Rattle.cifti.specs.Smallest.{refusal-none}
@@ -31,14 +31,14 @@ ranges-right : (lengths : List ℕ) (size room work : ℕ) (e : Element) → ref
 unfolding conditions conditionsTo9 conditionsFrom10 ofMaps there
 ranges-right lengths size room work e h = row-fails (rows-past 10 (refusal-none lengths size room work (some e) h))
 
-even-in : (k : List Map) (m : Map) (l : List Map) → isBrainBy (m .content) ≡ true → any uneven (brainMaps (k ++ (m ∷ l))) ≡ false → uneven m ≡ false
+even-in : (k : List Map) (m : Map) (l : List Map) → isBrain (m .kind) ≡ true → any uneven (brainMaps (k ++ (m ∷ l))) ≡ false → uneven m ≡ false
 unfolding brainMaps those any
 even-in [] m l h f = let g : any uneven (m ∷ brainMaps l) ≡ false = rw h at f in left (uneven m) (any uneven (brainMaps l)) g
   where
     left : (a b : Bool) → (a || b) ≡ false → a ≡ false
     left false b q = refl
     left true b q = absurd (true≢false q)
-even-in (x ∷ k) m l h f = even-in k m l h (go (isBrainBy (x .content)) f)
+even-in (x ∷ k) m l h f = even-in k m l h (go (isBrain (x .kind)) f)
   where
     go : (b : Bool) → any uneven (cond b (x ∷ brainMaps (k ++ (m ∷ l))) (brainMaps (k ++ (m ∷ l)))) ≡ false → any uneven (brainMaps (k ++ (m ∷ l))) ≡ false
     go false q = q
@@ -50,32 +50,23 @@ even-in (x ∷ k) m l h f = even-in k m l h (go (isBrainBy (x .content)) f)
 
 -- ---- How far the stretches reach.
 
-stretches-reach : (l : List Map) → length (stretches l) ≡ total (λ x. reach (x .content)) l
-unfolding stretches brainMaps those eachIn total lengthOf reach isBrainBy
+stretches-reach : (l : List Map) → length (stretches l) ≡ total reach l
+unfolding stretches brainMaps those eachIn total reach
 stretches-reach [] = refl
-stretches-reach (m ∷ l) = go (m .content) refl (stretches-reach l)
+stretches-reach (m ∷ l) = go (isBrain (m .kind)) (stretches-reach l)
   where
-    go : (c : Content) → m .content ≡ c → length (stretches l) ≡ total (λ x. reach (x .content)) l
-        → length (eachIn stretch (cond (isBrainBy c) (m ∷ brainMaps l) (brainMaps l))) ≡ reach c + total (λ x. reach (x .content)) l
-    go (Content.brain v b) e h =
-        let s : length (stretch m) ≡ lengthBy (Content.brain v b) = stretch-length m ∙ ap lengthBy e in
-        length-append (stretch m) (stretches l) ∙ rw (s, h) refl
-    go (Content.series n a b x u) e h = let t : 0 + total (λ x. reach (x .content)) l ≡ total (λ x. reach (x .content)) l = omega arith in h ∙ sym t
-    go (Content.scalars n) e h = let t : 0 + total (λ x. reach (x .content)) l ≡ total (λ x. reach (x .content)) l = omega arith in h ∙ sym t
+    go : (b : Bool) → length (stretches l) ≡ total reach l → length (eachIn stretch (cond b (m ∷ brainMaps l) (brainMaps l))) ≡ cond b (lengthOf m) 0 + total reach l
+    go true h = length-append (stretch m) (stretches l) ∙ rw (stretch-length m, h) refl
+    go false h = omega arith
 
-total-past : (k : List Map) (m : Map) (l : List Map) → total (λ x. reach (x .content)) k + reach (m .content) ≤ total (λ x. reach (x .content)) (k ++ (m ∷ l))
+total-past : (k : List Map) (m : Map) (l : List Map) → total reach k + reach m ≤ total reach (k ++ (m ∷ l))
 unfolding total
 total-past [] m l = omega arith
 total-past (x ∷ k) m l = let h = total-past k m l in omega arith
 
-brain-reach : (m : Map) → isBrainBy (m .content) ≡ true → reach (m .content) ≡ lengthOf m
-unfolding lengthOf lengthBy reach isBrainBy
-brain-reach m h = go (m .content) h
-  where
-    go : (c : Content) → isBrainBy c ≡ true → reach c ≡ lengthBy c
-    go (Content.brain v l) q = refl
-    go (Content.series n a b x u) q = absurd (true≢false (sym q))
-    go (Content.scalars n) q = absurd (true≢false (sym q))
+brain-reach : (m : Map) → isBrain (m .kind) ≡ true → reach m ≡ lengthOf m
+unfolding reach
+brain-reach m h = rw h
 
 -- ---- THE STATEMENT: an accepted text, its document, and a map of it, those before it and those behind it.
 
@@ -83,7 +74,7 @@ module _ {text lengths records work : List ℕ} {a : Answer} {s v : List ℕ} (r
     (e : Element) (w : Writes e text) (k : List Map) (m : Map) (l : List Map) (all-maps : mapsOf e ≡ k ++ (m ∷ l)) where
   -- where the map's stretch begins, if it has one
   abbrev pub start : ℕ
-  start = total (λ x. reach (x .content)) k
+  start = total reach k
 
   number-of : ℕ
   number-of = refusal lengths (length text) (length records) (length work) (some e)
@@ -104,22 +95,22 @@ module _ {text lengths records work : List ℕ} {a : Answer} {s v : List ℕ} (r
   records-are = answers-of (r .filled) w ∙ rw (number-is, all-maps) refl
 
   -- a dimension that it lists and none before it does: the answer tells what the map says
-  pub tells : (d : ℕ) → d < 3 → any (λ x. any (eqb d) (x .dimensions)) k ≡ false → any (eqb d) (m .dimensions) ≡ true → getD (a .dimensions) d unused ≡ described start (m .content)
+  pub tells : (d : ℕ) → d < 3 → any (λ x. any (eqb d) (x .dimensions)) k ≡ false → any (eqb d) (m .dimensions) ≡ true → getD (a .dimensions) d unused ≡ described start m
   unfolding acceptedWith
   tells d u h t = rw accepted-is (go d u h t)
     where
-      told : (c : ℕ) → any (λ x. any (eqb c) (x .dimensions)) k ≡ false → any (eqb c) (m .dimensions) ≡ true → dimensionAt 0 (k ++ (m ∷ l)) c ≡ described start (m .content)
-      told c h t = let z : 0 + start ≡ start = omega arith in dimension-of k m l 0 c h t ∙ ap (λ p. described p (m .content)) z
+      told : (c : ℕ) → any (λ x. any (eqb c) (x .dimensions)) k ≡ false → any (eqb c) (m .dimensions) ≡ true → dimensionAt 0 (k ++ (m ∷ l)) c ≡ described start m
+      told c h t = let z : 0 + start ≡ start = omega arith in dimension-of k m l 0 c h t ∙ ap (λ p. described p m) z
 
-      go : (c : ℕ) → c < 3 → any (λ x. any (eqb c) (x .dimensions)) k ≡ false → any (eqb c) (m .dimensions) ≡ true → getD ((acceptedWith (k ++ (m ∷ l))) .dimensions) c unused ≡ described start (m .content)
+      go : (c : ℕ) → c < 3 → any (λ x. any (eqb c) (x .dimensions)) k ≡ false → any (eqb c) (m .dimensions) ≡ true → getD ((acceptedWith (k ++ (m ∷ l))) .dimensions) c unused ≡ described start m
       go zero u h t = told 0 h t
       go (suc zero) u h t = told 1 h t
       go (suc (suc zero)) u h t = told 2 h t
       go (suc (suc (suc c))) u h t = absurd (omega arith)
 
-  module _ (brain : isBrainBy (m .content) ≡ true) (n : ℕ) (u : n < lengthOf m) where
+  module _ (brain : isBrain (m .kind) ≡ true) (n : ℕ) (u : n < lengthOf m) where
     -- the record of index n stands n places behind the start
-    pub holds : getD s (start + n) 0 ≡ recordAt (models m) n
+    pub holds : getD s (start + n) 0 ≡ recordAt (m .models) n
     unfolding filledWith
     holds =
         let h = total-past k m l in
@@ -128,12 +119,12 @@ module _ {text lengths records work : List ℕ} {a : Answer} {s v : List ℕ} (r
         rw records-are (List·getD-append (stretches (k ++ (m ∷ l))) _ 0 (start + n) q ∙ placed k m l n brain u)
 
     -- the index is in exactly one model's range, and the record is of the location at the index less that model's offset in its list
-    pub in-one : (b₀ : Model) → OnePlace b₀ (covers n) (models m)
+    pub in-one : (b₀ : Model) → OnePlace b₀ (covers n) (m .models)
     unfolding rangesWrong number-of
     in-one b₀ =
         let f : any uneven (brainMaps (k ++ (m ∷ l))) ≡ false = rw all-maps at (ranges-right lengths (length text) (length records) (length work) e number-is) in
         (even-iff b₀ m .0 (even-in k m l brain f)) .one n u
 
     pub located : (b₀ : Model) → let o = in-one b₀ in
-        getD s (start + n) 0 ≡ recordOf (getD (locations (getD (models m) (o .0) b₀)) (n - (getD (models m) (o .0) b₀) .offset) (onSurface 0 0))
-    located b₀ = holds ∙ record-at b₀ (models m) n (in-one b₀)
+        getD s (start + n) 0 ≡ recordOf (getD (locations (getD (m .models) (o .0) b₀)) (n - (getD (m .models) (o .0) b₀) .offset) (onSurface 0 0))
+    located b₀ = holds ∙ record-at b₀ (m .models) n (in-one b₀)

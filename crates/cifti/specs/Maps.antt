@@ -7,11 +7,14 @@ use lib.IntN.{ℤ}
 use lib.ListN.{length}
 use Rattle.lists.specs.Lists.{those, total, each, eachIn}
 use Rattle.grammar.specs.Document.{Element}
-use Rattle.grammar.specs.Look.{attr, has, children, textOf}
+use Rattle.grammar.specs.Look.{Word, is, attr, has, children, textOf}
 use Rattle.numbers.specs.Numbers.{value, values, commaValues, exponentValue, decimalValue}
 use Rattle.numbers.specs.declared.Decimal.{Decimal}
 use Rattle.records.specs.Record.{Location, onSurface, inVolume}
+use Rattle.schema.specs.Schema.{Case, _⇒_}
 use Rattle.cifti.specs.Words.{structures, units, numberIn}
+use Rattle.cifti.specs.declared.answer.Kind.{Kind}
+use Rattle.cifti.specs.declared.answer.Kind.the-variants.{None, Brain, Series, Scalars}
 
 -- Three numbers: a voxel, or the sizes of a volume.
 pub record Voxel : Type 0 where
@@ -33,14 +36,52 @@ pub record Model : Type 0 where
   pub count : ℕ
   pub listed : Listed
 
-pub data Content : Type 0 where
-  brain : (volume : Voxel) → List Model → Content
-  series : (points : ℕ) (start step : Decimal) (exponent : ℤ) (unit : ℕ) → Content
-  scalars : (names : ℕ) → Content
+pub record SeriesValues : Type 0 where
+  pub points : ℕ
+  pub start : Decimal
+  pub step : Decimal
+  pub exponent : ℤ
+  pub unit : ℕ
 
+-- A map is what it holds. A map of another kind holds no models, or no names, and its volume and series are of no meaning.
 pub record Map : Type 0 where
   pub dimensions : List ℕ
-  pub content : Content
+  pub kind : Kind
+  pub models : List Model
+  pub volume : Voxel
+  pub series : SeriesValues
+  pub names : ℕ
+
+-- ---- THE KINDS: the words of IndicesMapToDataType, each beside the kind that it names. No other word names one.
+
+unfoldable pub kindWords : List (Case Kind)
+kindWords =
+    "CIFTI_INDEX_TYPE_BRAIN_MODELS" ⇒ Brain
+    ∷ "CIFTI_INDEX_TYPE_SERIES" ⇒ Series
+    ∷ "CIFTI_INDEX_TYPE_SCALARS" ⇒ Scalars
+    ∷ []
+
+unfoldable pub kindIn : List (Case Kind) → Word → Kind
+kindIn [] w = None
+kindIn ((s ⇒ k) ∷ l) w = cond (is s w) k (kindIn l w)
+
+unfoldable pub isBrain : Kind → Bool
+isBrain None = false
+isBrain Brain = true
+isBrain Series = false
+isBrain Scalars = false
+
+unfoldable pub isSeries : Kind → Bool
+isSeries None = false
+isSeries Brain = false
+isSeries Series = true
+isSeries Scalars = false
+
+unfoldable pub isScalars : Kind → Bool
+isScalars None = false
+isScalars Brain = false
+isScalars Series = false
+isScalars Scalars = true
 
 -- ---- Read off the elements.
 
@@ -67,22 +108,30 @@ sizesBy (i ∷ j ∷ k ∷ l) = voxel i j k
 unfoldable pub sizesOf : Element → Voxel
 sizesOf e = sizesBy (eachIn (λ v. commaValues (attr "VolumeDimensions" v)) (children "Volume" e))
 
-unfoldable pub seriesOf : Element → Content
-seriesOf e =
-    series (value (attr "NumberOfSeriesPoints" e)) (decimalValue (attr "SeriesStart" e)) (decimalValue (attr "SeriesStep" e))
-    (exponentValue (attr "SeriesExponent" e)) (numberIn units (attr "SeriesUnit" e))
+unfoldable pub seriesOf : Element → SeriesValues
+seriesOf e = record {
+  points = value (attr "NumberOfSeriesPoints" e);
+  start = decimalValue (attr "SeriesStart" e);
+  step = decimalValue (attr "SeriesStep" e);
+  exponent = exponentValue (attr "SeriesExponent" e);
+  unit = numberIn units (attr "SeriesUnit" e);
+}
 
-unfoldable pub contentOf : Element → Content
-contentOf e =
-    cond (has "IndicesMapToDataType" "CIFTI_INDEX_TYPE_BRAIN_MODELS" e) (brain (sizesOf e) (each modelOf (children "BrainModel" e)))
-    (cond (has "IndicesMapToDataType" "CIFTI_INDEX_TYPE_SERIES" e) (seriesOf e)
-    (scalars (length (children "NamedMap" e))))
+unfoldable pub kindOfMap : Element → Kind
+kindOfMap e = kindIn kindWords (attr "IndicesMapToDataType" e)
 
 unfoldable pub dimensionsOf : Element → List ℕ
 dimensionsOf e = commaValues (attr "AppliesToMatrixDimension" e)
 
 unfoldable pub mapOf : Element → Map
-mapOf e = record { dimensions = dimensionsOf e; content = contentOf e }
+mapOf e = record {
+  dimensions = dimensionsOf e;
+  kind = kindOfMap e;
+  models = each modelOf (children "BrainModel" e);
+  volume = sizesOf e;
+  series = seriesOf e;
+  names = length (children "NamedMap" e);
+}
 
 -- every MatrixIndicesMap in a Matrix in the root
 unfoldable pub mapElements : Element → List Element
@@ -129,39 +178,18 @@ covers n m = leb (m .offset) n && ltb n (m .offset + m .count)
 -- ---- Of a map.
 
 -- sum of IndexCount, series points, NamedMaps
-unfoldable pub lengthBy : Content → ℕ
-lengthBy (brain v l) = total (λ m. m .count) l
-lengthBy (series n a b x u) = n
-lengthBy (scalars n) = n
+unfoldable pub lengthBy : Kind → Map → ℕ
+lengthBy None m = 0
+lengthBy Brain m = total (λ b. b .count) (m .models)
+lengthBy Series m = m .series .points
+lengthBy Scalars m = m .names
 
 unfoldable pub lengthOf : Map → ℕ
-lengthOf m = lengthBy (m .content)
-
--- the models of a brain map, none of another
-unfoldable pub modelsBy : Content → List Model
-modelsBy (brain v l) = l
-modelsBy (series n a b x u) = []
-modelsBy (scalars n) = []
-
-unfoldable pub models : Map → List Model
-models m = modelsBy (m .content)
-
-unfoldable pub volumeBy : Content → Voxel
-volumeBy (brain v l) = v
-volumeBy (series n a b x u) = voxel 0 0 0
-volumeBy (scalars n) = voxel 0 0 0
-
-unfoldable pub volumeOf : Map → Voxel
-volumeOf m = volumeBy (m .content)
-
-unfoldable pub isBrainBy : Content → Bool
-isBrainBy (brain v l) = true
-isBrainBy (series n a b x u) = false
-isBrainBy (scalars n) = false
+lengthOf m = lengthBy (m .kind) m
 
 unfoldable pub brainMaps : List Map → List Map
-brainMaps l = those (λ m. isBrainBy (m .content)) l
+brainMaps l = those (λ m. isBrain (m .kind)) l
 
 unfoldable pub mapWords : Unit {0}
-unfolding listedBy modelOf sizesBy sizesOf seriesOf contentOf dimensionsOf mapOf mapElements mapsOf vertexNumbers threes voxelsOf sameVoxel voxelAt locationsBy locations covers lengthBy lengthOf modelsBy models volumeBy volumeOf isBrainBy brainMaps
+unfolding kindWords kindIn isBrain isSeries isScalars listedBy modelOf sizesBy sizesOf seriesOf kindOfMap dimensionsOf mapOf mapElements mapsOf vertexNumbers threes voxelsOf sameVoxel voxelAt locationsBy locations covers lengthBy lengthOf brainMaps
 mapWords = tt

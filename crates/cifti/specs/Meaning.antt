@@ -12,7 +12,7 @@ use borrow.Author.Tests.{eqb-true, eq-eqb, leb-true, le-leb, ltb-true, lt-ltb}
 use Rattle.lists.specs.Lists.{any, count, twoOf, allBelow, each, eachIn}
 use Rattle.lists.specs.Quantifiers.{EveryPlace, OnePlace, any-iff, twoOf-iff, count-one-iff, allBelow-iff}
 use Rattle.records.specs.Record.{Location, onSurface, recordOf, recordWords}
-use Rattle.cifti.specs.Maps.{Voxel, voxel, Listed, vertices, voxels, Model, Map, models, brainMaps, lengthOf, volumeOf, covers, locations, vertexNumbers, voxelsOf, sameVoxel}
+use Rattle.cifti.specs.Maps.{Voxel, voxel, Listed, vertices, voxels, Model, Map, brainMaps, lengthOf, covers, locations, vertexNumbers, voxelsOf, sameVoxel}
 use Rattle.cifti.specs.Conditions.{listedDimensions, dimensionsWrong, sameType, alike, modelsShare, listsCount, uneven, rangesWrong, repeats, locationTwice, beyond, numbersOutside}
 use Rattle.cifti.specs.Answer.{recordAt}
 
@@ -127,26 +127,26 @@ module _ (m₀ : Map) (b₀ : Model) where
     pub one : ℕ
     pub two : ℕ
     pub apart : one < two
-    pub is-model : two < length (models (getD l map m₀))
-    pub type : OneType ((getD (models (getD l map m₀)) one b₀) .listed) ((getD (models (getD l map m₀)) two b₀) .listed)
-    pub structure : (getD (models (getD l map m₀)) one b₀) .structure ≡ (getD (models (getD l map m₀)) two b₀) .structure
+    pub is-model : two < length ((getD l map m₀) .models)
+    pub type : OneType ((getD ((getD l map m₀) .models) one b₀) .listed) ((getD ((getD l map m₀) .models) two b₀) .listed)
+    pub structure : (getD ((getD l map m₀) .models) one b₀) .structure ≡ (getD ((getD l map m₀) .models) two b₀) .structure
 
   pub share-iff : (l : List Map) → (modelsShare l ≡ true) ↔ Share l
   unfolding modelsShare
   share-iff l = (to, from)
     where
-      to : any (λ m. twoOf alike (models m)) l ≡ true → Share l
+      to : any (λ m. twoOf alike (m .models)) l ≡ true → Share l
       to h =
-          let (i, u, v) = any-iff m₀ (λ m. twoOf alike (models m)) l .0 h in
-          let (a, b, s, t, e) = twoOf-iff b₀ alike (models (getD l i m₀)) .0 v in
-          let (x, y) = alike-iff (getD (models (getD l i m₀)) a b₀) (getD (models (getD l i m₀)) b b₀) .0 e in
+          let (i, u, v) = any-iff m₀ (λ m. twoOf alike (m .models)) l .0 h in
+          let (a, b, s, t, e) = twoOf-iff b₀ alike ((getD l i m₀) .models) .0 v in
+          let (x, y) = alike-iff (getD ((getD l i m₀) .models) a b₀) (getD ((getD l i m₀) .models) b b₀) .0 e in
           record { map = i; is-map = u; one = a; two = b; apart = s; is-model = t; type = x; structure = y }
 
-      from : Share l → any (λ m. twoOf alike (models m)) l ≡ true
-      from s = any-iff m₀ (λ m. twoOf alike (models m)) l .1 (
+      from : Share l → any (λ m. twoOf alike (m .models)) l ≡ true
+      from s = any-iff m₀ (λ m. twoOf alike (m .models)) l .1 (
         s .map,
         s .is-map,
-        twoOf-iff b₀ alike (models (getD l (s .map) m₀)) .1 (s .one, s .two, s .apart, s .is-model, alike-iff (getD (models (getD l (s .map) m₀)) (s .one) b₀) (getD (models (getD l (s .map) m₀)) (s .two) b₀) .1 (s .type, s .structure)),
+        twoOf-iff b₀ alike ((getD l (s .map) m₀) .models) .1 (s .one, s .two, s .apart, s .is-model, alike-iff (getD ((getD l (s .map) m₀) .models) (s .one) b₀) (getD ((getD l (s .map) m₀) .models) (s .two) b₀) .1 (s .type, s .structure)),
       )
 
   -- ---- CONDITION 12: some model of some map lists a number outside its surface, or the map's volume.
@@ -154,24 +154,24 @@ module _ (m₀ : Map) (b₀ : Model) where
     pub map : ℕ
     pub is-map : map < length l
     pub model : ℕ
-    pub is-model : model < length (models (getD l map m₀))
-    pub out : beyond (volumeOf (getD l map m₀)) ((getD (models (getD l map m₀)) model b₀) .listed) ≡ true
+    pub is-model : model < length ((getD l map m₀) .models)
+    pub out : beyond ((getD l map m₀) .volume) ((getD ((getD l map m₀) .models) model b₀) .listed) ≡ true
 
   pub outside-iff : (l : List Map) → (numbersOutside l ≡ true) ↔ Outlying l
   unfolding numbersOutside
   outside-iff l = (to, from)
     where
-      to : any (λ m. any (λ b. beyond (volumeOf m) (b .listed)) (models m)) l ≡ true → Outlying l
+      to : any (λ m. any (λ b. beyond (m .volume) (b .listed)) (m .models)) l ≡ true → Outlying l
       to h =
-          let (i, u, v) = any-iff m₀ (λ m. any (λ b. beyond (volumeOf m) (b .listed)) (models m)) l .0 h in
-          let (j, s, t) = any-iff b₀ (λ b. beyond (volumeOf (getD l i m₀)) (b .listed)) (models (getD l i m₀)) .0 v in
+          let (i, u, v) = any-iff m₀ (λ m. any (λ b. beyond (m .volume) (b .listed)) (m .models)) l .0 h in
+          let (j, s, t) = any-iff b₀ (λ b. beyond ((getD l i m₀) .volume) (b .listed)) ((getD l i m₀) .models) .0 v in
           record { map = i; is-map = u; model = j; is-model = s; out = t }
 
-      from : Outlying l → any (λ m. any (λ b. beyond (volumeOf m) (b .listed)) (models m)) l ≡ true
-      from o = any-iff m₀ (λ m. any (λ b. beyond (volumeOf m) (b .listed)) (models m)) l .1 (
+      from : Outlying l → any (λ m. any (λ b. beyond (m .volume) (b .listed)) (m .models)) l ≡ true
+      from o = any-iff m₀ (λ m. any (λ b. beyond (m .volume) (b .listed)) (m .models)) l .1 (
         o .map,
         o .is-map,
-        any-iff b₀ (λ b. beyond (volumeOf (getD l (o .map) m₀)) (b .listed)) (models (getD l (o .map) m₀)) .1 (o .model, o .is-model, o .out),
+        any-iff b₀ (λ b. beyond ((getD l (o .map) m₀) .volume) (b .listed)) ((getD l (o .map) m₀) .models) .1 (o .model, o .is-model, o .out),
       )
 
 -- ---- CONDITION 11 does not apply: every model lists as many as it counts, and every index of the map is in exactly one model's range.
@@ -198,8 +198,8 @@ record-location (m ∷ l) n = go (covers n m) (record-location l n)
 
 module _ (b₀ : Model) where
   pub record Even (m : Map) : Type 0 where
-    pub lists : EveryPlace b₀ (λ b. listsCount (b .count) (b .listed)) (models m)
-    pub one : (n : ℕ) → n < lengthOf m → OnePlace b₀ (covers n) (models m)
+    pub lists : EveryPlace b₀ (λ b. listsCount (b .count) (b .listed)) (m .models)
+    pub one : (n : ℕ) → n < lengthOf m → OnePlace b₀ (covers n) (m .models)
 
   pub even-iff : (m : Map) → (uneven m ≡ false) ↔ Even m
   unfolding uneven
@@ -209,22 +209,22 @@ module _ (b₀ : Model) where
       lists b = listsCount (b .count) (b .listed)
 
       once : ℕ → Bool
-      once n = eqb (count (covers n) (models m)) 1
+      once n = eqb (count (covers n) (m .models)) 1
 
       split : (x y : Bool) → (x || not y) ≡ false → (x ≡ false) × (y ≡ true)
       split true y h = absurd (true≢false h)
       split false true h = (refl, refl)
       split false false h = absurd (true≢false h)
 
-      to : ((any (λ x. not (lists x)) (models m) || not (allBelow (lengthOf m) once)) ≡ false) → Even m
-      to h = let (f, g) = split (any (λ x. not (lists x)) (models m)) (allBelow (lengthOf m) once) h in
+      to : ((any (λ x. not (lists x)) (m .models) || not (allBelow (lengthOf m) once)) ≡ false) → Even m
+      to h = let (f, g) = split (any (λ x. not (lists x)) (m .models)) (allBelow (lengthOf m) once) h in
           record {
-            lists = none-fails b₀ lists (models m) f;
-            one = λ n u. count-one-iff b₀ (covers n) (models m) .0 (eqb-true (count (covers n) (models m)) 1 (allBelow-iff (lengthOf m) once .0 g n u));
+            lists = none-fails b₀ lists (m .models) f;
+            one = λ n u. count-one-iff b₀ (covers n) (m .models) .0 (eqb-true (count (covers n) (m .models)) 1 (allBelow-iff (lengthOf m) once .0 g n u));
           }
 
-      from : Even m → ((any (λ x. not (lists x)) (models m) || not (allBelow (lengthOf m) once)) ≡ false)
-      from e = rw (fails-none b₀ lists (models m) (e .lists), allBelow-iff (lengthOf m) once .1 (λ n u. eq-eqb (count (covers n) (models m)) 1 (count-one-iff b₀ (covers n) (models m) .1 (e .one n u)))) refl
+      from : Even m → ((any (λ x. not (lists x)) (m .models) || not (allBelow (lengthOf m) once)) ≡ false)
+      from e = rw (fails-none b₀ lists (m .models) (e .lists), allBelow-iff (lengthOf m) once .1 (λ n u. eq-eqb (count (covers n) (m .models)) 1 (count-one-iff b₀ (covers n) (m .models) .1 (e .one n u)))) refl
 
   -- of all brain maps
   pub ranges-iff : (m₀ : Map) (l : List Map) → (rangesWrong l ≡ false) ↔ ((i : ℕ) → i < length (brainMaps l) → Even (getD (brainMaps l) i m₀))
@@ -331,9 +331,9 @@ module _ (b₀ : Model) where
       from (voxel-twice t) = or-right (any vertex l) (twoOf sameVoxel all-voxels) (two-iff (voxel 0 0 0) sameVoxel voxel-iff all-voxels .1 t)
 
   -- of all maps
-  pub twice-iff : (m₀ : Map) (l : List Map) → (locationTwice l ≡ true) ↔ ((i : ℕ) × (i < length l) × Repeated (models (getD l i m₀)))
+  pub twice-iff : (m₀ : Map) (l : List Map) → (locationTwice l ≡ true) ↔ ((i : ℕ) × (i < length l) × Repeated ((getD l i m₀) .models))
   unfolding locationTwice
   twice-iff m₀ l = (
-    λ h. let (i, u, v) = any-iff m₀ (λ m. repeats (models m)) l .0 h in (i, u, repeats-iff (models (getD l i m₀)) .0 v),
-    λ (i, u, v). any-iff m₀ (λ m. repeats (models m)) l .1 (i, u, repeats-iff (models (getD l i m₀)) .1 v),
+    λ h. let (i, u, v) = any-iff m₀ (λ m. repeats (m .models)) l .0 h in (i, u, repeats-iff ((getD l i m₀) .models) .0 v),
+    λ (i, u, v). any-iff m₀ (λ m. repeats (m .models)) l .1 (i, u, repeats-iff ((getD l i m₀) .models) .1 v),
   )

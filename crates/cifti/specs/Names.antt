@@ -10,18 +10,16 @@ use lib.ListN.{length, getD}
 use Rattle.lists.specs.Lists.{any, those, each, eachIn}
 use Rattle.grammar.specs.Document.{Element}
 use Rattle.grammar.specs.Look.{Word, withinOf, children}
-use Rattle.cifti.specs.Maps.{Content, brain, series, scalars, Map, dimensionsOf, mapElements}
+use Rattle.cifti.specs.Maps.{Map, isScalars, dimensionsOf, mapElements}
 use Rattle.cifti.specs.Conditions.{_when_, conditionsTo9, ofMaps, first}
 use Rattle.cifti.specs.Text.{Answers}
 
 -- 18: no such dimension, it is not scalars, or the index is not below its length
-unfoldable pub holdsName : (index : ℕ) → Content → Bool
-holdsName i (brain v l) = false
-holdsName i (series n a b x u) = false
-holdsName i (scalars n) = ltb i n
+unfoldable pub holdsName : (index : ℕ) → Map → Bool
+holdsName i m = isScalars (m .kind) && ltb i (m .names)
 
 unfoldable pub noName : (dimension index : ℕ) → List Map → Bool
-noName d i l = not (any (λ m. any (eqb d) (m .dimensions) && holdsName i (m .content)) l)
+noName d i l = not (any (λ m. any (eqb d) (m .dimensions) && holdsName i m) l)
 
 unfoldable pub nameRefusal : (lengths : List ℕ) (size dimension index : ℕ) → Option Element → ℕ
 nameRefusal lengths size d i e = first (conditionsTo9 lengths size e ++ (18 when ofMaps (noName d i) e ∷ []))

@@ -11,8 +11,8 @@ use lib.ListN.{length, getD, List·getD-append}
 use lib.Seq.{getD-append-add}
 use Rattle.numbers.specs.declared.Decimal.{Decimal}
 use Rattle.lists.specs.Lists.{any, total, eachIn, those, countUp, table}
-use Rattle.cifti.specs.Maps.{Content, Map, models, brainMaps, lengthOf, lengthBy, isBrainBy}
-use Rattle.cifti.specs.Answer.{recordAt, stretch, stretches, described, reach, dimensionAt}
+use Rattle.cifti.specs.Maps.{Map, brainMaps, lengthOf, isBrain, isSeries}
+use Rattle.cifti.specs.Answer.{recordAt, stretch, stretches, noSeries, asSeries, described, reach, dimensionAt}
 use Rattle.cifti.specs.declared.answer.Kind.{Kind}
 use Rattle.cifti.specs.declared.answer.Kind.the-variants.{None, Brain, Series, Scalars}
 use Rattle.cifti.specs.declared.answer.Dimension.{Dimension}
@@ -35,32 +35,45 @@ said d = saidBy (d .kind) d
 
 -- ---- Of a map whose stretch begins at `at`.
 
-unfoldable pub saysOf : (at : ℕ) → Content → Says
-saysOf at (Content.brain v l) = brain (lengthBy (Content.brain v l)) at
-saysOf at (Content.series n a b x u) = series n a b x u
-saysOf at (Content.scalars n) = scalars n
+unfoldable pub saysBy : (at : ℕ) → Kind → Map → Says
+saysBy at None m = no-dimension
+saysBy at Brain m = brain (lengthOf m) at
+saysBy at Series m = series (lengthOf m) (m .series .start) (m .series .step) (m .series .exponent) (m .series .unit)
+saysBy at Scalars m = scalars (lengthOf m)
 
-pub said-of : (at : ℕ) (c : Content) → said (described at c) ≡ saysOf at c
-unfolding said saidBy described saysOf
-said-of at (Content.brain v l) = refl
-said-of at (Content.series n a b x u) = refl
-said-of at (Content.scalars n) = refl
+unfoldable pub saysOf : (at : ℕ) → Map → Says
+saysOf at m = saysBy at (m .kind) m
+
+pub said-of : (at : ℕ) (m : Map) → said (described at m) ≡ saysOf at m
+unfolding said saidBy described saysOf saysBy isBrain isSeries asSeries
+said-of at m = go (m .kind)
+  where
+    go : (k : Kind) → saidBy k (record {
+      kind = k;
+      length = lengthOf m;
+      start = record { 0 = cond (isBrain k) at 0 };
+      series = cond (isSeries k) (asSeries (m .series)) noSeries;
+    }) ≡ saysBy at k m
+    go None = refl
+    go Brain = refl
+    go Series = refl
+    go Scalars = refl
 
 -- ---- Of the first map that lists the dimension: it begins where the stretches of the maps before it end.
 
 pub dimension-of : (k : List Map) (m : Map) (l : List Map) (at d : ℕ) → any (λ x. any (eqb d) (x .dimensions)) k ≡ false → any (eqb d) (m .dimensions) ≡ true
-    → dimensionAt at (k ++ (m ∷ l)) d ≡ described (at + total (λ x. reach (x .content)) k) (m .content)
+    → dimensionAt at (k ++ (m ∷ l)) d ≡ described (at + total reach k) m
 unfolding dimensionAt any total
 dimension-of [] m l at d h t = let e : at + 0 ≡ at = omega arith in rw (t, e) refl
-dimension-of (x ∷ k) m l at d h t = go (any (eqb d) (x .dimensions)) refl h (λ f. dimension-of k m l (at + reach (x .content)) d f t)
+dimension-of (x ∷ k) m l at d h t = go (any (eqb d) (x .dimensions)) refl h (λ f. dimension-of k m l (at + reach x) d f t)
   where
     go : (b : Bool) → any (eqb d) (x .dimensions) ≡ b → (b || any (λ y. any (eqb d) (y .dimensions)) k) ≡ false
-        → (any (λ y. any (eqb d) (y .dimensions)) k ≡ false → dimensionAt (at + reach (x .content)) (k ++ (m ∷ l)) d ≡ described (at + reach (x .content) + total (λ y. reach (y .content)) k) (m .content))
-        → cond b (described at (x .content)) (dimensionAt (at + reach (x .content)) (k ++ (m ∷ l)) d) ≡ described (at + (reach (x .content) + total (λ y. reach (y .content)) k)) (m .content)
+        → (any (λ y. any (eqb d) (y .dimensions)) k ≡ false → dimensionAt (at + reach x) (k ++ (m ∷ l)) d ≡ described (at + reach x + total reach k) m)
+        → cond b (described at x) (dimensionAt (at + reach x) (k ++ (m ∷ l)) d) ≡ described (at + (reach x + total reach k)) m
     go true e f g = absurd (true≢false f)
     go false e f g =
-        let s : at + reach (x .content) + total (λ y. reach (y .content)) k ≡ at + (reach (x .content) + total (λ y. reach (y .content)) k) = omega arith in
-        g f ∙ ap (λ p. described p (m .content)) s
+        let s : at + reach x + total reach k ≡ at + (reach x + total reach k) = omega arith in
+        g f ∙ ap (λ p. described p m) s
 
 -- ---- INDEX n OF THE MAP AT ITS n-TH PLACE of the stretch.
 
@@ -77,32 +90,30 @@ up-at f i (suc n) (suc j) u = let e : suc i + j ≡ i + suc j = omega arith in u
 
 pub stretch-length : (m : Map) → length (stretch m) ≡ lengthOf m
 unfolding stretch table
-stretch-length m = up-length (recordAt (models m)) 0 (lengthOf m)
+stretch-length m = up-length (recordAt (m .models)) 0 (lengthOf m)
 
-pub stretch-at : (m : Map) (n : ℕ) → n < lengthOf m → getD (stretch m) n 0 ≡ recordAt (models m) n
+pub stretch-at : (m : Map) (n : ℕ) → n < lengthOf m → getD (stretch m) n 0 ≡ recordAt (m .models) n
 unfolding stretch table
-stretch-at m n u = let e : 0 + n ≡ n = omega arith in up-at (recordAt (models m)) 0 (lengthOf m) n u ∙ ap (recordAt (models m)) e
+stretch-at m n u = let e : 0 + n ≡ n = omega arith in up-at (recordAt (m .models)) 0 (lengthOf m) n u ∙ ap (recordAt (m .models)) e
 
 -- the stretch of a brain map stands where the answer says, among all stretches
-pub placed : (k : List Map) (m : Map) (l : List Map) (n : ℕ) → isBrainBy (m .content) ≡ true → n < lengthOf m
-    → getD (stretches (k ++ (m ∷ l))) (total (λ x. reach (x .content)) k + n) 0 ≡ recordAt (models m) n
-unfolding stretches brainMaps those eachIn total isBrainBy reach lengthOf
+pub placed : (k : List Map) (m : Map) (l : List Map) (n : ℕ) → isBrain (m .kind) ≡ true → n < lengthOf m
+    → getD (stretches (k ++ (m ∷ l))) (total reach k + n) 0 ≡ recordAt (m .models) n
+unfolding stretches brainMaps those eachIn total reach
 placed [] m l n h u =
     let e : 0 + n ≡ n = omega arith in
     rw (h, e) (List·getD-append (stretch m) (stretches l) 0 n (rw (stretch-length m) u) ∙ stretch-at m n u)
-placed (x ∷ k) m l n h u = go (x .content) refl (placed k m l n h u)
+placed (x ∷ k) m l n h u = go (isBrain (x .kind)) (placed k m l n h u)
   where
     rest : List ℕ
     rest = stretches (k ++ (m ∷ l))
 
     before : ℕ
-    before = total (λ y. reach (y .content)) k
+    before = total reach k
 
-    go : (c : Content) → x .content ≡ c → getD rest (before + n) 0 ≡ recordAt (models m) n
-        → getD (eachIn stretch (cond (isBrainBy c) (x ∷ brainMaps (k ++ (m ∷ l))) (brainMaps (k ++ (m ∷ l))))) (reach c + before + n) 0 ≡ recordAt (models m) n
-    go (Content.brain v b) e f =
-        let s : length (stretch x) ≡ lengthBy (Content.brain v b) = stretch-length x ∙ ap lengthBy e in
-        let t : lengthBy (Content.brain v b) + before + n ≡ length (stretch x) + (before + n) = omega arith in
+    go : (b : Bool) → getD rest (before + n) 0 ≡ recordAt (m .models) n
+        → getD (eachIn stretch (cond b (x ∷ brainMaps (k ++ (m ∷ l))) (brainMaps (k ++ (m ∷ l))))) (cond b (lengthOf x) 0 + before + n) 0 ≡ recordAt (m .models) n
+    go true f =
+        let t : lengthOf x + before + n ≡ length (stretch x) + (before + n) = omega (arith, stretch-length x) in
         rw t (getD-append-add (stretch x) rest (before + n) 0 ∙ f)
-    go (Content.series p a b q r) e f = let t : 0 + before + n ≡ before + n = omega arith in rw t f
-    go (Content.scalars p) e f = let t : 0 + before + n ≡ before + n = omega arith in rw t f
+    go false f = let t : 0 + before + n ≡ before + n = omega arith in rw t f

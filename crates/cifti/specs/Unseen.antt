@@ -17,7 +17,7 @@ use Rattle.numbers.specs.Numbers.{values, commaValues}
 use Rattle.schema.specs.Schema.{shaped, numbered}
 use Rattle.schema.specs.Erased.{walk-erased, shaped-erased, numbered-erased}
 use Rattle.cifti.specs.Rows.{cifti, rows}
-use Rattle.cifti.specs.Maps.{Map, listedBy, modelOf, sizesBy, sizesOf, seriesOf, contentOf, dimensionsOf, mapOf, mapElements, mapsOf}
+use Rattle.cifti.specs.Maps.{Map, listedBy, modelOf, sizesBy, sizesOf, seriesOf, kindOfMap, dimensionsOf, mapOf, mapElements, mapsOf}
 use Rattle.cifti.specs.Conditions.{_when_, textTooLong, noDocument, rootWrong, kindNotRead, shapeWrong, numberWrong, ofMaps, conditionsTo9, conditionsFrom10, conditions, first, refusal}
 use Rattle.cifti.specs.Names.{noName, nameRefusal}
 use Rattle.cifti.specs.Answer.{answerBy, recordsBy, mapsIn, answerTo, recordsAfter}
@@ -52,14 +52,10 @@ series-erased e = rw (attr-erased "NumberOfSeriesPoints" e, attr-erased "SeriesS
 names-erased : (e : Element) → length (children "NamedMap" (plain e)) ≡ length (children "NamedMap" e)
 names-erased e = ap length (children-erased "NamedMap" e) ∙ length-each plain (children "NamedMap" e)
 
-content-erased : (e : Element) → contentOf (plain e) ≡ contentOf e
-unfolding contentOf
-content-erased e =
-    rw (has-erased "IndicesMapToDataType" "CIFTI_INDEX_TYPE_BRAIN_MODELS" e, sizes-erased e, models-erased e, has-erased "IndicesMapToDataType" "CIFTI_INDEX_TYPE_SERIES" e, series-erased e, names-erased e) refl
-
 map-erased : (e : Element) → mapOf (plain e) ≡ mapOf e
-unfolding mapOf dimensionsOf
-map-erased e = rw (attr-erased "AppliesToMatrixDimension" e, content-erased e) refl
+unfolding mapOf dimensionsOf kindOfMap
+map-erased e =
+    rw (attr-erased "AppliesToMatrixDimension" e, attr-erased "IndicesMapToDataType" e, models-erased e, sizes-erased e, series-erased e, names-erased e) refl
 
 elements-erased : (e : Element) → mapElements (plain e) ≡ each plain (mapElements e)
 unfolding mapElements each eachIn

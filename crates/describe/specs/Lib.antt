@@ -1,4 +1,3 @@
-pub mod Kind
 pub mod Reach
 pub mod Room
 pub mod Series

@@ -6,56 +6,61 @@ use Prim.Native.Nat.{ℕ, zero, suc, _+_, _≤_, _<_, min}
 use native.Mathlib.Omega.{arith}
 use native.Mathlib.Decide.{decLt}
 use native.Mathlib.Numerals.{add-one}
-use lib.Dec.{eqb}
+use lib.Dec.{eqb, ltb}
 use lib.ListN.{length, getD, take, drop, List·getD-append}
 use lib.Seq.{drop-cons, getD-take, length-take-le}
 use borrow.Author.Needs.{needs}
 use borrow.Author.Tests.{lt-ltb, le-ltb, ne-eqb}
 use Rattle.lists.specs.Lists.{any, count, each, eachIn, those}
 use Rattle.grammar.specs.Document.{Element}
-use Rattle.grammar.specs.Look.{Word, attr}
+use Rattle.grammar.specs.Look.{Word, attr, children}
 use Rattle.grammar.specs.Look.{withinOf}
 use Rattle.nodes.specs.Places.{Stands, the}
 use Rattle.nodes.specs.declared.Found.{Found}
 use Rattle.nodes.specs.declared.Found.the-variants.{At, Nothing}
-use Rattle.cifti.specs.Maps.{Map, mapOf, contentOf, seriesOf, dimensionsOf}
+use Rattle.cifti.specs.Maps.{Map, mapOf, kindOfMap, isScalars, dimensionsOf}
+use Rattle.cifti.specs.declared.answer.Kind.{Kind}
 use Rattle.cifti.specs.Conditions.{listedDimensions}
 use Rattle.cifti.specs.Names.{holdsName, noName}
-use Rattle.maps.specs.Kinds.{map-dimensions}
 use Rattle.maps.specs.Dimensions.{Small, no-small, one-small, values-small}
 use Rattle.maps.specs.Sums.{MapAt, map-stands}
 use Rattle.maps.specs.Ready.{Ready, places, mapsAt}
 use Rattle.maps.specs.Digits.{Askable, from, from-all, from-none, from-one}
 use Rattle.maps.specs.Nine.{InRoom, room-map, room-place}
 use Rattle.maps.specs.declared.survey.Maps.{Maps}
-use Rattle.describe.specs.Kind.{Asked, content-brain, content-series, content-scalars, good-scalars}
+use Rattle.maps.specs.MapKind.{Asked, asked-brain, asked-series, asked-scalars, good-scalars, map-dimensions}
 use Rattle.describe.specs.Listing.{counted-some, listed-some, listed-none, counted-none}
 use Rattle.describe.specs.Names.{namesOf, ScalarsAt, Nth, nth-past, nth-found}
 
 -- ---- On one map.
 
 pub data OnMap (text : List ℕ) (at index : ℕ) : Found → Type 0 where
-  not-held : holdsName index (contentOf (the text at)) ≡ false → OnMap text at index Nothing
-  held-at : {k : ℕ} → holdsName index (contentOf (the text at)) ≡ true → index < length (namesOf (the text at)) → Stands text k → withinOf (the text k) ≡ getD (namesOf (the text at)) index [] → OnMap text at index (At k)
+  not-held : holdsName index (mapOf (the text at)) ≡ false → OnMap text at index Nothing
+  held-at : {k : ℕ} → holdsName index (mapOf (the text at)) ≡ true → index < length (namesOf (the text at)) → Stands text k → withinOf (the text k) ≡ getD (namesOf (the text at)) index [] → OnMap text at index (At k)
 
-module _ {text : List ℕ} {at : ℕ} (m : MapAt text at) (index : ℕ) {b : Bool} (p : Asked b "CIFTI_INDEX_TYPE_BRAIN_MODELS" (the text at)) where
-  pub on-brain : b ≡ true → OnMap text at index Nothing
-  unfolding holdsName
-  on-brain t = not-held (ap (holdsName index) (content-brain (the text at) p t))
+module _ {text : List ℕ} {at : ℕ} (m : MapAt text at) (index : ℕ) where
+  holds-by : {k : Kind} → kindOfMap (the text at) ≡ k → holdsName index (mapOf (the text at)) ≡ (isScalars k && ltb index (length (children "NamedMap" (the text at))))
+  unfolding holdsName mapOf
+  holds-by h = rw h refl
 
-  module _ (f : b ≡ false) {c : Bool} (q : Asked c "CIFTI_INDEX_TYPE_SERIES" (the text at)) where
-    pub on-series : c ≡ true → OnMap text at index Nothing
-    unfolding holdsName seriesOf
-    on-series t = not-held (ap (holdsName index) (content-series (the text at) p f q t))
+  module _ {b : Bool} (p : Asked b "CIFTI_INDEX_TYPE_BRAIN_MODELS" (the text at)) where
+    pub on-brain : b ≡ true → OnMap text at index Nothing
+    unfolding isScalars
+    on-brain t = not-held (holds-by (asked-brain (the text at) p t))
 
-    pub on-scalars : c ≡ false → {r : Found} → Nth text at index r → OnMap text at index r
-    unfolding holdsName
-    on-scalars t (nth-past h) = not-held (ap (holdsName index) (content-scalars (the text at) p f q t) ∙ le-ltb index _ h)
-    on-scalars t (nth-found h l s n) = held-at (ap (holdsName index) (content-scalars (the text at) p f q t) ∙ lt-ltb index _ h) l s n
+    module _ (f : b ≡ false) {c : Bool} (q : Asked c "CIFTI_INDEX_TYPE_SERIES" (the text at)) where
+      pub on-series : c ≡ true → OnMap text at index Nothing
+      unfolding isScalars
+      on-series t = not-held (holds-by (asked-series (the text at) p f q t))
+
+      pub on-scalars : c ≡ false → {r : Found} → Nth text at index r → OnMap text at index r
+      unfolding isScalars
+      on-scalars t (nth-past h) = not-held (holds-by (asked-scalars (the text at) (m .good) p f q t) ∙ le-ltb index _ h)
+      on-scalars t (nth-found h l s n) = held-at (holds-by (asked-scalars (the text at) (m .good) p f q t) ∙ lt-ltb index _ h) l s n
 
 pub scalars-here : {text : List ℕ} {at : ℕ} → MapAt text at → {b : Bool} → Asked b "CIFTI_INDEX_TYPE_BRAIN_MODELS" (the text at) → b ≡ false
     → {c : Bool} → Asked c "CIFTI_INDEX_TYPE_SERIES" (the text at) → c ≡ false → ScalarsAt text at
-scalars-here {text} {at} m p f q t = record { stands = m .stands; good = good-scalars (the text at) p f q (m .good) t }
+scalars-here {text} {at} m p f q t = record { stands = m .stands; good = good-scalars (m .good) (asked-scalars (the text at) (m .good) p f q t) }
 
 pub ruleset onMap = (map-stands, on-brain, on-series, on-scalars, scalars-here, needs)
 
@@ -92,7 +97,7 @@ count-append p [] l = omega arith
 count-append p (a ∷ k) l = let h = count-append p k l in omega arith
 
 -- no map that lists it
-none-holds : (d index : ℕ) (l : List Map) → count (eqb d) (listedDimensions l) ≡ 0 → any (λ m. any (eqb d) (m .dimensions) && holdsName index (m .content)) l ≡ false
+none-holds : (d index : ℕ) (l : List Map) → count (eqb d) (listedDimensions l) ≡ 0 → any (λ m. any (eqb d) (m .dimensions) && holdsName index m) l ≡ false
 unfolding listedDimensions eachIn any
 none-holds d index [] h = refl
 none-holds d index (m ∷ l) h =
@@ -172,7 +177,7 @@ module _ {text : List ℕ} {maps : Maps} {d index i : ℕ} (go : Looking text ma
     count-splits = ap (λ l. count (eqb d) (listedDimensions l)) (from-one ready i u) ∙ count-append (eqb d) (dimensionsOf (the text (getD (maps .at) i 0))) (listedDimensions (from text maps (i + 1)))
 
     none-splits : noName d index (mapsAt text maps)
-        ≡ not ((any (eqb d) (dimensionsOf (the text (getD (maps .at) i 0))) && holdsName index (contentOf (the text (getD (maps .at) i 0)))) || any (λ m. any (eqb d) (m .dimensions) && holdsName index (m .content)) (from text maps (i + 1)))
+        ≡ not ((any (eqb d) (dimensionsOf (the text (getD (maps .at) i 0))) && holdsName index (mapOf (the text (getD (maps .at) i 0)))) || any (λ m. any (eqb d) (m .dimensions) && holdsName index m) (from text maps (i + 1)))
     unfolding noName any mapOf
     none-splits = go .none-yet ∙ ap (noName d index) (from-one ready i u)
 
@@ -189,7 +194,7 @@ module _ {text : List ℕ} {maps : Maps} {d index i : ℕ} (go : Looking text ma
           yes : any (eqb d) (dimensionsOf (the text (getD (maps .at) i 0))) ≡ true
           yes = listed-some d (dimensionsOf (the text (getD (maps .at) i 0))) p n
 
-          rest : any (λ m. any (eqb d) (m .dimensions) && holdsName index (m .content)) (from text maps (i + 1)) ≡ false
+          rest : any (λ m. any (eqb d) (m .dimensions) && holdsName index m) (from text maps (i + 1)) ≡ false
           rest = none-holds d index (from text maps (i + 1)) (let f = go .few in let s = count-splits in by (count (eqb d) (dimensionsOf (the text (getD (maps .at) i 0)))) (counted-some d (dimensionsOf (the text (getD (maps .at) i 0))) p n) (omega arith))
             where
               by : (x : ℕ) → (x ≡ 0 → ⊥) → x + count (eqb d) (listedDimensions (from text maps (i + 1))) ≤ 1 → count (eqb d) (listedDimensions (from text maps (i + 1))) ≡ 0

@@ -16,24 +16,24 @@ use Rattle.nodes.specs.Children.{first, next}
 use Rattle.nodes.specs.Walk.{kids, kids-within, kids-children}
 use Rattle.nodes.specs.declared.Kid.{Kid}
 use Rattle.nodes.specs.declared.Kid.the-variants.{Child, Done}
-use Rattle.cifti.specs.Maps.{contentOf, seriesOf, mapOf, lengthOf, lengthBy}
+use Rattle.cifti.specs.Maps.{mapOf, lengthOf, isBrain}
 use Rattle.cifti.specs.Answer.{reach}
 use Rattle.maps.specs.Fields.{wordAt, numberSeen}
 use Rattle.maps.specs.Sums.{weightOf, seen-most, MapAt, map-stands, length-brain}
-use Rattle.describe.specs.Kind.{Asked, content-brain, content-series, content-scalars}
+use Rattle.maps.specs.MapKind.{Asked, asked-brain, brain-told}
 
 module _ {text : List ℕ} {at : ℕ} (m : MapAt text at) {b : Bool} (p : Asked b "CIFTI_INDEX_TYPE_BRAIN_MODELS" (the text at)) where
-  pub reach-brain : b ≡ true → {n : ℕ} → n ≡ lengthOf (mapOf (the text at)) → n ≡ reach (contentOf (the text at))
-  unfolding lengthOf mapOf reach
-  reach-brain t q = let c = content-brain (the text at) p t in q ∙ ap lengthBy c ∙ sym (ap reach c)
+  told : isBrain ((mapOf (the text at)) .kind) ≡ b
+  unfolding mapOf
+  told = brain-told (the text at) p
 
-  pub reach-other : b ≡ false → 0 ≡ reach (contentOf (the text at))
-  unfolding reach seriesOf
-  reach-other f = go (same (wordAt (ascii "IndicesMapToDataType") (the text at)) (ascii "CIFTI_INDEX_TYPE_SERIES")) refl
-    where
-      go : (c : Bool) → same (wordAt (ascii "IndicesMapToDataType") (the text at)) (ascii "CIFTI_INDEX_TYPE_SERIES") ≡ c → 0 ≡ reach (contentOf (the text at))
-      go true q = sym (ap reach (content-series (the text at) p f (sym q) refl))
-      go false q = sym (ap reach (content-scalars (the text at) p f (sym q) refl))
+  pub reach-brain : b ≡ true → {n : ℕ} → n ≡ lengthOf (mapOf (the text at)) → n ≡ reach (mapOf (the text at))
+  unfolding reach
+  reach-brain t q = rw (told, t) q
+
+  pub reach-other : b ≡ false → 0 ≡ reach (mapOf (the text at))
+  unfolding reach
+  reach-other f = rw (told, f)
 
 pub ruleset reaching = (map-stands, reach-brain, reach-other, needs)
 
@@ -62,12 +62,12 @@ unfolding total
 total-most [] = omega arith
 total-most (e ∷ l) = let h = weight-most e in let k = total-most l in omega arith
 
-pub reach-most : {text : List ℕ} {at : ℕ} → MapAt text at → reach (contentOf (the text at)) ≤ 17592187092992
+pub reach-most : {text : List ℕ} {at : ℕ} → MapAt text at → reach (mapOf (the text at)) ≤ 17592187092992
 reach-most {text} {at} m = go (same (wordAt (ascii "IndicesMapToDataType") (the text at)) (ascii "CIFTI_INDEX_TYPE_BRAIN_MODELS")) refl
   where
-    go : (b : Bool) → same (wordAt (ascii "IndicesMapToDataType") (the text at)) (ascii "CIFTI_INDEX_TYPE_BRAIN_MODELS") ≡ b → reach (contentOf (the text at)) ≤ 17592187092992
+    go : (b : Bool) → same (wordAt (ascii "IndicesMapToDataType") (the text at)) (ascii "CIFTI_INDEX_TYPE_BRAIN_MODELS") ≡ b → reach (mapOf (the text at)) ≤ 17592187092992
     go true q =
-        let n = reach-brain m (sym q) refl (length-brain m (sym q) refl refl) in
+        let n = reach-brain m (sym q) refl (length-brain m (asked-brain (the text at) (sym q) refl) refl) in
         let t = total-most (elements (contentsOf (the text at))) in
         let f = few-children (m .stands) in
         let s = m .short in

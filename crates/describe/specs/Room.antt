@@ -9,9 +9,10 @@ use lib.Dec.{ltb}
 use lib.ListN.{length, getD}
 use borrow.Author.Needs.{needs}
 use borrow.Author.Tests.{lt-ltb, le-ltb}
+use Rattle.lists.specs.Booleans.{or-true}
 use Rattle.lists.specs.Lists.{total, greatest, those}
 use Rattle.nodes.specs.Places.{the}
-use Rattle.cifti.specs.Maps.{Content, brain, series, scalars, Map, mapOf, contentOf, lengthOf, lengthBy, isBrainBy, brainMaps}
+use Rattle.cifti.specs.Maps.{Map, mapOf, lengthOf, isBrain, brainMaps}
 use Rattle.cifti.specs.Conditions.{roomShort}
 use Rattle.cifti.specs.Answer.{reach}
 use Rattle.maps.specs.Sums.{Measured}
@@ -20,44 +21,33 @@ use Rattle.maps.specs.Digits.{from, from-all, from-none, from-one}
 use Rattle.maps.specs.Nine.{InRoom, room-map, room-place, room-length}
 use Rattle.maps.specs.declared.survey.Maps.{Maps}
 
-unfoldable pub reachOf : Map → ℕ
-reachOf m = reach (m .content)
-
-one-total : (m : Map) (c : Content) → m .content ≡ c → (l : List Map) → total lengthOf (cond (isBrainBy (m .content)) (m ∷ l) l) ≡ reach (m .content) + total lengthOf l
-unfolding total isBrainBy reach lengthOf lengthBy
-one-total m (brain v k) e l = rw e refl
-one-total m (series n a b x u) e l = rw e (omega arith)
-one-total m (scalars n) e l = rw e (omega arith)
-
-one-greatest : (m : Map) (c : Content) → m .content ≡ c → (l : List Map) → greatest lengthOf (cond (isBrainBy (m .content)) (m ∷ l) l) ≡ max (reach (m .content)) (greatest lengthOf l)
-unfolding greatest isBrainBy reach lengthOf lengthBy
-one-greatest m (brain v k) e l = rw e refl
-one-greatest m (series n a b x u) e l = rw e (omega arith)
-one-greatest m (scalars n) e l = rw e (omega arith)
-
-pub brain-total : (l : List Map) → total lengthOf (brainMaps l) ≡ total reachOf l
-unfolding brainMaps those total reachOf
+pub brain-total : (l : List Map) → total lengthOf (brainMaps l) ≡ total reach l
+unfolding brainMaps those total reach
 brain-total [] = refl
-brain-total (m ∷ l) = one-total m (m .content) refl (those (λ n. isBrainBy (n .content)) l) ∙ ap (λ n. reach (m .content) + n) (brain-total l)
+brain-total (m ∷ l) = go (isBrain (m .kind)) (brain-total l)
+  where
+    go : (b : Bool) → total lengthOf (brainMaps l) ≡ total reach l → total lengthOf (cond b (m ∷ brainMaps l) (brainMaps l)) ≡ cond b (lengthOf m) 0 + total reach l
+    go true h = ap (λ n. lengthOf m + n) h
+    go false h = omega arith
 
-pub brain-greatest : (l : List Map) → greatest lengthOf (brainMaps l) ≡ greatest reachOf l
-unfolding brainMaps those greatest reachOf
+pub brain-greatest : (l : List Map) → greatest lengthOf (brainMaps l) ≡ greatest reach l
+unfolding brainMaps those greatest reach
 brain-greatest [] = refl
-brain-greatest (m ∷ l) = one-greatest m (m .content) refl (those (λ n. isBrainBy (n .content)) l) ∙ ap (max (reach (m .content))) (brain-greatest l)
+brain-greatest (m ∷ l) = go (isBrain (m .kind)) (brain-greatest l)
+  where
+    go : (b : Bool) → greatest lengthOf (brainMaps l) ≡ greatest reach l → greatest lengthOf (cond b (m ∷ brainMaps l) (brainMaps l)) ≡ max (cond b (lengthOf m) 0) (greatest reach l)
+    go true h = ap (max (lengthOf m)) h
+    go false h = omega arith
 
 -- ---- The loop.
 
 -- with so much room left for these maps, there is too little
 abbrev short : (left work : ℕ) → List Map → Bool
-short left work l = ltb left (total reachOf l) || ltb work (greatest reachOf l)
+short left work l = ltb left (total reach l) || ltb work (greatest reach l)
 
 short-is : (room work : ℕ) (l : List Map) → roomShort room work l ≡ short room work l
 unfolding roomShort
 short-is room work l = rw (brain-total l, brain-greatest l)
-
-or-true : (b : Bool) → (b || true) ≡ true
-or-true true = refl
-or-true false = refl
 
 ltb-same : (a b c d : ℕ) → (a < b → c < d) → (c < d → a < b) → ltb a b ≡ ltb c d
 ltb-same a b c d f g = go (decLt a b)
@@ -93,27 +83,27 @@ module _ {text : List ℕ} {maps : Maps} where
       pub housing-map : Measured text (getD (maps .at) i 0) (getD (maps .length) i 0)
       housing-map = room-map (go .room-in) u
 
-      module _ {size : ℕ} (p : size ≡ reach (contentOf (the text (getD (maps .at) i 0)))) where
-        split : roomShort room work (mapsAt text maps) ≡ (ltb left (size + total reachOf (from text maps (i + 1))) || ltb work (max size (greatest reachOf (from text maps (i + 1)))))
-        unfolding total greatest reachOf mapOf
+      module _ {size : ℕ} (p : size ≡ reach (mapOf (the text (getD (maps .at) i 0)))) where
+        split : roomShort room work (mapsAt text maps) ≡ (ltb left (size + total reach (from text maps (i + 1))) || ltb work (max size (greatest reach (from text maps (i + 1)))))
+        unfolding total greatest
         split =
             go .so-far ∙ ap (short left work) (from-one (go .room-in .ready) i u)
-            ∙ ap (λ n. ltb left (n + total reachOf (from text maps (i + 1))) || ltb work (max n (greatest reachOf (from text maps (i + 1))))) (sym p)
+            ∙ ap (λ n. ltb left (n + total reach (from text maps (i + 1))) || ltb work (max n (greatest reach (from text maps (i + 1))))) (sym p)
 
         pub housing-work : work < size → true ≡ roomShort room work (mapsAt text maps)
         housing-work h =
-            let z : ltb work (max size (greatest reachOf (from text maps (i + 1)))) ≡ true = lt-ltb work _ (omega arith) in
-            sym (split ∙ rw z (or-true (ltb left (size + total reachOf (from text maps (i + 1))))))
+            let z : ltb work (max size (greatest reach (from text maps (i + 1)))) ≡ true = lt-ltb work _ (omega arith) in
+            sym (split ∙ rw z (or-true (ltb left (size + total reach (from text maps (i + 1))))))
 
         pub housing-left : left < size → true ≡ roomShort room work (mapsAt text maps)
         housing-left h =
-            let z : ltb left (size + total reachOf (from text maps (i + 1))) ≡ true = lt-ltb left _ (omega arith) in
+            let z : ltb left (size + total reach (from text maps (i + 1))) ≡ true = lt-ltb left _ (omega arith) in
             sym (split ∙ rw z)
 
         pub housing-more : size ≤ work → size ≤ left → Housing text maps room work (left - size) (i + 1)
         housing-more h k =
-            let t : ltb left (size + total reachOf (from text maps (i + 1))) ≡ ltb (left - size) (total reachOf (from text maps (i + 1))) = ltb-same left (size + total reachOf (from text maps (i + 1))) (left - size) (total reachOf (from text maps (i + 1))) (λ x. omega arith) (λ x. omega arith) in
-            let w : ltb work (max size (greatest reachOf (from text maps (i + 1)))) ≡ ltb work (greatest reachOf (from text maps (i + 1))) = ltb-same work (max size (greatest reachOf (from text maps (i + 1)))) work (greatest reachOf (from text maps (i + 1))) (λ x. omega arith) (λ x. omega arith) in
+            let t : ltb left (size + total reach (from text maps (i + 1))) ≡ ltb (left - size) (total reach (from text maps (i + 1))) = ltb-same left (size + total reach (from text maps (i + 1))) (left - size) (total reach (from text maps (i + 1))) (λ x. omega arith) (λ x. omega arith) in
+            let w : ltb work (max size (greatest reach (from text maps (i + 1)))) ≡ ltb work (greatest reach (from text maps (i + 1))) = ltb-same work (max size (greatest reach (from text maps (i + 1)))) work (greatest reach (from text maps (i + 1))) (λ x. omega arith) (λ x. omega arith) in
             record { room-in = go .room-in; so-far = split ∙ rw (t, w) }
 
 pub ruleset housing = (housing-start, housing-done, housing-place, housing-length, housing-map, housing-work, housing-left, housing-more, needs)

@@ -12,8 +12,8 @@ use lib.Seq.{getD-set-same, getD-set-other}
 use borrow.Author.Needs.{needs}
 use Rattle.lists.specs.Lists.{any, count}
 use Rattle.nodes.specs.Places.{the}
-use Rattle.cifti.specs.Maps.{Content, brain, series, scalars, Map, mapOf, contentOf, seriesOf, dimensionsOf, lengthOf, lengthBy}
-use Rattle.cifti.specs.Answer.{noSeries, dimensionBy, unused, described, reach, dimensionAt, acceptedWith}
+use Rattle.cifti.specs.Maps.{Map, mapOf, kindOfMap, isBrain, isSeries, seriesOf, dimensionsOf, lengthOf}
+use Rattle.cifti.specs.Answer.{noSeries, asSeries, dimensionBy, unused, described, reach, dimensionAt, acceptedWith}
 use Rattle.cifti.specs.declared.answer.Kind.{Kind}
 use Rattle.cifti.specs.declared.answer.Kind.the-variants.{None, Brain, Series, Scalars}
 use Rattle.cifti.specs.declared.answer.Series as S
@@ -24,7 +24,7 @@ use Rattle.maps.specs.Ready.{Ready, mapsAt}
 use Rattle.maps.specs.Digits.{Askable, from, from-all, from-none, from-one}
 use Rattle.maps.specs.Nine.{InRoom, room-map, room-place, room-length}
 use Rattle.maps.specs.declared.survey.Maps.{Maps}
-use Rattle.describe.specs.Kind.{Asked, content-brain, content-series, content-scalars, good-series}
+use Rattle.maps.specs.MapKind.{Asked, asked-brain, asked-series, asked-scalars, good-series}
 use Rattle.describe.specs.Reach.{reach-most}
 use Rattle.describe.specs.Series.{SeriesAt, seriesSaid}
 use Rattle.describe.specs.Listing.{listed-some, listed-none}
@@ -41,25 +41,38 @@ scalarsSaid n = dimensionBy Scalars n 0 noSeries
 
 -- ---- One map.
 
-module _ {text : List ℕ} {at n : ℕ} (m : Measured text at n) (start : ℕ) {b : Bool} (p : Asked b "CIFTI_INDEX_TYPE_BRAIN_MODELS" (the text at)) where
-  pub described-brain : b ≡ true → {r : Dimension} → r ≡ brainSaid n start → r ≡ described start (contentOf (the text at))
-  unfolding described lengthOf mapOf
-  described-brain t k = let c = content-brain (the text at) p t in k ∙ ap (λ x. brainSaid x start) (m .long ∙ ap lengthBy c) ∙ sym (ap (described start) c)
+-- by its kind
+saidAs : (start : ℕ) → Map → Kind → Dimension
+saidAs start m k = record {
+  kind = k;
+  length = lengthOf m;
+  start = record { 0 = cond (isBrain k) start 0 };
+  series = cond (isSeries k) (asSeries (m .series)) noSeries;
+}
 
-  module _ (f : b ≡ false) {c : Bool} (q : Asked c "CIFTI_INDEX_TYPE_SERIES" (the text at)) where
-    pub described-series : c ≡ true → {s : S.Series} → s ≡ seriesSaid (the text at) → {r : Dimension} → r ≡ seriesDimension n s → r ≡ described start (contentOf (the text at))
-    unfolding described lengthOf lengthBy mapOf seriesOf seriesSaid
-    described-series t {s} v k =
-        let z = content-series (the text at) p f q t in
-        k ∙ ap (λ x. seriesDimension x s) (m .long ∙ ap lengthBy z) ∙ ap (seriesDimension (lengthBy (seriesOf (the text at)))) v ∙ sym (ap (described start) z)
+module _ {text : List ℕ} {at n : ℕ} (m : Measured text at n) (start : ℕ) where
+  said-as : {k : Kind} → kindOfMap (the text at) ≡ k → described start (mapOf (the text at)) ≡ saidAs start (mapOf (the text at)) k
+  unfolding described saidAs mapOf
+  said-as h = rw h refl
 
-    pub described-scalars : c ≡ false → {r : Dimension} → r ≡ scalarsSaid n → r ≡ described start (contentOf (the text at))
-    unfolding described lengthOf lengthBy mapOf
-    described-scalars t k = let z = content-scalars (the text at) p f q t in k ∙ ap scalarsSaid (m .long ∙ ap lengthBy z) ∙ sym (ap (described start) z)
+  module _ {b : Bool} (p : Asked b "CIFTI_INDEX_TYPE_BRAIN_MODELS" (the text at)) where
+    pub described-brain : b ≡ true → {r : Dimension} → r ≡ brainSaid n start → r ≡ described start (mapOf (the text at))
+    unfolding saidAs isBrain isSeries
+    described-brain t k = k ∙ ap (λ x. brainSaid x start) (m .long) ∙ sym (said-as (asked-brain (the text at) p t))
+
+    module _ (f : b ≡ false) {c : Bool} (q : Asked c "CIFTI_INDEX_TYPE_SERIES" (the text at)) where
+      pub described-series : c ≡ true → {s : S.Series} → s ≡ seriesSaid (the text at) → {r : Dimension} → r ≡ seriesDimension n s → r ≡ described start (mapOf (the text at))
+      unfolding saidAs isBrain isSeries seriesSaid asSeries seriesOf mapOf
+      described-series t {s} v k =
+          k ∙ ap (λ x. seriesDimension x s) (m .long) ∙ ap (seriesDimension (lengthOf (mapOf (the text at)))) v ∙ sym (said-as (asked-series (the text at) p f q t))
+
+      pub described-scalars : c ≡ false → {r : Dimension} → r ≡ scalarsSaid n → r ≡ described start (mapOf (the text at))
+      unfolding saidAs isBrain isSeries
+      described-scalars t k = k ∙ ap scalarsSaid (m .long) ∙ sym (said-as (asked-scalars (the text at) (m .map .good) p f q t))
 
 pub series-here : {text : List ℕ} {at : ℕ} → MapAt text at → {b : Bool} → Asked b "CIFTI_INDEX_TYPE_BRAIN_MODELS" (the text at) → b ≡ false
     → {c : Bool} → Asked c "CIFTI_INDEX_TYPE_SERIES" (the text at) → c ≡ true → SeriesAt text at
-series-here {text} {at} m p f q t = record { stands = m .stands; good = good-series (the text at) p f q (m .good) t }
+series-here {text} {at} m p f q t = record { stands = m .stands; good = good-series (m .good) (asked-series (the text at) p f q t) }
 
 pub ruleset describing = (map-stands, described-brain, described-series, described-scalars, series-here, needs)
 
@@ -93,21 +106,25 @@ module _ (d : Dimension) where
 
 pub ruleset taking = (takes-none, takes-brain, takes-series, takes-scalars, needs)
 
-takes-described : (s : ℕ) (c : Content) → takes (described s c) ≡ reach c
-unfolding takes takesBy described reach
-takes-described s (brain v l) = refl
-takes-described s (series n a b x u) = refl
-takes-described s (scalars n) = refl
+takes-described : (s : ℕ) (m : Map) → takes (described s m) ≡ reach m
+unfolding takes takesBy described reach isBrain
+takes-described s m = go (m .kind)
+  where
+    go : (k : Kind) → takesBy k (lengthOf m) ≡ cond (isBrain k) (lengthOf m) 0
+    go None = refl
+    go Brain = refl
+    go Series = refl
+    go Scalars = refl
 
 -- ---- Each map, with its start.
 
 unfoldable pub startOf : List ℕ → Maps → ℕ → ℕ
 startOf text maps zero = 0
-startOf text maps (suc i) = startOf text maps i + reach (contentOf (the text (getD (maps .at) i 0)))
+startOf text maps (suc i) = startOf text maps i + reach (mapOf (the text (getD (maps .at) i 0)))
 
 pub record AllSaid (text : List ℕ) (maps : Maps) (r : Said) : Type 0 where
   pub three : length (r .each) ≡ 3
-  pub says : (z : Dimension) (j : ℕ) → j < maps .count → getD (r .each) j z ≡ described (startOf text maps j) (contentOf (the text (getD (maps .at) j 0)))
+  pub says : (z : Dimension) (j : ℕ) → j < maps .count → getD (r .each) j z ≡ described (startOf text maps j) (mapOf (the text (getD (maps .at) j 0)))
 
 pub record Saying (text : List ℕ) (maps : Maps) (start i : ℕ) (r : Said) : Type 0 where
   pub room-in : InRoom text maps
@@ -115,7 +132,7 @@ pub record Saying (text : List ℕ) (maps : Maps) (start i : ℕ) (r : Said) : T
   pub within : i ≤ 3
   pub start-is : start ≡ startOf text maps i
   pub low : start ≤ i * 17592187092992
-  pub says : (z : Dimension) (j : ℕ) → j < i → getD (r .each) j z ≡ described (startOf text maps j) (contentOf (the text (getD (maps .at) j 0)))
+  pub says : (z : Dimension) (j : ℕ) → j < i → getD (r .each) j z ≡ described (startOf text maps j) (mapOf (the text (getD (maps .at) j 0)))
 
 pub saying-start : {text : List ℕ} {maps : Maps} (r : Said) → length (r .each) ≡ 3 → InRoom text maps → Saying text maps 0 0 r
 unfolding startOf
@@ -138,9 +155,9 @@ module _ {text : List ℕ} {maps : Maps} {start i : ℕ} {r : Said} (go : Saying
     pub saying-map : Measured text (getD (maps .at) i 0) (getD (maps .length) i 0)
     saying-map = room-map (go .room-in) u
 
-    module _ {said : Dimension} (p : said ≡ described start (contentOf (the text (getD (maps .at) i 0)))) {n : ℕ} (q : n ≡ takes said) where
-      taken : n ≡ reach (contentOf (the text (getD (maps .at) i 0)))
-      taken = q ∙ ap takes p ∙ takes-described start (contentOf (the text (getD (maps .at) i 0)))
+    module _ {said : Dimension} (p : said ≡ described start (mapOf (the text (getD (maps .at) i 0)))) {n : ℕ} (q : n ≡ takes said) where
+      taken : n ≡ reach (mapOf (the text (getD (maps .at) i 0)))
+      taken = q ∙ ap takes p ∙ takes-described start (mapOf (the text (getD (maps .at) i 0)))
 
       pub saying-fits : start + n < 2 ^ 64
       saying-fits = let t = taken in let m = reach-most (saying-map .map) in let l = go .low in let w = go .within in omega arith
@@ -156,8 +173,8 @@ module _ {text : List ℕ} {maps : Maps} {start i : ℕ} {r : Said} (go : Saying
         says = λ z j v. (rw e (by z j v (ℕ-discrete j i)));
       }
         where
-          by : (z : Dimension) (j : ℕ) → j < i + 1 → Dec (j ≡ i) → getD (set (r .each) i said) j z ≡ described (startOf text maps j) (contentOf (the text (getD (maps .at) j 0)))
-          by z j v (yes x) = rw x (getD-set-same (r .each) i said z saying-room ∙ p ∙ ap (λ k. described k (contentOf (the text (getD (maps .at) i 0)))) (go .start-is))
+          by : (z : Dimension) (j : ℕ) → j < i + 1 → Dec (j ≡ i) → getD (set (r .each) i said) j z ≡ described (startOf text maps j) (mapOf (the text (getD (maps .at) j 0)))
+          by z j v (yes x) = rw x (getD-set-same (r .each) i said z saying-room ∙ p ∙ ap (λ k. described k (mapOf (the text (getD (maps .at) i 0)))) (go .start-is))
           by z j v (no x) = getD-set-other (r .each) i j said z x ∙ go .says z j (omega arith)
 
 pub ruleset saying = (saying-start, saying-done, saying-place, saying-length, saying-room, saying-map, saying-fits, saying-more, needs)
@@ -197,7 +214,7 @@ module _ {text : List ℕ} {maps : Maps} {all : Said} {d : ℕ} where
       picking-asks = record { stands = ready .stand i u; good = ready .good i u; digit = go .choosing .digit }
 
       module _ {c : ℕ} (p : c ≡ min 2 (count (eqb d) (dimensionsOf (the text (getD (maps .at) i 0))))) where
-        split : dimensionAt 0 (mapsAt text maps) d ≡ cond (any (eqb d) (dimensionsOf (the text (getD (maps .at) i 0)))) (described (startOf text maps i) (contentOf (the text (getD (maps .at) i 0)))) (dimensionAt (startOf text maps i + reach (contentOf (the text (getD (maps .at) i 0)))) (from text maps (i + 1)) d)
+        split : dimensionAt 0 (mapsAt text maps) d ≡ cond (any (eqb d) (dimensionsOf (the text (getD (maps .at) i 0)))) (described (startOf text maps i) (mapOf (the text (getD (maps .at) i 0)))) (dimensionAt (startOf text maps i + reach (mapOf (the text (getD (maps .at) i 0)))) (from text maps (i + 1)) d)
         unfolding dimensionAt mapOf
         split = go .so-far ∙ ap (λ l. dimensionAt (startOf text maps i) l d) (from-one ready i u)
 

@@ -20,7 +20,7 @@ use Rattle.nodes.specs.declared.Found.{Found}
 use Rattle.nodes.specs.declared.Found.the-variants.{At, Nothing}
 use Rattle.cifti.specs.Maps.{Map, mapOf, dimensionsOf}
 use Rattle.cifti.specs.Conditions.{listedDimensions}
-use Rattle.maps.specs.Kinds.{GoodMap, map-dimensions}
+use Rattle.maps.specs.MapKind.{GoodMap, map-dimensions}
 use Rattle.maps.specs.Fields.{wordAt, word-at, found-value, found-none}
 use Rattle.maps.specs.Dimensions.{counted}
 use Rattle.maps.specs.Seen.{Lists}

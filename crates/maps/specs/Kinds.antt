@@ -11,6 +11,7 @@ use lib.Dec.{eqb, leb}
 use lib.ListN.{length, getD}
 use borrow.Author.Tests.{eqb-true}
 use Rattle.lists.specs.Lists.{all, any, count, isSome, ifThere, there, those}
+use Rattle.lists.specs.Booleans.{never-some}
 use Rattle.lists.specs.Quantifiers.{EveryPlace, all-iff}
 use Rattle.grammar.specs.Bytes.{ascii}
 use Rattle.grammar.specs.Document.{Attribute, attribute, Element, Contents}
@@ -56,14 +57,6 @@ namedRows = child "MapName" once (always words) ∷ child "MetaData" atMostOnce 
 
 -- ---- The kind of a MatrixIndicesMap, of a BrainModel.
 
-pub data GoodMap (e : Element) : Type 0 where
-  brain-map : Good brainModels e → has "IndicesMapToDataType" "CIFTI_INDEX_TYPE_BRAIN_MODELS" e ≡ true → GoodMap e
-  series-map : Good series e → has "IndicesMapToDataType" "CIFTI_INDEX_TYPE_BRAIN_MODELS" e ≡ false → has "IndicesMapToDataType" "CIFTI_INDEX_TYPE_SERIES" e ≡ true → GoodMap e
-  scalars-map : Good scalars e → has "IndicesMapToDataType" "CIFTI_INDEX_TYPE_BRAIN_MODELS" e ≡ false → has "IndicesMapToDataType" "CIFTI_INDEX_TYPE_SERIES" e ≡ false → GoodMap e
-
-pub never-some : {A : Type 0} {a : A} {P : Type 0} → _≡_ {A = Option A} Option.none (some a) → P
-never-some p = absurd (let z : _≡_ {A = ℕ} 0 1 = cc in omega arith)
-
 pub has-value : (a s : String) (e : Element) (v : Word) → valueIn a (attributesOf e) ≡ some v → has a s e ≡ is s v
 unfolding has attr orEmpty
 has-value a s e v p = rw p
@@ -71,11 +64,6 @@ has-value a s e v p = rw p
 chosen-none : (l : List (Case ElementKind)) → kindChosen l Option.none ≡ Option.none
 unfolding kindChosen
 chosen-none l = refl
-
-chosen-map : (v : Word) → kindChosen mapKinds (some v)
-    ≡ cond (is "CIFTI_INDEX_TYPE_BRAIN_MODELS" v) (some brainModels) (cond (is "CIFTI_INDEX_TYPE_SERIES" v) (some series) (cond (is "CIFTI_INDEX_TYPE_SCALARS" v) (some scalars) Option.none))
-unfolding kindChosen kindAmong mapKinds
-chosen-map v = refl
 
 chosen-model : (v : Word) → kindChosen modelTypes (some v) ≡ cond (is "CIFTI_MODEL_TYPE_SURFACE" v) (some surface) (cond (is "CIFTI_MODEL_TYPE_VOXELS" v) (some voxels) Option.none)
 unfolding kindChosen kindAmong modelTypes
@@ -103,25 +91,6 @@ map-word e {k} q n = go (valueIn "IndicesMapToDataType" (attributesOf e)) refl (
     go : (o : Option Word) → valueIn "IndicesMapToDataType" (attributesOf e) ≡ o → kindChosen mapKinds o ≡ some k → MapWord e k
     go Option.none p r = never-some (rw chosen-none at r)
     go (some v) p r = record { word = v; said = p; chooses = r }
-
-pub good-map : (e : Element) → GoodAs matrixRows e → is "MatrixIndicesMap" (nameOf e) ≡ true → GoodMap e
-good-map e (good-as {k} q g) n = pick (is "CIFTI_INDEX_TYPE_BRAIN_MODELS" v) (is "CIFTI_INDEX_TYPE_SERIES" v) (is "CIFTI_INDEX_TYPE_SCALARS" v) refl refl (rw chosen-map at (w .chooses))
-  where
-    w : MapWord e k
-    w = map-word e q n
-
-    v : Word
-    v = w .word
-
-    by : (s : String) → has "IndicesMapToDataType" s e ≡ is s v
-    by s = has-value "IndicesMapToDataType" s e v (w .said)
-
-    pick : (a b c : Bool) → is "CIFTI_INDEX_TYPE_BRAIN_MODELS" v ≡ a → is "CIFTI_INDEX_TYPE_SERIES" v ≡ b
-        → cond a (some brainModels) (cond b (some series) (cond c (some scalars) Option.none)) ≡ some k → GoodMap e
-    pick true b c x y r = let z : k ≡ brainModels = cc in brain-map (subst (λ (j : ElementKind). Good j e) z g) (by _ ∙ x)
-    pick false true c x y r = let z : k ≡ series = cc in series-map (subst (λ (j : ElementKind). Good j e) z g) (by _ ∙ x) (by _ ∙ y)
-    pick false false true x y r = let z : k ≡ scalars = cc in scalars-map (subst (λ (j : ElementKind). Good j e) z g) (by _ ∙ x) (by _ ∙ y)
-    pick false false false x y r = never-some r
 
 pub data GoodModel (e : Element) : Type 0 where
   surface-model : Good surface e → has "ModelType" "CIFTI_MODEL_TYPE_VOXELS" e ≡ false → GoodModel e
@@ -284,18 +253,18 @@ rows-matrix = refl
 pub matrix-children : {e : Element} → Good matrix e → AllGood matrixRows (elements (contentsOf e))
 matrix-children g = good-children g _ _ _ rows-matrix
 
-rows-brain : rows brainModels ≡ branch mapAttributes anyOrder brainRows
+pub rows-brain : rows brainModels ≡ branch mapAttributes anyOrder brainRows
 unfolding rows
 rows-brain = refl
 
 pub brain-children : {e : Element} → Good brainModels e → AllGood brainRows (elements (contentsOf e))
 brain-children g = good-children g _ _ _ rows-brain
 
-rows-series : rows series ≡ branch (mapAttributes ++ seriesAttributes) anyOrder []
+pub rows-series : rows series ≡ branch (mapAttributes ++ seriesAttributes) anyOrder []
 unfolding rows
 rows-series = refl
 
-rows-scalars : rows scalars ≡ branch mapAttributes anyOrder scalarRows
+pub rows-scalars : rows scalars ≡ branch mapAttributes anyOrder scalarRows
 unfolding rows
 rows-scalars = refl
 
@@ -305,12 +274,6 @@ rows-volume = refl
 
 pub volume-sizes : {e : Element} → Good volume e → volumeDimensions 2048 2048 4096 (attr "VolumeDimensions" e) ≡ true
 volume-sizes g = in-form g _ _ _ rows-volume 0 (omega arith) "VolumeDimensions" (volumeDimensions 2048 2048 4096) refl
-
-pub map-dimensions : {e : Element} → GoodMap e → dimensionList (attr "AppliesToMatrixDimension" e) ≡ true
-unfolding mapAttributes
-map-dimensions (brain-map g h) = in-form g _ _ _ rows-brain 0 (omega arith) "AppliesToMatrixDimension" dimensionList refl
-map-dimensions (series-map g h i) = in-form g _ _ _ rows-series 0 (omega arith) "AppliesToMatrixDimension" dimensionList refl
-map-dimensions (scalars-map g h i) = in-form g _ _ _ rows-scalars 0 (omega arith) "AppliesToMatrixDimension" dimensionList refl
 
 pub record SeriesFacts (e : Element) : Type 0 where
   pub points : whole 1 1048576 (attr "NumberOfSeriesPoints" e) ≡ true

@@ -5,6 +5,7 @@ pub mod Chain
 pub mod Fill
 pub mod Table
 pub mod Fields
+pub mod MapKind
 pub mod Dimensions
 pub mod Seen
 pub mod Listed

@@ -16,7 +16,7 @@ use Rattle.grammar.specs.Look.{attr}
 use Rattle.nodes.specs.Places.{Stands, the}
 use Rattle.cifti.specs.Maps.{Map, mapOf, dimensionsOf}
 use Rattle.cifti.specs.Conditions.{lengthWrong}
-use Rattle.maps.specs.Kinds.{GoodMap, map-dimensions}
+use Rattle.maps.specs.MapKind.{GoodMap, map-dimensions}
 use Rattle.maps.specs.Dimensions.{Small, values-small}
 use Rattle.maps.specs.Listed.{any-some, any-none}
 use Rattle.maps.specs.Sums.{MapAt, Measured}

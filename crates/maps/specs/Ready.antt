@@ -20,7 +20,8 @@ use Rattle.cifti.specs.Rows.{matrix}
 use Rattle.cifti.specs.Maps.{Map, mapOf, dimensionsOf, lengthOf}
 use Rattle.cifti.specs.Conditions.{listedDimensions, dimensionsWrong}
 use Rattle.maps.specs.Good.{Good, GoodAs, AllGood, none-left, one-good}
-use Rattle.maps.specs.Kinds.{GoodMap, good-map, matrixRows, matrix-children, map-dimensions}
+use Rattle.maps.specs.Kinds.{matrixRows, matrix-children}
+use Rattle.maps.specs.MapKind.{GoodMap, good-map, map-dimensions}
 use Rattle.maps.specs.Dimensions.{Small, no-small, one-small, values-small, values-some}
 use Rattle.maps.specs.Survey.{Holds, AllStand, none-stands, one-stands, MapsAre}
 use Rattle.maps.specs.declared.survey.Maps.{Maps}

@@ -9,6 +9,7 @@ use lib.Dec.{leb}
 use lib.ListN.{length, drop, length-drop}
 use borrow.Author.Needs.{needs}
 use borrow.Author.Tests.{leb-true}
+use Rattle.lists.specs.Booleans.{clash}
 use Rattle.lists.specs.Lists.{all, total, each, those}
 use Rattle.grammar.specs.Bytes.{ascii, between, blank}
 use Rattle.grammar.specs.Document.{Element}
@@ -35,9 +36,11 @@ use Rattle.nodes.specs.Names.{named, name-is-law}
 use Rattle.nodes.specs.Walk.{kids, Walk, Turn, walk-children, kids-children, walk-none, turn-at, turn-splits, turn-falls, left-fits}
 use Rattle.nodes.specs.declared.Kid.{Kid}
 use Rattle.cifti.specs.Rows.{brainModels, series, scalars}
-use Rattle.cifti.specs.Maps.{Model, Map, mapOf, modelOf, contentOf, seriesOf, lengthOf, lengthBy, brain}
+use Rattle.cifti.specs.Maps.{Model, Map, mapOf, modelOf, seriesOf, kindOfMap, lengthOf, lengthBy}
+use Rattle.cifti.specs.declared.answer.Kind.the-variants.{Brain, Series, Scalars}
+use Rattle.maps.specs.MapKind.{GoodMap, good-brain, good-series, Asked, asked-brain, asked-series, asked-scalars}
 use Rattle.maps.specs.Good.{Good, GoodAs, AllGood, none-left, one-good}
-use Rattle.maps.specs.Kinds.{GoodMap, brain-map, series-map, scalars-map, GoodModel, good-model, brainRows, scalarRows, brain-children, scalars-children, model-facts, series-facts}
+use Rattle.maps.specs.Kinds.{GoodModel, good-model, brainRows, scalarRows, brain-children, scalars-children, model-facts, series-facts}
 use Rattle.maps.specs.Fields.{wordAt, word-at, says-has, numberSeen, number-seen, orZero}
 use Rattle.numbers.specs.Answers.{wholeIn}
 use Rattle.maps.specs.declared.survey.Measure.{Measure}
@@ -96,9 +99,6 @@ AheadBehind text k a = (j : ℕ) → Behind text k j → a ≡ ahead-at true (le
 pub record Summed (text : List ℕ) (at : ℕ) (b : Bool) (r : Measure) : Type 0 where
   pub sum : r .length ≡ total (weightOf b) (elements (contentsOf (the text at)))
   pub ends : Behind text at (r .behind)
-
-clash : {A : Type 0} → _≡_ {A = ℕ} 0 1 → A
-clash z = absurd (omega arith)
 
 -- an element that stands ends somewhere
 ends-at : {text : List ℕ} {k : ℕ} (st : Stands text k) → Behind text k (length text - length (st .rest))
@@ -281,52 +281,30 @@ module _ {text : List ℕ} {at : ℕ} (m : MapAt text at) where
   pub map-stands : Stands text at
   map-stands = m .stands
 
-  module _ {b : Bool} (p : b ≡ same (wordAt (ascii "IndicesMapToDataType") (the text at)) (ascii "CIFTI_INDEX_TYPE_BRAIN_MODELS")) where
-    is-brain : b ≡ has "IndicesMapToDataType" "CIFTI_INDEX_TYPE_BRAIN_MODELS" (the text at)
-    is-brain = says-has "IndicesMapToDataType" "CIFTI_INDEX_TYPE_BRAIN_MODELS" (the text at) p
+  pub length-brain : kindOfMap (the text at) ≡ Brain → {n : ℕ} → n ≡ total (weightOf true) (elements (contentsOf (the text at))) → n ≡ lengthOf (mapOf (the text at))
+  unfolding lengthOf lengthBy mapOf children
+  length-brain h q = rw h (q ∙ models-total (elements (contentsOf (the text at))) (brain-children (good-brain (m .good) h)))
 
-    pub length-brain : b ≡ true → {n : ℕ} → n ≡ total (weightOf true) (elements (contentsOf (the text at))) → n ≡ lengthOf (mapOf (the text at))
-    unfolding lengthOf lengthBy mapOf contentOf children
-    length-brain t {n} q = go (m .good)
-      where
-        yes-brain : has "IndicesMapToDataType" "CIFTI_INDEX_TYPE_BRAIN_MODELS" (the text at) ≡ true
-        yes-brain = sym is-brain ∙ t
+  length-series : kindOfMap (the text at) ≡ Series → {n : ℕ} → n ≡ numberSeen 1 1048576 (wordAt (ascii "NumberOfSeriesPoints") (the text at)) → n ≡ lengthOf (mapOf (the text at))
+  unfolding lengthOf lengthBy mapOf seriesOf
+  length-series h r =
+      rw h (r ∙ ap (numberSeen 1 1048576) (word-at "NumberOfSeriesPoints" (the text at))
+      ∙ number-seen 1 1048576 (attr "NumberOfSeriesPoints" (the text at)) (series-facts (good-series (m .good) h) .points))
 
-        go : GoodMap (the text at) → n ≡ lengthOf (mapOf (the text at))
-        go (brain-map g h) = rw yes-brain (q ∙ models-total (elements (contentsOf (the text at))) (brain-children g))
-        go (series-map g h i) = absurd (true≢false (sym yes-brain ∙ h))
-        go (scalars-map g h i) = absurd (true≢false (sym yes-brain ∙ h))
+  length-scalars : kindOfMap (the text at) ≡ Scalars → {n : ℕ} → n ≡ total (weightOf false) (elements (contentsOf (the text at))) → n ≡ lengthOf (mapOf (the text at))
+  unfolding lengthOf lengthBy mapOf children
+  length-scalars h r = rw h (r ∙ names-total (elements (contentsOf (the text at))))
 
-    module _ (f : b ≡ false) {c : Bool} (q : c ≡ same (wordAt (ascii "IndicesMapToDataType") (the text at)) (ascii "CIFTI_INDEX_TYPE_SERIES")) where
-      no-brain : has "IndicesMapToDataType" "CIFTI_INDEX_TYPE_BRAIN_MODELS" (the text at) ≡ false
-      no-brain = sym is-brain ∙ f
-
-      is-series : c ≡ has "IndicesMapToDataType" "CIFTI_INDEX_TYPE_SERIES" (the text at)
-      is-series = says-has "IndicesMapToDataType" "CIFTI_INDEX_TYPE_SERIES" (the text at) q
-
-      length-series : c ≡ true → {n : ℕ} → n ≡ numberSeen 1 1048576 (wordAt (ascii "NumberOfSeriesPoints") (the text at)) → n ≡ lengthOf (mapOf (the text at))
-      unfolding lengthOf lengthBy mapOf contentOf seriesOf
-      length-series t {n} r = go (m .good)
-        where
-          go : GoodMap (the text at) → n ≡ lengthOf (mapOf (the text at))
-          go (brain-map g h) = absurd (true≢false (sym h ∙ no-brain))
-          go (series-map g h i) =
-              rw (h, i) (r ∙ ap (numberSeen 1 1048576) (word-at "NumberOfSeriesPoints" (the text at)) ∙ number-seen 1 1048576 (attr "NumberOfSeriesPoints" (the text at)) (series-facts g .points))
-          go (scalars-map g h i) = absurd (true≢false (sym (sym is-series ∙ t) ∙ i))
-
-      length-scalars : c ≡ false → {n : ℕ} → n ≡ total (weightOf false) (elements (contentsOf (the text at))) → n ≡ lengthOf (mapOf (the text at))
-      unfolding lengthOf lengthBy mapOf contentOf children
-      length-scalars t r = rw (no-brain, sym is-series ∙ t) (r ∙ names-total (elements (contentsOf (the text at))))
-
+  module _ {b : Bool} (p : Asked b "CIFTI_INDEX_TYPE_BRAIN_MODELS" (the text at)) where
     pub span-brain : b ≡ true → {r : Measure} → Summed text at true r → Spanned text at r
-    span-brain t s = record { long = length-brain t (s .sum); ends = s .ends }
+    span-brain t s = record { long = length-brain (asked-brain (the text at) p t) (s .sum); ends = s .ends }
 
-    module _ (f : b ≡ false) {c : Bool} (q : c ≡ same (wordAt (ascii "IndicesMapToDataType") (the text at)) (ascii "CIFTI_INDEX_TYPE_SERIES")) where
+    module _ (f : b ≡ false) {c : Bool} (q : Asked c "CIFTI_INDEX_TYPE_SERIES" (the text at)) where
       pub span-series : c ≡ true → {n : ℕ} → n ≡ numberSeen 1 1048576 (wordAt (ascii "NumberOfSeriesPoints") (the text at)) → {j : ℕ} → Behind text at j → Spanned text at (record { length = n; behind = j })
-      span-series t e b₀ = record { long = length-series f q t e; ends = b₀ }
+      span-series t e b₀ = record { long = length-series (asked-series (the text at) p f q t) e; ends = b₀ }
 
       pub span-scalars : c ≡ false → {r : Measure} → Summed text at false r → Spanned text at r
-      span-scalars t s = record { long = length-scalars f q t (s .sum); ends = s .ends }
+      span-scalars t s = record { long = length-scalars (asked-scalars (the text at) (m .good) p f q t) (s .sum); ends = s .ends }
 
   pub span-wanted : {w : Bool} → w ≡ true → {r : Measure} → Spanned text at r → SpannedIf w text at r
   span-wanted t s = record { long = λ _. s .long; ends = s .ends }

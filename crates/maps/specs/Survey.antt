@@ -23,7 +23,8 @@ use Rattle.nodes.specs.declared.Kid.the-variants.{Child, Done}
 use Rattle.cifti.specs.Rows as kinds
 use Rattle.cifti.specs.Maps.{mapOf, lengthOf}
 use Rattle.maps.specs.Good.{Good, AllGood, good-head, good-tail}
-use Rattle.maps.specs.Kinds.{matrixRows, matrix-children, good-map}
+use Rattle.maps.specs.Kinds.{matrixRows, matrix-children}
+use Rattle.maps.specs.MapKind.{good-map}
 use Rattle.nodes.specs.Leaving.{next-behind}
 use Rattle.maps.specs.Sums.{MapAt, SpannedIf}
 use Rattle.maps.specs.declared.survey.Measure.{Measure}

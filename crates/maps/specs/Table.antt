@@ -11,7 +11,7 @@ use Rattle.lists.specs.Quantifiers.{EveryPlace, OnePlace, count-one-iff}
 use Rattle.lists.specs.Laws.{length-each}
 use Rattle.records.specs.Record.{recordOf}
 use Rattle.records.specs.Fill.{wrote}
-use Rattle.cifti.specs.Maps.{Model, Map, models, locations, locationsBy, covers, lengthOf}
+use Rattle.cifti.specs.Maps.{Model, Map, locations, locationsBy, covers, lengthOf}
 use Rattle.cifti.specs.Conditions.{uneven, listsCount}
 use Rattle.cifti.specs.Answer.{recordAt, stretch}
 use Rattle.cifti.specs.Cover.{ranges-within}
@@ -44,19 +44,19 @@ all-fit : (f : Model → List ℕ) (b : Model) (size : ℕ) (l : List Model) →
 all-fit f b size [] h k = none-fits
 all-fit f b size (m ∷ l) h k = one-fits (h 0 (omega arith)) (k 0 (omega arith)) (all-fit f b size l (λ i u. h (suc i) (omega arith)) (λ i u. k (suc i) (omega arith)))
 
-module _ (b : Model) (m : Map) (even : uneven m ≡ false) (counting : Counting (models m)) (size : lengthOf m ≡ total (λ x. x .count) (models m)) where
-  once : OnceBelow (models m) (total (λ x. x .count) (models m))
-  once i u = count-one-iff b (covers i) (models m) .1 (even-iff b m .0 even .one i (omega (arith, size)))
+module _ (b : Model) (m : Map) (even : uneven m ≡ false) (counting : Counting (m .models)) (size : lengthOf m ≡ total (λ x. x .count) (m .models)) where
+  once : OnceBelow (m .models) (total (λ x. x .count) (m .models))
+  once i u = count-one-iff b (covers i) (m .models) .1 (even-iff b m .0 even .one i (omega (arith, size)))
 
-  pub fitting : Fitting recordsOf (lengthOf m) (models m)
+  pub fitting : Fitting recordsOf (lengthOf m) (m .models)
   fitting =
       let e = even-iff b m .0 even in
-      all-fit recordsOf b (lengthOf m) (models m) (λ i u. records-length (getD (models m) i b) (e .lists i u))
-      (λ i u. (let w = ranges-within b (models m) once i u (count-each-one b (models m) counting i u) in omega (arith, size)))
+      all-fit recordsOf b (lengthOf m) (m .models) (λ i u. records-length (getD (m .models) i b) (e .lists i u))
+      (λ i u. (let w = ranges-within b (m .models) once i u (count-each-one b (m .models) counting i u) in omega (arith, size)))
 
   -- THE LAW: the models' records, one model after the other, are the stretch
-  pub table-law : (start : ℕ) (s : List ℕ) → start + lengthOf m ≤ length s → filled recordsOf start (models m) s ≡ wrote start (stretch m) s
+  pub table-law : (start : ℕ) (s : List ℕ) → start + lengthOf m ≤ length s → filled recordsOf start (m .models) s ≡ wrote start (stretch m) s
   unfolding stretch
   table-law start s fits =
-      filled-law recordsOf start (lengthOf m) (models m) s fitting fits (λ n u. once n (omega (arith, size)))
-      ∙ ap (λ t. wrote start t s) (table-same (record-entry (models m)) (lengthOf m))
+      filled-law recordsOf start (lengthOf m) (m .models) s fitting fits (λ n u. once n (omega (arith, size)))
+      ∙ ap (λ t. wrote start t s) (table-same (record-entry (m .models)) (lengthOf m))

@@ -29,7 +29,8 @@ use Rattle.cifti.specs.Conditions.{rootWrong, kindNotRead}
 use Rattle.schema.specs.Schema.{kindOf, kindBy, kindChosen, kindAmong}
 use Rattle.cifti.specs.Rows.{ElementKind, cifti, brainModels, series, scalars, mapKinds}
 use Rattle.maps.specs.Good.{Good, GoodAs, good-as, AllGood, none-left, one-good}
-use Rattle.maps.specs.Kinds.{not-both, matrixRows, matrix-children, root-child, never-some, has-value, map-word}
+use Rattle.maps.specs.Kinds.{not-both, matrixRows, matrix-children, root-child, has-value, map-word}
+use Rattle.lists.specs.Booleans.{never-some}
 
 -- ---- Condition 4.
 

@@ -1,4 +1,4 @@
--- A BRAIN MAP AT A PLACE OF A TEXT, good as conditions 6 and 7 ask: what its content is, and what its children are.
+-- A BRAIN MAP AT A PLACE OF A TEXT, good as conditions 6 and 7 ask: what it holds, and what its children are.
 use mathlib.Core.Path.{_≡_, refl, sym, ap, _∙_}
 use mathlib.Core.List.{List, [], _∷_}
 use mathlib.Core.Bool.{Bool, true, false}
@@ -8,7 +8,7 @@ use Rattle.lists.specs.Lists.{those, each, total}
 use Rattle.grammar.specs.Bytes.{ascii}
 use Rattle.grammar.specs.Document.{Element}
 use Rattle.grammar.specs.Facts.{and-right, within}
-use Rattle.grammar.specs.Look.{Word, is, nameOf, contentsOf, has, elements, children}
+use Rattle.grammar.specs.Look.{Word, is, nameOf, contentsOf, elements, children}
 use Rattle.numbers.specs.Numbers.{whole, digits, value}
 use Rattle.nodes.specs.Places.{Stands, the}
 use Rattle.nodes.specs.Children.{first, next, left}
@@ -17,33 +17,34 @@ use Rattle.nodes.specs.Walk.{kids, Walk, walk-children, kids-children, walk-non
 use Rattle.nodes.specs.declared.Kid.{Kid}
 use Rattle.nodes.specs.declared.Kid.the-variants.{Child, Done}
 use Rattle.cifti.specs.Rows.{brainModels}
-use Rattle.cifti.specs.Maps.{brain, modelOf, sizesOf, contentOf, mapOf, models, modelsBy, volumeOf, volumeBy, lengthBy}
+use Rattle.cifti.specs.Maps.{modelOf, sizesOf, kindOfMap, mapOf, lengthOf, lengthBy}
+use Rattle.cifti.specs.declared.answer.Kind.the-variants.{Brain}
 use Rattle.maps.specs.Good.{Good, GoodAs, AllGood, good-head, good-tail}
+use Rattle.maps.specs.MapKind.{good-brain}
+use Rattle.maps.specs.Sums.{MapAt}
 use Rattle.maps.specs.Kinds.{brainRows, GoodModel, good-model, brain-children}
 
 pub record BrainAt (text : List ℕ) (map : ℕ) : Type 0 where
   pub stands : Stands text map
   pub good : Good brainModels (the text map)
-  pub is-brain : has "IndicesMapToDataType" "CIFTI_INDEX_TYPE_BRAIN_MODELS" (the text map) ≡ true
+  pub is-brain : kindOfMap (the text map) ≡ Brain
 
--- ---- The content of a brain map.
+pub brain-at : {text : List ℕ} {map : ℕ} → MapAt text map → kindOfMap (the text map) ≡ Brain → BrainAt text map
+brain-at m h = record { stands = m .stands; good = good-brain (m .good) h; is-brain = h }
 
-module _ (e : Element) (h : has "IndicesMapToDataType" "CIFTI_INDEX_TYPE_BRAIN_MODELS" e ≡ true) where
-  pub brain-content : contentOf e ≡ brain (sizesOf e) (each modelOf (children "BrainModel" e))
-  unfolding contentOf
-  brain-content = rw h
+-- ---- What it holds.
 
-  pub brain-models : models (mapOf e) ≡ each modelOf (children "BrainModel" e)
-  unfolding models modelsBy mapOf
-  brain-models = ap modelsBy brain-content
+pub map-models : (e : Element) → (mapOf e) .models ≡ each modelOf (children "BrainModel" e)
+unfolding mapOf
+map-models e = refl
 
-  pub brain-volume : volumeOf (mapOf e) ≡ sizesOf e
-  unfolding volumeOf volumeBy mapOf
-  brain-volume = ap volumeBy brain-content
+pub map-volume : (e : Element) → (mapOf e) .volume ≡ sizesOf e
+unfolding mapOf
+map-volume e = refl
 
-  pub brain-sum : lengthBy (contentOf e) ≡ total (λ m. m .count) (each modelOf (children "BrainModel" e))
-  unfolding lengthBy
-  brain-sum = ap lengthBy brain-content
+pub brain-sum : (e : Element) → kindOfMap e ≡ Brain → lengthOf (mapOf e) ≡ total (λ m. m .count) ((mapOf e) .models)
+unfolding lengthOf lengthBy mapOf
+brain-sum e h = rw h
 
 -- ---- Its children, one after the other.
 

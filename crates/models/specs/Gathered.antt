@@ -9,7 +9,7 @@ use Rattle.grammar.specs.Bytes.{ascii}
 use Rattle.grammar.specs.Document.{Element}
 use Rattle.grammar.specs.Look.{children}
 use Rattle.nodes.specs.Places.{the}
-use Rattle.cifti.specs.Maps.{modelOf, mapOf, models}
+use Rattle.cifti.specs.Maps.{modelOf, mapOf}
 use Rattle.cifti.specs.Conditions.{alike}
 use Rattle.maps.specs.Fields.{wordAt, numberSeen}
 use Rattle.models.specs.Kind.{kindNumber, ModelAt}
@@ -45,7 +45,7 @@ pub record Gathered (text : List ℕ) (map : ℕ) (m : Models) : Type 0 where
 
 -- whether two share type and structure, and where none do all models
 pub record Gathers (text : List ℕ) (map : ℕ) (m : Models) : Type 0 where
-  pub shared-is : m .shared ≡ twoOf alike (models (mapOf (the text map)))
+  pub shared-is : m .shared ≡ twoOf alike ((mapOf (the text map)) .models)
   pub holding : m .shared ≡ false → Gathered text map m
 
 -- one model more

@@ -12,10 +12,10 @@ use Rattle.lists.specs.Ranges.{Range, holds, inRange, sumOf, tiling, counting-u
 use Rattle.grammar.specs.Look.{attr}
 use Rattle.nodes.specs.Places.{the}
 use Rattle.numbers.specs.Numbers.{value}
-use Rattle.cifti.specs.Maps.{Model, modelOf, mapOf, models, lengthOf, covers}
+use Rattle.cifti.specs.Maps.{Model, modelOf, mapOf, lengthOf, covers}
 use Rattle.maps.specs.Chain.{Counting}
 use Rattle.maps.specs.Kinds.{model-facts}
-use Rattle.models.specs.Brain.{BrainAt, brain-models, brain-sum, whole-within}
+use Rattle.models.specs.Brain.{BrainAt, map-models, brain-sum, whole-within}
 use Rattle.models.specs.Gathered.{HoldsAt, gathered, Sized, Gathered}
 use Rattle.models.specs.Tables.{each-take, each-table, table-below, size-of-table, entry-of-table}
 use Rattle.models.specs.Ranges.{ranging, rangeOf, rangesOf, Ranged}
@@ -42,18 +42,18 @@ modelsAt text m = table (m .count) (modelAt text m)
 
 -- THE LAWS of the gathered models
 module _ {text : List ℕ} {map : ℕ} {m : Models} (h : BrainHeld text map m) where
-  pub held-models : models (mapOf (the text map)) ≡ modelsAt text m
+  pub held-models : (mapOf (the text map)) .models ≡ modelsAt text m
   unfolding gathered modelsAt modelAt
   held-models =
-      brain-models (the text map) (h .brain .is-brain)
+      map-models (the text map)
       ∙ ap (each modelOf) (sym (h .held .all-of-them) ∙ each-take (the text) (m .at) (m .count) (omega (arith, h .held .sized .few, h .held .sized .at-64)))
       ∙ each-table modelOf (λ k. the text (getD (m .at) k 0)) (m .count)
 
-  pub held-count : length (models (mapOf (the text map))) ≡ m .count
+  pub held-count : length ((mapOf (the text map)) .models) ≡ m .count
   unfolding modelsAt
   held-count = ap length held-models ∙ size-of-table (modelAt text m) (m .count)
 
-  pub held-at : (b : Model) (i : ℕ) → i < m .count → getD (models (mapOf (the text map))) i b ≡ modelOf (the text (getD (m .at) i 0))
+  pub held-at : (b : Model) (i : ℕ) → i < m .count → getD ((mapOf (the text map)) .models) i b ≡ modelOf (the text (getD (m .at) i 0))
   unfolding modelsAt modelAt
   held-at b i u = ap (λ l. getD l i b) held-models ∙ entry-of-table (modelAt text m) b (m .count) i u
 
@@ -100,19 +100,18 @@ held-plain {text} {m} h =
     ∙ sym (each-table plain (λ i. modelOf (the text (getD (m .at) i 0))) (m .count))
 
 -- the sum of their counts is the map's length, and each counts one index at least
-pub held-total : {text : List ℕ} {map : ℕ} {m : Models} → BrainHeld text map m → lengthOf (mapOf (the text map)) ≡ total (λ x. x .count) (models (mapOf (the text map)))
-unfolding lengthOf mapOf
-held-total {text} {map} h = brain-sum (the text map) (h .brain .is-brain) ∙ sym (ap (total (λ x. x .count)) (brain-models (the text map) (h .brain .is-brain)))
+pub held-total : {text : List ℕ} {map : ℕ} {m : Models} → BrainHeld text map m → lengthOf (mapOf (the text map)) ≡ total (λ x. x .count) ((mapOf (the text map)) .models)
+held-total {text} {map} h = brain-sum (the text map) (h .brain .is-brain)
 
-pub held-counting : {text : List ℕ} {map : ℕ} {m : Models} → BrainHeld text map m → Counting (models (mapOf (the text map)))
+pub held-counting : {text : List ℕ} {map : ℕ} {m : Models} → BrainHeld text map m → Counting ((mapOf (the text map)) .models)
 unfolding modelsAt modelAt table
 held-counting {text} {map} {m} h =
     rw (held-models h) (counting-up (λ (x : Model). x .count) (λ i. modelOf (the text (getD (m .at) i 0))) 0 (m .count)
     (λ k u v. (let x = h .held .holds k (omega arith) in let w = held-ranged (holding (h .held)) .least k (omega arith) in omega (arith, x .length-is))))
 
 pub held-tiling : {text : List ℕ} {map : ℕ} {m : Models} → BrainHeld text map m
-    → tiling (rangesOf m) ≡ allBelow (lengthOf (mapOf (the text map))) (λ n. eqb (count (covers n) (models (mapOf (the text map)))) 1)
+    → tiling (rangesOf m) ≡ allBelow (lengthOf (mapOf (the text map))) (λ n. eqb (count (covers n) ((mapOf (the text map)) .models)) 1)
 held-tiling {text} {map} {m} h =
     ap tiling (held-plain (holding (h .held)) ∙ ap (each plain) (sym (held-models h)))
-    ∙ plain-tiling (models (mapOf (the text map)))
-    ∙ ap (λ k. allBelow k (λ n. eqb (count (covers n) (models (mapOf (the text map)))) 1)) (sym (held-total h))
+    ∙ plain-tiling ((mapOf (the text map)) .models)
+    ∙ ap (λ k. allBelow k (λ n. eqb (count (covers n) ((mapOf (the text map)) .models)) 1)) (sym (held-total h))

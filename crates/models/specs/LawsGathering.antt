@@ -22,11 +22,11 @@ use Rattle.nodes.specs.Names.{named}
 use Rattle.nodes.specs.Walk.{kids}
 use Rattle.nodes.specs.declared.Kid.{Kid}
 use Rattle.nodes.specs.declared.Kid.the-variants.{Child, Done}
-use Rattle.cifti.specs.Maps.{Model, modelOf, mapOf, models}
+use Rattle.cifti.specs.Maps.{Model, modelOf, mapOf}
 use Rattle.cifti.specs.Conditions.{alike}
 use Rattle.maps.specs.Kinds.{model-facts}
 use Rattle.maps.specs.Fields.{numberSeen, word-at, number-seen}
-use Rattle.models.specs.Brain.{BrainAt, brain-models, isModel, Among, among-start, among-stands, among-next, among-falls, among-model, among-yes, among-no, among-none, among-all}
+use Rattle.models.specs.Brain.{BrainAt, map-models, isModel, Among, among-start, among-stands, among-next, among-falls, among-model, among-yes, among-no, among-none, among-all}
 use Rattle.models.specs.Kind.{kindNumber, ModelAt, alike-number, structure-small, kind-small}
 use Rattle.models.specs.Gathered.{Holds, HoldsAt, gathered, Sized, Gathers, Room, offsetSeen, lengthSeen, withModel}
 use Rattle.models.specs.declared.gather.Models.{Models}
@@ -109,9 +109,9 @@ pub record Gathering (text : List ℕ) (map : ℕ) (m : Models) (seen : List Boo
   pub as-many : count itself seen ≡ m .count
 
 -- the models of the map: those passed, and those ahead
-all-models : {text : List ℕ} {map : ℕ} {m : Models} {seen : List Bool} {kid : Kid} → Gathering text map m seen kid → models (mapOf (the text map)) ≡ passed text m ++ each modelOf (those isModel (kids text kid))
+all-models : {text : List ℕ} {map : ℕ} {m : Models} {seen : List Bool} {kid : Kid} → Gathering text map m seen kid → (mapOf (the text map)) .models ≡ passed text m ++ each modelOf (those isModel (kids text kid))
 unfolding passed
-all-models {text} {map} {m} go = brain-models (the text map) (go .brain .is-brain) ∙ ap (each modelOf) (sym (go .so-far)) ∙ each-append modelOf (gathered text m) _
+all-models {text} {map} {m} go = map-models (the text map) ∙ ap (each modelOf) (sym (go .so-far)) ∙ each-append modelOf (gathered text m) _
 
 -- ---- At the start: nothing is gathered.
 

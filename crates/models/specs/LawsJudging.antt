@@ -10,7 +10,7 @@ use borrow.Author.Needs.{needs}
 use Rattle.lists.specs.Ranges.{tiling}
 use Rattle.lists.specs.Lists.{countUp, all, any, count, allBelow}
 use Rattle.nodes.specs.Places.{the}
-use Rattle.cifti.specs.Maps.{Voxel, Model, Map, modelOf, mapOf, models, lengthOf, covers, volumeOf}
+use Rattle.cifti.specs.Maps.{Voxel, Model, Map, modelOf, mapOf, lengthOf, covers}
 use Rattle.cifti.specs.Conditions.{listsCount, uneven, beyond}
 use Rattle.models.specs.Brain.{BrainAt}
 use Rattle.models.specs.Tables.{up-one, up-done, up-all}
@@ -161,9 +161,9 @@ not-all (b ∷ l) = go (evenIn b) (not-all l)
     go true h = h
     go false h = refl
 
-uneven-is : (m : Map) → uneven m ≡ (not (all evenIn (models m)) || not (allBelow (lengthOf m) (λ n. eqb (count (covers n) (models m)) 1)))
+uneven-is : (m : Map) → uneven m ≡ (not (all evenIn (m .models)) || not (allBelow (lengthOf m) (λ n. eqb (count (covers n) (m .models)) 1)))
 unfolding uneven evenIn
-uneven-is m = ap (λ t. t || not (allBelow (lengthOf m) (λ n. eqb (count (covers n) (models m)) 1))) (not-all (models m))
+uneven-is m = ap (λ t. t || not (allBelow (lengthOf m) (λ n. eqb (count (covers n) (m .models)) 1))) (not-all (m .models))
 
 or-true : (a : Bool) → (a || true) ≡ true
 or-true true = refl
@@ -180,21 +180,21 @@ module _ {text : List ℕ} {map : ℕ} {m : Models} (h : BrainHeld text map m) w
   rule-holding = holding (h .held)
 
   module _ {t : Bool} (e : t ≡ tiling (rangesOf m)) where
-    tiled : allBelow (lengthOf (mapOf (the text map))) (λ n. eqb (count (covers n) (models (mapOf (the text map)))) 1) ≡ t
+    tiled : allBelow (lengthOf (mapOf (the text map))) (λ n. eqb (count (covers n) ((mapOf (the text map)) .models)) 1) ≡ t
     tiled = sym (e ∙ held-tiling h)
 
     pub rule-untiled : not t ≡ true → 11 ≡ listsRule (mapOf (the text map))
     unfolding listsRule
     rule-untiled n =
-        let u : uneven (mapOf (the text map)) ≡ true = uneven-is (mapOf (the text map)) ∙ rw (tiled, n) (or-true (not (all evenIn (models (mapOf (the text map)))))) in
+        let u : uneven (mapOf (the text map)) ≡ true = uneven-is (mapOf (the text map)) ∙ rw (tiled, n) (or-true (not (all evenIn ((mapOf (the text map)) .models)))) in
         sym (rw u)
 
-    pub rule-lists : not t ≡ false → {s : Sizes} → volumeFrom s ≡ volumeOf (mapOf (the text map)) → {r : ℕ} → r ≡ listsVerdict (volumeFrom s) (modelsAt text m) → r ≡ listsRule (mapOf (the text map))
+    pub rule-lists : not t ≡ false → {s : Sizes} → volumeFrom s ≡ (mapOf (the text map)) .volume → {r : ℕ} → r ≡ listsVerdict (volumeFrom s) (modelsAt text m) → r ≡ listsRule (mapOf (the text map))
     unfolding listsRule verdictBy pastIn
     rule-lists n {s} v {r} x =
-        let u : uneven (mapOf (the text map)) ≡ not (all evenIn (models (mapOf (the text map)))) = uneven-is (mapOf (the text map)) ∙ rw (tiled, n) (or-none (not (all evenIn (models (mapOf (the text map)))))) in
-        x ∙ ap₂ listsVerdict v (sym (held-models h)) ∙ verdicts-are (volumeOf (mapOf (the text map))) (models (mapOf (the text map)))
-        ∙ sym (rw u (turned (all evenIn (models (mapOf (the text map)))) (any (pastIn (volumeOf (mapOf (the text map)))) (models (mapOf (the text map))))))
+        let u : uneven (mapOf (the text map)) ≡ not (all evenIn ((mapOf (the text map)) .models)) = uneven-is (mapOf (the text map)) ∙ rw (tiled, n) (or-none (not (all evenIn ((mapOf (the text map)) .models)))) in
+        x ∙ ap₂ listsVerdict v (sym (held-models h)) ∙ verdicts-are ((mapOf (the text map)) .volume) ((mapOf (the text map)) .models)
+        ∙ sym (rw u (turned (all evenIn ((mapOf (the text map)) .models)) (any (pastIn ((mapOf (the text map)) .volume)) ((mapOf (the text map)) .models))))
       where
         turned : (a b : Bool) → cond (not a) 11 (cond b 12 0) ≡ verdictBy a b
         turned true b = refl

@@ -22,11 +22,11 @@ use Rattle.nodes.specs.declared.Kid.the-variants.{Child, Done}
 use Rattle.nodes.specs.declared.Found.{Found}
 use Rattle.nodes.specs.declared.Found.the-variants.{At, Nothing}
 use Rattle.cifti.specs.Rows.{volume}
-use Rattle.cifti.specs.Maps.{Voxel, voxel, sizesBy, sizesOf, mapOf, volumeOf}
+use Rattle.cifti.specs.Maps.{Voxel, voxel, sizesBy, sizesOf, mapOf}
 use Rattle.maps.specs.Good.{Good}
 use Rattle.maps.specs.Kinds.{good-volume, volume-sizes}
 use Rattle.maps.specs.Fields.{word-at, found-value, found-none}
-use Rattle.models.specs.Brain.{BrainAt, brain-volume, Among, among-start, among-stands, among-good, among-next, among-falls}
+use Rattle.models.specs.Brain.{BrainAt, map-volume, Among, among-start, among-stands, among-good, among-next, among-falls}
 use Rattle.numbers.specs.Answers.{threeIn, lengthsOf}
 use Rattle.numbers.specs.declared.Lengths.{Lengths}
 use Rattle.numbers.specs.declared.Three.{Three}
@@ -104,7 +104,7 @@ isVolume e = is "Volume" (nameOf e)
 
 pub record Looking (text : List ℕ) (map : ℕ) (kid : Kid) : Type 0 where
   pub among : Among text kid
-  pub ahead : volumeOf (mapOf (the text map)) ≡ sizesBy (eachIn sizesAt (those isVolume (kids text kid)))
+  pub ahead : (mapOf (the text map)) .volume ≡ sizesBy (eachIn sizesAt (those isVolume (kids text kid)))
 
 volumes-are : (e : Element) → sizesOf e ≡ sizesBy (eachIn sizesAt (those isVolume (elements (contentsOf e))))
 unfolding sizesOf sizesAt children isVolume
@@ -114,11 +114,11 @@ pub looking-start : {text : List ℕ} {map : ℕ} {kid : Kid} → BrainAt text m
 looking-start {text} {map} b e =
     rw e (record {
       among = among-start b;
-      ahead = brain-volume (the text map) (b .is-brain) ∙ volumes-are (the text map) ∙ ap (λ l. sizesBy (eachIn sizesAt (those isVolume l))) (sym (kids-children (b .stands)));
+      ahead = map-volume (the text map) ∙ volumes-are (the text map) ∙ ap (λ l. sizesBy (eachIn sizesAt (those isVolume l))) (sym (kids-children (b .stands)));
     })
 
 module _ {text : List ℕ} {map : ℕ} {kid : Kid} (go : Looking text map kid) where
-  pub looking-done : kid ≡ Done → voxel 0 0 0 ≡ volumeOf (mapOf (the text map))
+  pub looking-done : kid ≡ Done → voxel 0 0 0 ≡ (mapOf (the text map)) .volume
   unfolding those eachIn sizesBy
   looking-done e = sym (go .ahead ∙ ap (λ l. sizesBy (eachIn sizesAt (those isVolume l))) (walk-none (go .among .walk) e))
 
@@ -143,7 +143,7 @@ module _ {text : List ℕ} {map : ℕ} {kid : Kid} (go : Looking text map kid) w
         unfolding isVolume
         looking-at = record { stands = among-stands (go .among) is; good = good-volume (the text k) (among-good (go .among) is) (sym name ∙ t) }
 
-        pub looking-found : {v : Voxel} → v ≡ sizesBy (sizesAt (the text k)) → v ≡ volumeOf (mapOf (the text map))
+        pub looking-found : {v : Voxel} → v ≡ sizesBy (sizesAt (the text k)) → v ≡ (mapOf (the text map)) .volume
         unfolding those eachIn
         looking-found s =
             let w : those isVolume (kids text kid) ≡ the text k ∷ those isVolume (kids text (next text k)) = ap (those isVolume) (turn-splits (go .among .walk) is) ∙ rw (sym name ∙ t) in

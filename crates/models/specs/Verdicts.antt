@@ -5,7 +5,7 @@ use Prim.Native.Nat.{ℕ, _*_}
 use lib.Dec.{eqb, ltb}
 use lib.ListN.{length}
 use Rattle.lists.specs.Lists.{any, all}
-use Rattle.cifti.specs.Maps.{Voxel, voxel, Model, Map, models, volumeOf, threes}
+use Rattle.cifti.specs.Maps.{Voxel, voxel, Model, Map, threes}
 use Rattle.cifti.specs.Conditions.{listsCount, uneven, outside, beyond}
 use Rattle.models.specs.declared.volume.Sizes.{Sizes}
 
@@ -21,7 +21,7 @@ listsVerdict volume l = verdictBy (all (λ b. listsCount (b .count) (b .listed))
 
 -- THE RULE of a map: condition 11, else 12, else neither
 unfoldable pub listsRule : Map → ℕ
-listsRule m = cond (uneven m) 11 (cond (any (λ b. beyond (volumeOf m) (b .listed)) (models m)) 12 0)
+listsRule m = cond (uneven m) 11 (cond (any (λ b. beyond (m .volume) (b .listed)) (m .models)) 12 0)
 
 abbrev pub volumeFrom : Sizes → Voxel
 volumeFrom s = voxel (s .i) (s .j) (s .k)

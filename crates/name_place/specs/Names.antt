@@ -22,7 +22,8 @@ use Rattle.cifti.specs.Rows.{cifti, matrix}
 use Rattle.cifti.specs.Maps.{dimensionsOf, mapElements}
 use Rattle.cifti.specs.Names.{namesOn}
 use Rattle.maps.specs.Good.{Good}
-use Rattle.maps.specs.Kinds.{root-child, map-dimensions}
+use Rattle.maps.specs.Kinds.{root-child}
+use Rattle.maps.specs.MapKind.{map-dimensions}
 use Rattle.maps.specs.Ready.{GoodMaps, no-maps, one-map, good-maps}
 use Rattle.name_place.specs.Way.{placesWithin, placesFrom, lists, onWay, ends, namesFrom, namePlaces, pick}
 use Rattle.name_place.specs.declared.Pick.the-variants.{At, Left}

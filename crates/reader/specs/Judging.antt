@@ -8,23 +8,19 @@ use lib.Dec.{eqb}
 use lib.ListN.{length, getD}
 use borrow.Author.Needs.{needs}
 use borrow.Author.Tests.{eq-eqb, ne-eqb}
-use Rattle.lists.specs.Lists.{any, those, twoOf}
-use Rattle.grammar.specs.Bytes.{ascii}
+use Rattle.lists.specs.Lists.{any, each, those, twoOf}
 use Rattle.grammar.specs.Document.{Element}
-use Rattle.grammar.specs.Parser.{same}
-use Rattle.grammar.specs.Look.{has}
 use Rattle.nodes.specs.Places.{Stands, the}
-use Rattle.cifti.specs.Maps.{Content, brain, series, scalars, Map, mapOf, contentOf, seriesOf, models, modelsBy, volumeOf, isBrainBy, brainMaps}
+use Rattle.cifti.specs.Maps.{Map, mapOf, modelOf, isBrain, brainMaps}
 use Rattle.cifti.specs.Conditions as C
 use Rattle.cifti.specs.Conditions.{_when_, alike, modelsShare, uneven, rangesWrong, beyond, numbersOutside}
-use Rattle.maps.specs.Fields.{wordAt, says-has}
-use Rattle.maps.specs.Kinds.{GoodMap, brain-map, series-map, scalars-map}
+use Rattle.maps.specs.MapKind.{GoodMap, no-models, Asked, asked-brain, brain-told}
 use Rattle.maps.specs.Sums.{MapAt}
 use Rattle.maps.specs.Nine.{InRoom, room-map, room-place}
 use Rattle.maps.specs.Ready.{Ready, mapsAt}
 use Rattle.maps.specs.Digits.{from, from-all, from-none, from-one}
 use Rattle.maps.specs.declared.survey.Maps.{Maps}
-use Rattle.models.specs.Brain.{BrainAt}
+use Rattle.models.specs.Brain.{BrainAt, brain-at}
 use Rattle.models.specs.Gathered.{Gathers}
 use Rattle.models.specs.Held.{BrainHeld}
 use Rattle.models.specs.Verdicts.{listsRule}
@@ -58,7 +54,7 @@ rule12 l = C.first (10 when modelsShare l ∷ 11 when rangesWrong l ∷ 12 when 
 
 -- of one map
 unfoldable pub mapRule : Map → ℕ
-mapRule m = cond (isBrainBy (m .content)) (cond (twoOf alike (models m)) 10 (listsRule m)) 0
+mapRule m = cond (isBrain (m .kind)) (cond (twoOf alike (m .models)) 10 (listsRule m)) 0
 
 -- ---- One map more.
 
@@ -82,38 +78,36 @@ three false false false false true z = refl
 three false false false false false true = refl
 three false false false false false false = refl
 
-pub ranges-more : (m : Map) (l : List Map) → rangesWrong (m ∷ l) ≡ ((isBrainBy (m .content) && uneven m) || rangesWrong l)
+pub ranges-more : (m : Map) (l : List Map) → rangesWrong (m ∷ l) ≡ ((isBrain (m .kind) && uneven m) || rangesWrong l)
 unfolding rangesWrong brainMaps those any
-ranges-more m l = go (isBrainBy (m .content))
+ranges-more m l = go (isBrain (m .kind))
   where
-    go : (b : Bool) → any uneven (cond b (m ∷ those (λ x. isBrainBy (x .content)) l) (those (λ x. isBrainBy (x .content)) l)) ≡ ((b && uneven m) || any uneven (those (λ x. isBrainBy (x .content)) l))
+    go : (b : Bool) → any uneven (cond b (m ∷ those (λ x. isBrain (x .kind)) l) (those (λ x. isBrain (x .kind)) l)) ≡ ((b && uneven m) || any uneven (those (λ x. isBrain (x .kind)) l))
     go true = refl
     go false = refl
 
 -- a map that is no brain map has no models
-pub no-models : (m : Map) → isBrainBy (m .content) ≡ false → models m ≡ []
-unfolding models modelsBy isBrainBy
-no-models m h = go (m .content) h
-  where
-    go : (c : Content) → isBrainBy c ≡ false → modelsBy c ≡ []
-    go (brain v l) h = absurd (true≢false h)
-    go (series n a b x u) h = refl
-    go (scalars n) h = refl
+abbrev pub Plain : Map → Type 0
+Plain m = isBrain (m .kind) ≡ false → m .models ≡ []
 
-rule-is : (m : Map) → mapRule m ≡ cond (twoOf alike (models m)) 10 (cond (isBrainBy (m .content) && uneven m) 11 (cond (any (λ b. beyond (volumeOf m) (b .listed)) (models m)) 12 0))
+pub plain-map : {e : Element} → GoodMap e → Plain (mapOf e)
+unfolding mapOf each
+plain-map g h = ap (each modelOf) (no-models g h)
+
+rule-is : (m : Map) → Plain m → mapRule m ≡ cond (twoOf alike (m .models)) 10 (cond (isBrain (m .kind) && uneven m) 11 (cond (any (λ b. beyond (m .volume) (b .listed)) (m .models)) 12 0))
 unfolding mapRule listsRule twoOf any
-rule-is m = go (isBrainBy (m .content)) refl
+rule-is m plain = go (isBrain (m .kind)) refl
   where
-    go : (b : Bool) → isBrainBy (m .content) ≡ b → _≡_ {A = ℕ} (cond b (cond (twoOf alike (models m)) 10 (cond (uneven m) 11 (cond (any (λ b. beyond (volumeOf m) (b .listed)) (models m)) 12 0))) 0)
-        (cond (twoOf alike (models m)) 10 (cond (b && uneven m) 11 (cond (any (λ b. beyond (volumeOf m) (b .listed)) (models m)) 12 0)))
+    go : (b : Bool) → isBrain (m .kind) ≡ b → _≡_ {A = ℕ} (cond b (cond (twoOf alike (m .models)) 10 (cond (uneven m) 11 (cond (any (λ b. beyond (m .volume) (b .listed)) (m .models)) 12 0))) 0)
+        (cond (twoOf alike (m .models)) 10 (cond (b && uneven m) 11 (cond (any (λ b. beyond (m .volume) (b .listed)) (m .models)) 12 0)))
     go true e = refl
-    go false e = rw (no-models m e)
+    go false e = rw (plain e)
 
-pub rule-more : (m : Map) (l : List Map) → rule12 (m ∷ l) ≡ sooner (mapRule m) (rule12 l)
+pub rule-more : (m : Map) (l : List Map) → Plain m → rule12 (m ∷ l) ≡ sooner (mapRule m) (rule12 l)
 unfolding rule12 modelsShare numbersOutside any
-rule-more m l =
-    rw (ranges-more m l, rule-is m)
-    (three (twoOf alike (models m)) (isBrainBy (m .content) && uneven m) (any (λ b. beyond (volumeOf m) (b .listed)) (models m)) (any (λ x. twoOf alike (models x)) l) (rangesWrong l) (any (λ x. any (λ b. beyond (volumeOf x) (b .listed)) (models x)) l))
+rule-more m l plain =
+    rw (ranges-more m l, rule-is m plain)
+    (three (twoOf alike (m .models)) (isBrain (m .kind) && uneven m) (any (λ b. beyond (m .volume) (b .listed)) (m .models)) (any (λ x. twoOf alike (x .models)) l) (rangesWrong l) (any (λ x. any (λ b. beyond (x .volume) (b .listed)) (x .models)) l))
 
 pub rule-none : rule12 [] ≡ 0
 unfolding rule12 modelsShare rangesWrong numbersOutside brainMaps those any C.first
@@ -121,49 +115,30 @@ rule-none = refl
 
 -- ---- The code's map.
 
-pub brain-told : (text : List ℕ) (at : ℕ) → GoodMap (the text at) → {b : Bool} → b ≡ same (wordAt (ascii "IndicesMapToDataType") (the text at)) (ascii "CIFTI_INDEX_TYPE_BRAIN_MODELS") → isBrainBy (contentOf (the text at)) ≡ b
-unfolding contentOf isBrainBy seriesOf
-brain-told text at g {b} p = go g
-  where
-    is-it : b ≡ has "IndicesMapToDataType" "CIFTI_INDEX_TYPE_BRAIN_MODELS" (the text at)
-    is-it = says-has "IndicesMapToDataType" "CIFTI_INDEX_TYPE_BRAIN_MODELS" (the text at) p
-
-    go : GoodMap (the text at) → isBrainBy (contentOf (the text at)) ≡ b
-    go (brain-map x h) = rw h (sym (is-it ∙ h))
-    go (series-map x h i) = rw (h, i) (sym (is-it ∙ h))
-    go (scalars-map x h i) = rw (h, i) (sym (is-it ∙ h))
-
-module _ {text : List ℕ} {at : ℕ} (m : MapAt text at) {b : Bool} (p : b ≡ same (wordAt (ascii "IndicesMapToDataType") (the text at)) (ascii "CIFTI_INDEX_TYPE_BRAIN_MODELS")) where
-  pub rule-stands : Stands text at
-  rule-stands = m .stands
+module _ {text : List ℕ} {at : ℕ} (m : MapAt text at) {b : Bool} (p : Asked b "CIFTI_INDEX_TYPE_BRAIN_MODELS" (the text at)) where
+  told : isBrain ((mapOf (the text at)) .kind) ≡ b
+  unfolding mapOf
+  told = brain-told (the text at) p
 
   pub rule-other : b ≡ false → 0 ≡ mapRule (mapOf (the text at))
-  unfolding mapRule mapOf
-  rule-other f = rw (brain-told text at (m .good) p ∙ f)
+  unfolding mapRule
+  rule-other f = rw (told, f)
 
   module _ (t : b ≡ true) where
     pub rule-brain : BrainAt text at
-    rule-brain = go (m .good)
-      where
-        is-it : has "IndicesMapToDataType" "CIFTI_INDEX_TYPE_BRAIN_MODELS" (the text at) ≡ true
-        is-it = sym (says-has "IndicesMapToDataType" "CIFTI_INDEX_TYPE_BRAIN_MODELS" (the text at) p) ∙ t
-
-        go : GoodMap (the text at) → BrainAt text at
-        go (brain-map x h) = record { stands = m .stands; good = x; is-brain = h }
-        go (series-map x h i) = absurd (true≢false (sym is-it ∙ h))
-        go (scalars-map x h i) = absurd (true≢false (sym is-it ∙ h))
+    rule-brain = brain-at m (asked-brain (the text at) p t)
 
     module _ {r : Models} (g : Gathers text at r) where
       pub rule-ten : r .shared ≡ true → 10 ≡ mapRule (mapOf (the text at))
-      unfolding mapRule mapOf
-      rule-ten s = rw (brain-told text at (m .good) p ∙ t, sym (g .shared-is) ∙ s)
+      unfolding mapRule
+      rule-ten s = rw (told, t, sym (g .shared-is) ∙ s)
 
       pub rule-held : r .shared ≡ false → BrainHeld text at r
       rule-held s = record { brain = rule-brain; held = g .holding s }
 
       pub rule-lists : r .shared ≡ false → {n : ℕ} → n ≡ listsRule (mapOf (the text at)) → n ≡ mapRule (mapOf (the text at))
-      unfolding mapRule mapOf
-      rule-lists s q = rw (brain-told text at (m .good) p ∙ t, sym (g .shared-is) ∙ s) q
+      unfolding mapRule
+      rule-lists s q = rw (told, t, sym (g .shared-is) ∙ s) q
 
 pub map-stands : {text : List ℕ} {at : ℕ} → MapAt text at → Stands text at
 map-stands m = m .stands
@@ -203,7 +178,7 @@ module _ {text : List ℕ} {maps : Maps} {found done : ℕ} (go : Descending tex
         record {
           room = go .room;
           within = omega arith;
-          so-far = q ∙ rw (p, go .so-far) (sym (ap (λ j. rule12 (from text maps j)) d ∙ ap rule12 one ∙ rule-more m (from text maps (maps .count - done))));
+          so-far = q ∙ rw (p, go .so-far) (sym (ap (λ j. rule12 (from text maps j)) d ∙ ap rule12 one ∙ rule-more m (from text maps (maps .count - done)) (plain-map (room-map (go .room) below .map .good))));
         }
 
 pub ruleset descending = (descend-start, descend-done, descend-place, descend-map, descend-more, needs)

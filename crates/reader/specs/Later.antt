@@ -8,17 +8,15 @@ use lib.Dec.{eqb, ltb}
 use lib.ListN.{length, getD, replicate, length-replicate}
 use borrow.Author.Needs.{needs}
 use borrow.Author.Tests.{ltb-false, ne-eqb}
-use Rattle.lists.specs.Lists.{any, those, twoOf, eachIn, greatest, total}
 use Rattle.lists.specs.Booleans.{or-left, or-right}
+use Rattle.lists.specs.Lists.{any, those, twoOf, eachIn, greatest, total}
 use Rattle.lists.specs.Refusals.{Refusal, positive}
 use Rattle.lists.specs.RefusalLaws.{first-append, given-none, row-fails, rows-past}
-use Rattle.grammar.specs.Bytes.{ascii}
-use Rattle.grammar.specs.Parser.{same}
 use Rattle.nodes.specs.Places.{Stands, the}
-use Rattle.cifti.specs.Maps.{Map, mapOf, contentOf, models, lengthOf, volumeOf, isBrainBy, brainMaps}
+use Rattle.cifti.specs.Maps.{Map, mapOf, lengthOf, isBrain, brainMaps}
 use Rattle.cifti.specs.Conditions as C
 use Rattle.cifti.specs.Conditions.{_when_, alike, modelsShare, uneven, rangesWrong, beyond, numbersOutside, roomShort, repeats, locationTwice}
-use Rattle.maps.specs.Fields.{wordAt}
+use Rattle.maps.specs.MapKind.{Asked, brain-told}
 use Rattle.maps.specs.Sums.{MapAt}
 use Rattle.maps.specs.Nine.{InRoom, room-map, room-place}
 use Rattle.maps.specs.Ready.{Ready, mapsAt}
@@ -27,7 +25,7 @@ use Rattle.maps.specs.declared.survey.Maps.{Maps}
 use Rattle.models.specs.Brain.{BrainAt}
 use Rattle.table.specs.Ready as T
 use Rattle.table.specs.Twice.{Judges}
-use Rattle.reader.specs.Judging.{rule12, rule-brain, brain-told, ranges-more, no-models}
+use Rattle.reader.specs.Judging.{rule12, rule-brain, ranges-more, plain-map}
 
 -- ---- Maps to which 10, 11, 12 do not apply, and for which the work space is long enough.
 
@@ -39,16 +37,16 @@ pub record Fine (l : List Map) (work : ℕ) : Type 0 where
 
 -- what is known of the first map
 pub record FineMap (m : Map) (work : ℕ) : Type 0 where
-  pub apart : twoOf alike (models m) ≡ false
-  pub even : isBrainBy (m .content) ≡ true → uneven m ≡ false
-  pub in-volume : any (λ b. beyond (volumeOf m) (b .listed)) (models m) ≡ false
-  pub enough : isBrainBy (m .content) ≡ true → lengthOf m ≤ work
+  pub apart : twoOf alike (m .models) ≡ false
+  pub even : isBrain (m .kind) ≡ true → uneven m ≡ false
+  pub in-volume : any (λ b. beyond (m .volume) (b .listed)) (m .models) ≡ false
+  pub enough : isBrain (m .kind) ≡ true → lengthOf m ≤ work
 
-greatest-more : (m : Map) (l : List Map) → greatest lengthOf (brainMaps (m ∷ l)) ≡ max (cond (isBrainBy (m .content)) (lengthOf m) 0) (greatest lengthOf (brainMaps l))
+greatest-more : (m : Map) (l : List Map) → greatest lengthOf (brainMaps (m ∷ l)) ≡ max (cond (isBrain (m .kind)) (lengthOf m) 0) (greatest lengthOf (brainMaps l))
 unfolding brainMaps those greatest
-greatest-more m l = go (isBrainBy (m .content))
+greatest-more m l = go (isBrain (m .kind))
   where
-    go : (b : Bool) → greatest lengthOf (cond b (m ∷ those (λ x. isBrainBy (x .content)) l) (those (λ x. isBrainBy (x .content)) l)) ≡ max (cond b (lengthOf m) 0) (greatest lengthOf (those (λ x. isBrainBy (x .content)) l))
+    go : (b : Bool) → greatest lengthOf (cond b (m ∷ those (λ x. isBrain (x .kind)) l) (those (λ x. isBrain (x .kind)) l)) ≡ max (cond b (lengthOf m) 0) (greatest lengthOf (those (λ x. isBrain (x .kind)) l))
     go true = refl
     go false = omega arith
 
@@ -56,18 +54,18 @@ module _ (m : Map) (l : List Map) (work : ℕ) (f : Fine (m ∷ l) work) where
   pub fine-first : FineMap m work
   unfolding modelsShare numbersOutside any
   fine-first = record {
-    apart = or-left (twoOf alike (models m)) (any (λ x. twoOf alike (models x)) l) (f .share);
-    even = λ b. (let h : (isBrainBy (m .content) && uneven m) ≡ false = or-left (isBrainBy (m .content) && uneven m) (rangesWrong l) (sym (ranges-more m l) ∙ f .ranges) in rw b at h);
-    in-volume = or-left (any (λ b. beyond (volumeOf m) (b .listed)) (models m)) (any (λ x. any (λ b. beyond (volumeOf x) (b .listed)) (models x)) l) (f .inside);
-    enough = λ b. (let g = f .room in let e = greatest-more m l in let c : cond (isBrainBy (m .content)) (lengthOf m) 0 ≡ lengthOf m = rw b in omega arith);
+    apart = or-left (twoOf alike (m .models)) (any (λ x. twoOf alike (x .models)) l) (f .share);
+    even = λ b. (let h : (isBrain (m .kind) && uneven m) ≡ false = or-left (isBrain (m .kind) && uneven m) (rangesWrong l) (sym (ranges-more m l) ∙ f .ranges) in rw b at h);
+    in-volume = or-left (any (λ b. beyond (m .volume) (b .listed)) (m .models)) (any (λ x. any (λ b. beyond (x .volume) (b .listed)) (x .models)) l) (f .inside);
+    enough = λ b. (let g = f .room in let e = greatest-more m l in let c : cond (isBrain (m .kind)) (lengthOf m) 0 ≡ lengthOf m = rw b in omega arith);
   }
 
   pub fine-rest : Fine l work
   unfolding modelsShare numbersOutside any
   fine-rest = record {
-    share = or-right (twoOf alike (models m)) _ (f .share);
-    ranges = or-right (isBrainBy (m .content) && uneven m) _ (sym (ranges-more m l) ∙ f .ranges);
-    inside = or-right (any (λ b. beyond (volumeOf m) (b .listed)) (models m)) _ (f .inside);
+    share = or-right (twoOf alike (m .models)) _ (f .share);
+    ranges = or-right (isBrain (m .kind) && uneven m) _ (sym (ranges-more m l) ∙ f .ranges);
+    inside = or-right (any (λ b. beyond (m .volume) (b .listed)) (m .models)) _ (f .inside);
     room = let g = f .room in let e = greatest-more m l in omega arith;
   }
 
@@ -78,17 +76,20 @@ pub record OneFine (text : List ℕ) (at work : ℕ) : Type 0 where
   pub fine : FineMap (mapOf (the text at)) work
 
 pub record ToldOne (text : List ℕ) (at : ℕ) (before : List ℕ) (answer : Bool) (after : List ℕ) : Type 0 where
-  pub told : answer ≡ repeats (models (mapOf (the text at)))
+  pub told : answer ≡ repeats ((mapOf (the text at)) .models)
   pub long : length after ≡ length before
 
 module _ {text : List ℕ} {at work : ℕ} (o : OneFine text at work) where
   pub one-stands : Stands text at
   one-stands = o .map .stands
 
-  module _ {b : Bool} (p : b ≡ same (wordAt (ascii "IndicesMapToDataType") (the text at)) (ascii "CIFTI_INDEX_TYPE_BRAIN_MODELS")) where
-    is-brain : b ≡ true → isBrainBy ((mapOf (the text at)) .content) ≡ true
+  module _ {b : Bool} (p : Asked b "CIFTI_INDEX_TYPE_BRAIN_MODELS" (the text at)) where
+    is-kind : isBrain ((mapOf (the text at)) .kind) ≡ b
     unfolding mapOf
-    is-brain t = brain-told text at (o .map .good) p ∙ t
+    is-kind = brain-told (the text at) p
+
+    is-brain : b ≡ true → isBrain ((mapOf (the text at)) .kind) ≡ true
+    is-brain t = is-kind ∙ t
 
     pub one-ready : b ≡ true → T.Ready text at work 0
     one-ready t = record {
@@ -100,8 +101,8 @@ module _ {text : List ℕ} {at work : ℕ} (o : OneFine text at work) where
     }
 
     pub one-other : b ≡ false → (before : List ℕ) → ToldOne text at before false before
-    unfolding repeats any twoOf eachIn mapOf
-    one-other f before = record { told = rw (no-models (mapOf (the text at)) (brain-told text at (o .map .good) p ∙ f)); long = refl }
+    unfolding repeats any twoOf eachIn
+    one-other f before = record { told = rw (plain-map (o .map .good) (is-kind ∙ f)); long = refl }
 
 pub one-told : {text : List ℕ} {at : ℕ} {before after : List ℕ} {r : Bool} → Judges text at before r after → ToldOne text at before r after
 one-told {before = before} j = record { told = j .told; long = ap length (j .cleared) ∙ length-replicate (length before) 0 }

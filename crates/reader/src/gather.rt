@@ -11,7 +11,7 @@ ghost use mathlib.Core.Path.{_≡_};
 ghost use Prim.Native.Nat.{_<_};
 ghost use Rattle.nodes.specs.Places.{the};
 ghost use Rattle.lists.specs.Lists.{twoOf};
-ghost use Rattle.cifti.specs.Maps.{modelOf, mapOf, models};
+ghost use Rattle.cifti.specs.Maps.{modelOf, mapOf};
 ghost use Rattle.cifti.specs.Conditions.{alike};
 ghost use Rattle.models.specs.Brain.{BrainAt};
 ghost use Rattle.models.specs.Kind.{kindNumber, ModelAt};

@@ -13,7 +13,7 @@ use describe::said::Said;
 use maps::survey::Maps;
 ghost use mathlib.Core.Path.{_≡_};
 ghost use Rattle.nodes.specs.Places.{the};
-ghost use Rattle.cifti.specs.Maps.{contentOf};
+ghost use Rattle.cifti.specs.Maps.{mapOf};
 ghost use Rattle.cifti.specs.Answer as answers;
 ghost use Rattle.maps.specs.Sums.{Measured};
 ghost use Rattle.maps.specs.Ready.{mapsAt};
@@ -41,7 +41,7 @@ fn scalars_said(length: u64) -> Dimension
 // What the answer says of the map at `at`, of this length, whose stretch, if it has one, begins at `start`.
 fn described(text: &[u8], at: usize, length: u64, start: usize) -> Dimension
     requires { ⌜ Measured (now text) at length ⌝ }
-    ensures { λ r. ⌜ r ≡ answers.described start (contentOf (the (now (text .entry)) at)) ⌝ }
+    ensures { λ r. ⌜ r ≡ answers.described start (mapOf (the (now (text .entry)) at)) ⌝ }
 {
     if attribute_is(
         text,

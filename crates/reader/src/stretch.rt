@@ -3,7 +3,7 @@ use super::fields::attribute_is;
 use maps::survey::Maps;
 ghost use mathlib.Core.Path.{_≡_};
 ghost use Rattle.nodes.specs.Places.{the};
-ghost use Rattle.cifti.specs.Maps.{contentOf};
+ghost use Rattle.cifti.specs.Maps.{mapOf};
 ghost use Rattle.cifti.specs.Conditions.{roomShort};
 ghost use Rattle.cifti.specs.Answer.{reach};
 ghost use Rattle.maps.specs.Sums.{Measured};
@@ -13,7 +13,7 @@ ghost use Rattle.maps.specs.Nine.{InRoom};
 // Of a map of this length.
 fn stretch_length(text: &[u8], at: usize, length: u64) -> u64
     requires { ⌜ Measured (now text) at length ⌝ }
-    ensures { λ r. ⌜ r ≡ reach (contentOf (the (now (text .entry)) at)) ⌝ }
+    ensures { λ r. ⌜ r ≡ reach (mapOf (the (now (text .entry)) at)) ⌝ }
 {
     if attribute_is(
         text,

@@ -10,7 +10,7 @@ use numbers::Three;
 use numbers::three_lengths;
 ghost use mathlib.Core.Path.{_≡_};
 ghost use Rattle.nodes.specs.Places.{the};
-ghost use Rattle.cifti.specs.Maps.{mapOf, volumeOf, sizesBy};
+ghost use Rattle.cifti.specs.Maps.{mapOf, sizesBy};
 ghost use Rattle.models.specs.Brain.{BrainAt};
 ghost use Rattle.models.specs.Sizes.{VolumeAt, sizesAt};
 ghost use Rattle.models.specs.Verdicts.{volumeFrom};
@@ -36,7 +36,7 @@ fn sizes_at(text: &[u8], at: usize) -> Sizes
 // The sizes of the map's volume, 0 where it has none.
 pub(crate) fn volume_of(text: &[u8], map: usize) -> Sizes
     requires { ⌜ BrainAt (now text) map ⌝ }
-    ensures { λ r. ⌜ volumeFrom r ≡ volumeOf (mapOf (the (now (text .entry)) map)) ⌝ }
+    ensures { λ r. ⌜ volumeFrom r ≡ (mapOf (the (now (text .entry)) map)) .volume ⌝ }
 {
     let mut kid = first_child(text, map);
     loop {

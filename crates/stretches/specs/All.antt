@@ -7,9 +7,9 @@ use native.Mathlib.Omega.{arith}
 use lib.ListN.{length, getD, drop, length-append}
 use borrow.Author.Needs.{needs}
 use Rattle.lists.specs.Lists.{any, eachIn, those, total, twoOf}
-use Rattle.grammar.specs.Facts.{or-left, or-right}
+use Rattle.lists.specs.Booleans.{or-left, or-right}
 use Rattle.records.specs.Fill.{wrote, wrote-none, wrote-on, length-wrote}
-use Rattle.cifti.specs.Maps.{Map, models, brainMaps, isBrainBy, lengthOf, volumeOf}
+use Rattle.cifti.specs.Maps.{Map, brainMaps, isBrain, lengthOf}
 use Rattle.cifti.specs.Conditions.{alike, uneven, beyond, modelsShare, rangesWrong, numbersOutside}
 use Rattle.cifti.specs.Answer.{stretches, filledWith}
 use Rattle.maps.specs.Ready.{mapsAt}
@@ -40,29 +40,29 @@ pub record Filling (text : List ℕ) (maps : Maps) (before : List ℕ) (next i :
 -- ---- Conditions 10, 11 and 12, by the first map and the others.
 
 module _ (m : Map) (l : List Map) where
-  share-one : modelsShare (m ∷ l) ≡ false → twoOf alike (models m) ≡ false
+  share-one : modelsShare (m ∷ l) ≡ false → twoOf alike (m .models) ≡ false
   unfolding modelsShare any
   share-one h = or-left _ _ h
 
   share-rest : modelsShare (m ∷ l) ≡ false → modelsShare l ≡ false
   unfolding modelsShare any
-  share-rest h = or-right (twoOf alike (models m)) _ h
+  share-rest h = or-right (twoOf alike (m .models)) _ h
 
-  inside-one : numbersOutside (m ∷ l) ≡ false → any (λ b. beyond (volumeOf m) (b .listed)) (models m) ≡ false
+  inside-one : numbersOutside (m ∷ l) ≡ false → any (λ b. beyond (m .volume) (b .listed)) (m .models) ≡ false
   unfolding numbersOutside any
   inside-one h = or-left _ _ h
 
   inside-rest : numbersOutside (m ∷ l) ≡ false → numbersOutside l ≡ false
   unfolding numbersOutside any
-  inside-rest h = or-right (any (λ b. beyond (volumeOf m) (b .listed)) (models m)) _ h
+  inside-rest h = or-right (any (λ b. beyond (m .volume) (b .listed)) (m .models)) _ h
 
-  ranges-one : rangesWrong (m ∷ l) ≡ false → isBrainBy (m .content) ≡ true → uneven m ≡ false
+  ranges-one : rangesWrong (m ∷ l) ≡ false → isBrain (m .kind) ≡ true → uneven m ≡ false
   unfolding rangesWrong brainMaps those any
   ranges-one h t = or-left (uneven m) _ (rw t at h)
 
   ranges-rest : rangesWrong (m ∷ l) ≡ false → rangesWrong l ≡ false
   unfolding rangesWrong brainMaps those any
-  ranges-rest h = go (isBrainBy (m .content)) h
+  ranges-rest h = go (isBrain (m .kind)) h
     where
       go : (b : Bool) → any uneven (cond b (m ∷ brainMaps l) (brainMaps l)) ≡ false → any uneven (brainMaps l) ≡ false
       go true k = or-right (uneven m) _ k

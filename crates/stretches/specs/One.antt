@@ -7,31 +7,25 @@ use native.Mathlib.Omega.{arith}
 use lib.ListN.{length, length-append}
 use borrow.Author.Needs.{needs}
 use Rattle.lists.specs.Lists.{any, each, eachIn, those, total, twoOf}
-use Rattle.grammar.specs.Bytes.{ascii}
-use Rattle.grammar.specs.Document.{Element}
-use Rattle.grammar.specs.Look.{has, is, children}
-use Rattle.grammar.specs.Parser.{same}
 use Rattle.nodes.specs.Places.{Stands, the}
 use Rattle.records.specs.Fill.{wrote, wrote-none}
-use Rattle.cifti.specs.Rows.{brainModels}
-use Rattle.cifti.specs.Maps.{Map, brain, scalars, modelOf, sizesOf, seriesOf, contentOf, mapOf, models, brainMaps, isBrainBy, lengthOf, volumeOf}
+use Rattle.cifti.specs.Maps.{Map, mapOf, kindOfMap, brainMaps, isBrain, lengthOf}
 use Rattle.cifti.specs.Conditions.{alike, uneven, beyond}
 use Rattle.cifti.specs.Answer.{stretch, stretches}
 use Rattle.cifti.specs.Said.{stretch-length}
-use Rattle.maps.specs.Good.{Good}
-use Rattle.maps.specs.Kinds.{GoodMap, brain-map, series-map, scalars-map}
-use Rattle.maps.specs.Fields.{wordAt, word-at}
+use Rattle.maps.specs.MapKind.{Asked, asked-brain, brain-told}
 use Rattle.maps.specs.Sums.{MapAt}
+use Rattle.models.specs.Brain.{brain-at}
 use Rattle.table.specs.Ready.{Ready, Filled, mapAt}
 
 -- ---- The stretches, map after map: that of a brain map, none of another.
 
 unfoldable pub stretchOf : Map → List ℕ
-stretchOf m = cond (isBrainBy (m .content)) (stretch m) []
+stretchOf m = cond (isBrain (m .kind)) (stretch m) []
 
 pub stretches-one : (m : Map) (l : List Map) → stretches (m ∷ l) ≡ stretchOf m ++ stretches l
 unfolding stretches brainMaps those eachIn stretchOf
-stretches-one m l = go (isBrainBy (m .content))
+stretches-one m l = go (isBrain (m .kind))
   where
     go : (b : Bool) → eachIn stretch (cond b (m ∷ brainMaps l) (brainMaps l)) ≡ cond b (stretch m) [] ++ eachIn stretch (brainMaps l)
     go true = refl
@@ -46,24 +40,13 @@ pub stretches-length : (l : List Map) → length (stretches l) ≡ total lengthO
 unfolding stretches
 stretches-length l = length-all (brainMaps l)
 
--- ---- The kind of a map.
-
-brain-kind : (e : Element) → isBrainBy ((mapOf e) .content) ≡ has "IndicesMapToDataType" "CIFTI_INDEX_TYPE_BRAIN_MODELS" e
-unfolding mapOf contentOf seriesOf isBrainBy
-brain-kind e = go (has "IndicesMapToDataType" "CIFTI_INDEX_TYPE_BRAIN_MODELS" e) (has "IndicesMapToDataType" "CIFTI_INDEX_TYPE_SERIES" e)
-  where
-    go : (b c : Bool) → isBrainBy (cond b (brain (sizesOf e) (each modelOf (children "BrainModel" e))) (cond c (seriesOf e) (scalars (length (children "NamedMap" e))))) ≡ b
-    go true c = refl
-    go false true = refl
-    go false false = refl
-
 -- ---- The map passes conditions 10, 11 and 12, and its stretch has room from `start` on.
 
 pub record Writable (text : List ℕ) (map room start : ℕ) : Type 0 where
   pub at : MapAt text map
-  pub apart : twoOf alike (models (mapAt text map)) ≡ false
-  pub even : isBrainBy ((mapAt text map) .content) ≡ true → uneven (mapAt text map) ≡ false
-  pub in-volume : any (λ b. beyond (volumeOf (mapAt text map)) (b .listed)) (models (mapAt text map)) ≡ false
+  pub apart : twoOf alike ((mapAt text map) .models) ≡ false
+  pub even : isBrain ((mapAt text map) .kind) ≡ true → uneven (mapAt text map) ≡ false
+  pub in-volume : any (λ b. beyond ((mapAt text map) .volume) (b .listed)) ((mapAt text map) .models) ≡ false
   pub enough : start + length (stretchOf (mapAt text map)) ≤ room
 
 -- the stretch is written from `start` on, and where it ends is told
@@ -75,13 +58,10 @@ module _ {text : List ℕ} {map room start : ℕ} (w : Writable text map room st
   pub one-stands : Stands text map
   one-stands = w .at .stands
 
-  module _ {b : Bool} (p : b ≡ same (wordAt (ascii "IndicesMapToDataType") (the text map)) (ascii "CIFTI_INDEX_TYPE_BRAIN_MODELS")) where
-    told : b ≡ has "IndicesMapToDataType" "CIFTI_INDEX_TYPE_BRAIN_MODELS" (the text map)
-    unfolding has is
-    told = p ∙ ap (λ x. same x (ascii "CIFTI_INDEX_TYPE_BRAIN_MODELS")) (word-at "IndicesMapToDataType" (the text map))
-
-    kind : isBrainBy ((mapAt text map) .content) ≡ b
-    kind = brain-kind (the text map) ∙ sym told
+  module _ {b : Bool} (p : Asked b "CIFTI_INDEX_TYPE_BRAIN_MODELS" (the text map)) where
+    kind : isBrain ((mapAt text map) .kind) ≡ b
+    unfolding mapOf
+    kind = brain-told (the text map) p
 
     no-stretch : b ≡ false → stretchOf (mapAt text map) ≡ []
     unfolding stretchOf
@@ -94,11 +74,6 @@ module _ {text : List ℕ} {map room start : ℕ} (w : Writable text map room st
     }
 
     module _ (t : b ≡ true) where
-      good : GoodMap (the text map) → Good brainModels (the text map)
-      good (brain-map g h) = g
-      good (series-map g h i) = absurd (true≢false (sym (sym told ∙ t) ∙ h))
-      good (scalars-map g h i) = absurd (true≢false (sym (sym told ∙ t) ∙ h))
-
       its-stretch : stretchOf (mapAt text map) ≡ stretch (mapAt text map)
       unfolding stretchOf
       its-stretch = rw (kind ∙ t)
@@ -108,7 +83,7 @@ module _ {text : List ℕ} {map room start : ℕ} (w : Writable text map room st
 
       pub one-ready : Ready text map room start
       one-ready = record {
-        brain = record { stands = w .at .stands; good = good (w .at .good); is-brain = sym told ∙ t };
+        brain = brain-at (w .at) (asked-brain (the text map) p t);
         apart = w .apart;
         even = w .even (kind ∙ t);
         in-volume = w .in-volume;

@@ -10,7 +10,7 @@ use Rattle.lists.specs.Lists.{each}
 use Rattle.lists.specs.Laws.{length-each}
 use Rattle.records.specs.Record.{onSurface, inVolume, recordOf}
 use Rattle.records.specs.Fill.{wrote}
-use Rattle.cifti.specs.Maps.{Voxel, voxel, vertices, voxels, Model, models, lengthOf, covers, threes, voxelAt, locations, locationsBy}
+use Rattle.cifti.specs.Maps.{Voxel, voxel, vertices, voxels, Model, lengthOf, covers, threes, voxelAt, locations, locationsBy}
 use Rattle.cifti.specs.Answer.{stretch}
 use Rattle.cifti.specs.Meaning.{even-iff, covers-iff, record-at}
 use Rattle.cifti.specs.Said.{stretch-at}
@@ -74,9 +74,9 @@ module _ (m : Model) (at : ℕ) (out : List ℕ) (room : at + length (recordsOf 
 
 -- ---- In the map: the n-th of a model's list is at IndexOffset + n of the stretch.
 
-module _ {text : List ℕ} {map room start : ℕ} (r : Ready text map room start) (a : ℕ) (u : a < length (models (mapAt text map))) where
+module _ {text : List ℕ} {map room start : ℕ} (r : Ready text map room start) (a : ℕ) (u : a < length ((mapAt text map) .models)) where
   abbrev here : Model
-  here = getD (models (mapAt text map)) a nobody
+  here = getD ((mapAt text map) .models) a nobody
 
   pub nth-index : (n : ℕ) → n < here .count → getD (stretch (mapAt text map)) (here .offset + n) 0 ≡ recordOf (getD (locations here) n (onSurface 0 0))
   nth-index n h =
@@ -87,6 +87,6 @@ module _ {text : List ℕ} {map room start : ℕ} (r : Ready text map room start
       let i : a ≡ o .0 = o .3 a u c in
       let d : here .offset + n - here .offset ≡ n = omega arith in
       stretch-at (mapAt text map) (here .offset + n) w
-      ∙ record-at nobody (models (mapAt text map)) (here .offset + n) o
-      ∙ ap (λ k. recordOf (getD (locations (getD (models (mapAt text map)) k nobody)) (here .offset + n - (getD (models (mapAt text map)) k nobody) .offset) (onSurface 0 0))) (sym i)
+      ∙ record-at nobody ((mapAt text map) .models) (here .offset + n) o
+      ∙ ap (λ k. recordOf (getD (locations (getD ((mapAt text map) .models) k nobody)) (here .offset + n - (getD ((mapAt text map) .models) k nobody) .offset) (onSurface 0 0))) (sym i)
       ∙ ap (λ k. recordOf (getD (locations here) k (onSurface 0 0))) d

@@ -13,7 +13,7 @@ use Rattle.grammar.specs.Look.{is, nameOf, contentsOf, elements, attr}
 use Rattle.nodes.specs.Places.{the}
 use Rattle.records.specs.Record.{onSurface, Fits}
 use Rattle.records.specs.Fill.{wrote}
-use Rattle.cifti.specs.Maps.{voxels, Model, Map, modelOf, mapOf, models, lengthOf, volumeOf, locations}
+use Rattle.cifti.specs.Maps.{voxels, Model, Map, modelOf, mapOf, lengthOf, locations}
 use Rattle.cifti.specs.Conditions.{alike, uneven, beyond}
 use Rattle.cifti.specs.Answer.{stretch}
 use Rattle.maps.specs.Chain.{Counting, none-counts, one-counts}
@@ -22,7 +22,7 @@ use Rattle.maps.specs.Fill as Fill
 use Rattle.maps.specs.Table.{recordsOf, fitting, table-law}
 use Rattle.maps.specs.Good.{AllGood, none-left, one-good}
 use Rattle.maps.specs.Kinds.{GoodModel, good-model, model-facts, brainRows, brain-children}
-use Rattle.models.specs.Brain.{BrainAt, isModel, models-are, brain-models, brain-volume, brain-sum, whole-within}
+use Rattle.models.specs.Brain.{BrainAt, isModel, models-are, map-models, map-volume, brain-sum, whole-within}
 use Rattle.models.specs.Verdicts.{listsRule}
 use Rattle.models.specs.Gathered.{Gathered, Gathers}
 use Rattle.models.specs.Held.{BrainHeld, holding, modelsAt, held-models, held-count, held-at}
@@ -37,17 +37,17 @@ mapAt text map = mapOf (the text map)
 -- the map passes conditions 10, 11 and 12, and has room from `start` on
 pub record Ready (text : List ℕ) (map room start : ℕ) : Type 0 where
   pub brain : BrainAt text map
-  pub apart : twoOf alike (models (mapAt text map)) ≡ false
+  pub apart : twoOf alike ((mapAt text map) .models) ≡ false
   pub even : uneven (mapAt text map) ≡ false
-  pub in-volume : any (λ b. beyond (volumeOf (mapAt text map)) (b .listed)) (models (mapAt text map)) ≡ false
+  pub in-volume : any (λ b. beyond ((mapAt text map) .volume) (b .listed)) ((mapAt text map) .models) ≡ false
   pub enough : start + lengthOf (mapAt text map) ≤ room
 
 -- by the answers of condition 10 and of 11 and 12
-pub ready-by : {text : List ℕ} {map room start : ℕ} → BrainAt text map → twoOf alike (models (mapAt text map)) ≡ false → listsRule (mapAt text map) ≡ 0 → start + lengthOf (mapAt text map) ≤ room → Ready text map room start
+pub ready-by : {text : List ℕ} {map room start : ℕ} → BrainAt text map → twoOf alike ((mapAt text map) .models) ≡ false → listsRule (mapAt text map) ≡ 0 → start + lengthOf (mapAt text map) ≤ room → Ready text map room start
 unfolding listsRule
-ready-by {text} {map} {room} {start} b a l e = go (uneven (mapAt text map)) (any (λ x. beyond (volumeOf (mapAt text map)) (x .listed)) (models (mapAt text map))) refl refl l
+ready-by {text} {map} {room} {start} b a l e = go (uneven (mapAt text map)) (any (λ x. beyond ((mapAt text map) .volume) (x .listed)) ((mapAt text map) .models)) refl refl l
   where
-    go : (x y : Bool) → uneven (mapAt text map) ≡ x → any (λ x. beyond (volumeOf (mapAt text map)) (x .listed)) (models (mapAt text map)) ≡ y → _≡_ {A = ℕ} (cond x 11 (cond y 12 0)) 0 → Ready text map room start
+    go : (x y : Bool) → uneven (mapAt text map) ≡ x → any (λ x. beyond ((mapAt text map) .volume) (x .listed)) ((mapAt text map) .models) ≡ y → _≡_ {A = ℕ} (cond x 11 (cond y 12 0)) 0 → Ready text map room start
     go true y p q h = absurd (omega arith)
     go false true p q h = absurd (omega arith)
     go false false p q h = record { brain = b; apart = a; even = p; in-volume = q; enough = e }
@@ -95,45 +95,44 @@ abbrev pub nobody : Model
 nobody = record { structure = 0; offset = 0; count = 0; listed = voxels [] }
 
 module _ {text : List ℕ} {map : ℕ} (b : BrainAt text map) where
-  pub good-one : (i : ℕ) → i < length (models (mapAt text map)) → GoodOne (getD (models (mapAt text map)) i nobody)
+  pub good-one : (i : ℕ) → i < length ((mapAt text map) .models) → GoodOne (getD ((mapAt text map) .models) i nobody)
   good-one i u =
-      let e : models (mapAt text map) ≡ each modelOf (those isModel (elements (contentsOf (the text map)))) = brain-models (the text map) (b .is-brain) ∙ ap (each modelOf) (models-are (the text map)) in
+      let e : (mapAt text map) .models ≡ each modelOf (those isModel (elements (contentsOf (the text map)))) = map-models (the text map) ∙ ap (each modelOf) (models-are (the text map)) in
       rw e (good-among (elements (contentsOf (the text map))) (brain-children (b .good)) nobody i (rw e at u))
 
-  pub counts : (i : ℕ) → i < length (models (mapAt text map)) → 1 ≤ (getD (models (mapAt text map)) i nobody) .count
+  pub counts : (i : ℕ) → i < length ((mapAt text map) .models) → 1 ≤ (getD ((mapAt text map) .models) i nobody) .count
   counts i u = let o = good-one i u in rw (o .is-of) (count-some (o .good))
 
-  pub counting : Counting (models (mapAt text map))
-  counting = counting-by nobody (models (mapAt text map)) counts
+  pub counting : Counting ((mapAt text map) .models)
+  counting = counting-by nobody ((mapAt text map) .models) counts
 
-  volume-small : InBits (volumeOf (mapAt text map))
-  volume-small = rw (brain-volume (the text map) (b .is-brain)) (brain-sized (b .good))
+  volume-small : InBits ((mapAt text map) .volume)
+  volume-small = rw (map-volume (the text map)) (brain-sized (b .good))
 
   -- where 12 does not apply, every location fits its record
-  pub all-fits : any (λ x. beyond (volumeOf (mapAt text map)) (x .listed)) (models (mapAt text map)) ≡ false
-      → (i : ℕ) → i < length (models (mapAt text map)) → (p : ℕ) → p < length (locations (getD (models (mapAt text map)) i nobody)) → Fits (getD (locations (getD (models (mapAt text map)) i nobody)) p (onSurface 0 0))
+  pub all-fits : any (λ x. beyond ((mapAt text map) .volume) (x .listed)) ((mapAt text map) .models) ≡ false
+      → (i : ℕ) → i < length ((mapAt text map) .models) → (p : ℕ) → p < length (locations (getD ((mapAt text map) .models) i nobody)) → Fits (getD (locations (getD ((mapAt text map) .models) i nobody)) p (onSurface 0 0))
   all-fits h i u p v =
       let o = good-one i u in
-      let k = none-beyond nobody (volumeOf (mapAt text map)) (models (mapAt text map)) h i u in
-      rw (o .is-of) (model-fits (volumeOf (mapAt text map)) (o .good) volume-small (rw (o .is-of) at k) p (rw (o .is-of) at v))
+      let k = none-beyond nobody ((mapAt text map) .volume) ((mapAt text map) .models) h i u in
+      rw (o .is-of) (model-fits ((mapAt text map) .volume) (o .good) volume-small (rw (o .is-of) at k) p (rw (o .is-of) at v))
 
-pub sum-is : {text : List ℕ} {map : ℕ} → BrainAt text map → lengthOf (mapAt text map) ≡ total (λ x. x .count) (models (mapAt text map))
-unfolding lengthOf mapOf
-sum-is {text} {map} b = brain-sum (the text map) (b .is-brain) ∙ ap (total (λ x. x .count)) (sym (brain-models (the text map) (b .is-brain)))
+pub sum-is : {text : List ℕ} {map : ℕ} → BrainAt text map → lengthOf (mapAt text map) ≡ total (λ x. x .count) ((mapAt text map) .models)
+sum-is {text} {map} b = brain-sum (the text map) (b .is-brain)
 
 -- where 11 does not apply, every model has its place in the map
-all-places : {text : List ℕ} {map : ℕ} → BrainAt text map → uneven (mapAt text map) ≡ false → Fitting recordsOf (lengthOf (mapAt text map)) (models (mapAt text map))
+all-places : {text : List ℕ} {map : ℕ} → BrainAt text map → uneven (mapAt text map) ≡ false → Fitting recordsOf (lengthOf (mapAt text map)) ((mapAt text map) .models)
 all-places {text} {map} b e = fitting nobody (mapAt text map) e (counting b) (sum-is b)
 
-pub in-range : {text : List ℕ} {map : ℕ} → BrainAt text map → uneven (mapAt text map) ≡ false → (i : ℕ) → i < length (models (mapAt text map))
-    → (getD (models (mapAt text map)) i nobody) .offset + (getD (models (mapAt text map)) i nobody) .count ≤ lengthOf (mapAt text map)
+pub in-range : {text : List ℕ} {map : ℕ} → BrainAt text map → uneven (mapAt text map) ≡ false → (i : ℕ) → i < length ((mapAt text map) .models)
+    → (getD ((mapAt text map) .models) i nobody) .offset + (getD ((mapAt text map) .models) i nobody) .count ≤ lengthOf (mapAt text map)
 in-range b e i u = fits-by (all-places b e) nobody i u .1
 
 module _ {text : List ℕ} {map room start : ℕ} (r : Ready text map room start) where
   pub ready-brain : BrainAt text map
   ready-brain = r .brain
 
-  places : Fitting recordsOf (lengthOf (mapAt text map)) (models (mapAt text map))
+  places : Fitting recordsOf (lengthOf (mapAt text map)) ((mapAt text map) .models)
   places = all-places (r .brain) (r .even)
 
   module _ {m : Models} (gs : Gathers text map m) where
@@ -143,14 +142,14 @@ module _ {text : List ℕ} {map room start : ℕ} (r : Ready text map room start
     held : BrainHeld text map m
     held = record { brain = r .brain; held = ready-gathered }
 
-    many : (i : ℕ) → i < m .count → i < length (models (mapAt text map))
+    many : (i : ℕ) → i < m .count → i < length ((mapAt text map) .models)
     many i h = omega (arith, held-count held)
 
-    is-at : (i : ℕ) → i < m .count → getD (models (mapAt text map)) i nobody ≡ nthModel text m i
+    is-at : (i : ℕ) → i < m .count → getD ((mapAt text map) .models) i nobody ≡ nthModel text m i
     is-at i h = held-at held nobody i h
 
     fits-in : (i : ℕ) → i < m .count → AllFit (locations (nthModel text m i))
-    fits-in i h = rw (is-at i h) at (all-fit (locations (getD (models (mapAt text map)) i nobody)) (all-fits (r .brain) (r .in-volume) i (many i h)))
+    fits-in i h = rw (is-at i h) at (all-fit (locations (getD ((mapAt text map) .models) i nobody)) (all-fits (r .brain) (r .in-volume) i (many i h)))
 
     place-in : (i : ℕ) → i < m .count → start + (nthModel text m i) .offset + length (recordsOf (nthModel text m i)) ≤ room
     place-in i h =

@@ -17,7 +17,7 @@ use Rattle.records.specs.RecordLaws.{key-at}
 use Rattle.records.specs.Fill.{wrote, wrote-none, wrote-next, length-wrote}
 use Rattle.records.specs.Repeat.{Repeats, repeatRefusal, Checks}
 use Rattle.records.specs.RepeatLaws.{two-repeats, repeat-told}
-use Rattle.cifti.specs.Maps.{models, lengthOf}
+use Rattle.cifti.specs.Maps.{lengthOf}
 use Rattle.cifti.specs.Conditions.{repeats}
 use Rattle.cifti.specs.Answer.{recordAt, stretch}
 use Rattle.cifti.specs.Meaning.{even-iff}
@@ -77,28 +77,28 @@ pub ruleset keying = (keying-start, keying-kept, keying-done, keying-place, keyi
 
 -- condition 14 of the map is told, and the work space is zero
 pub record Judges (text : List ℕ) (m : ℕ) (before : List ℕ) (answer : Bool) (after : List ℕ) : Type 0 where
-  pub told : answer ≡ repeats (models (mapAt text m))
+  pub told : answer ≡ repeats ((mapAt text m) .models)
   pub cleared : after ≡ replicate (length before) 0
 
 module _ {text : List ℕ} {m room : ℕ} (r : Ready text m room 0) where
-  size : lengthOf (mapAt text m) ≡ total (λ b. b .count) (models (mapAt text m))
+  size : lengthOf (mapAt text m) ≡ total (λ b. b .count) ((mapAt text m) .models)
   size = sum-is (r .brain)
 
   Key : Type 0
   Key =
-      OneKey nobody (models (mapAt text m)) (r .apart) (even-iff nobody (mapAt text m) .0 (r .even) .lists)
+      OneKey nobody ((mapAt text m) .models) (r .apart) (even-iff nobody (mapAt text m) .0 (r .even) .lists)
       (λ n u. even-iff nobody (mapAt text m) .0 (r .even) .one n (omega (arith, size))) (counts (r .brain)) (all-fits (r .brain) (r .in-volume))
 
-  applies : (repeats (models (mapAt text m)) ≡ true) ↔ Key
+  applies : (repeats ((mapAt text m) .models) ≡ true) ↔ Key
   unfolding Key
   applies =
-      by-key nobody (models (mapAt text m)) (r .apart) (even-iff nobody (mapAt text m) .0 (r .even) .lists)
+      by-key nobody ((mapAt text m) .models) (r .apart) (even-iff nobody (mapAt text m) .0 (r .even) .lists)
       (λ n u. even-iff nobody (mapAt text m) .0 (r .even) .one n (omega (arith, size))) (counts (r .brain)) (all-fits (r .brain) (r .in-volume))
 
   stretchKeys : List ℕ
   stretchKeys = map keyOf (stretch (mapAt text m))
 
-  key-of : (i : ℕ) → i < lengthOf (mapAt text m) → getD stretchKeys i 0 ≡ keyOf (recordAt (models (mapAt text m)) i)
+  key-of : (i : ℕ) → i < lengthOf (mapAt text m) → getD stretchKeys i 0 ≡ keyOf (recordAt ((mapAt text m) .models) i)
   unfolding stretchKeys
   key-of i u = key-at (stretch (mapAt text m)) i ∙ ap keyOf (stretch-at (mapAt text m) i u)
 
@@ -177,8 +177,8 @@ module _ {text : List ℕ} {m : ℕ} {before : List ℕ} (r : Ready text m (leng
         pub judge-told : Judges text m before (eqb a 14) w₃
         judge-told = record { told = told ∙ go (twoOf eqb (stretchKeys r)) refl; cleared = zeros }
           where
-            go : (b : Bool) → twoOf eqb (stretchKeys r) ≡ b → b ≡ repeats (models (mapAt text m))
+            go : (b : Bool) → twoOf eqb (stretchKeys r) ≡ b → b ≡ repeats ((mapAt text m) .models)
             go true e = sym (applies r .1 (to-key r (two-repeats (stretchKeys r) .0 e)))
-            go false e = sym (refute (repeats (models (mapAt text m))) (λ h. both-ways (two-repeats (stretchKeys r) .1 (from-key r (applies r .0 h))) e))
+            go false e = sym (refute (repeats ((mapAt text m) .models)) (λ h. both-ways (two-repeats (stretchKeys r) .1 (from-key r (applies r .0 h))) e))
 
 pub ruleset judging = (judge-enough, judge-told, needs)
