@@ -3,6 +3,3 @@ pub mod Room
 pub mod Series
 pub mod Listing
 pub mod Said
-pub mod Names
-pub mod NamesOn
-pub mod OfDocument

@@ -9,8 +9,8 @@ use Rattle.records.specs.declared.search.Found.{Found}
 use Rattle.records.specs.declared.outcome.Outcome.{Outcome}
 use Rattle.cifti.specs.Answer.{Reads}
 use Rattle.cifti.specs.declared.answer.Answer.{Answer}
-use Rattle.name_place.specs.Placed.{NamePlaced}
-use Rattle.name_place.specs.declared.NamePlace.{NamePlace}
+use Rattle.map_names.specs.Placed.{NamePlaced}
+use Rattle.map_names.specs.declared.NamePlace.{NamePlace}
 use Rattle.flat.specs.Flat.{answerNumbers, told}
 
 pub record ReadsFlat (text lengths records work slice : List ℕ) (number : ℕ) (recordsAfter workAfter sliceAfter : List ℕ) : Type 0 where

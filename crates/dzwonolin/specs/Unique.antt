@@ -7,8 +7,8 @@ use Rattle.records.specs.declared.search.Found.{Found}
 use Rattle.records.specs.declared.outcome.Outcome.{Outcome}
 use Rattle.cifti.specs.Theorems.{reads-unique}
 use Rattle.cifti.specs.declared.answer.Answer.{Answer}
-use Rattle.name_place.specs.Unique.{place-unique}
-use Rattle.name_place.specs.declared.NamePlace.{NamePlace}
+use Rattle.map_names.specs.Placed.{place-unique}
+use Rattle.map_names.specs.declared.NamePlace.{NamePlace}
 use Rattle.flat.specs.Flat.{answerNumbers, told}
 use Rattle.dzwonolin.specs.Promises.{ReadsFlat, NamesFlat, FindsFlat, PacksFlat, UnpacksFlat}
 

@@ -2,7 +2,7 @@
 use flat::tell_answer;
 use flat::tell_one;
 use flat::tell_two;
-use name_place::name_place;
+use reader::map_name_place;
 use records::Index;
 ghost use Rattle.dzwonolin.specs.Promises.{ReadsFlat, NamesFlat, FindsFlat, PacksFlat, UnpacksFlat};
 
@@ -31,7 +31,7 @@ pub extern "C" fn dz_map_name(
 ) -> u64
     ensures { λ r. ⌜ NamesFlat (now (text .entry)) (now (lengths .entry)) dimension index (now (part .entry)) r (now (part .exit)) ⌝ }
 {
-    let said = name_place(text, lengths, dimension, Index(index));
+    let said = map_name_place(text, lengths, dimension, Index(index));
     tell_two(part, said.start as u64, said.length as u64);
     said.number
 }

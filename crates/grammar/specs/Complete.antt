@@ -19,7 +19,7 @@ use Rattle.grammar.specs.Tokens.{name-complete, gap-complete, equals-com
 use Rattle.grammar.specs.Parser.{name-at, attributes-at, ends, closing, comment-at, Look, at-close, at-comment, at-element, at-text, look, look₂, look-by, look-if, empty-at, full-at, element-at, contents-by, contents-at, setting-at, asking, encoding-if, declaration-if, declaration-at, blank-at, remarked-at, aside-at, no-aside, end-at, document-at, answer, parse}
 
 -- an element begins with `<` and the first byte of a name
-data Opening : List ℕ → Type 0 where
+pub data Opening : List ℕ → Type 0 where
   opening : (a : ℕ) (w : List ℕ) → nameStart a ≡ true → Opening (60 ∷ a ∷ w)
 
 name-opens : {n : List ℕ} → Name n → (x : List ℕ) → Opening (60 ∷ (n ++ x))
@@ -28,7 +28,7 @@ name-opens (Grammar.name {a} {w} h₁ h₂ h₃) x = opening a (w ++ x) h₁
 nameStart-is-not : (a b : ℕ) → nameStart a ≡ true → b < 65 → eqb a b ≡ false
 nameStart-is-not a b h l = let x = nameStart-in a h in ne-eqb a b λ e. omega arith
 
-opening-looks : {w : List ℕ} → Opening w → (r : List ℕ) → look (w ++ r) ≡ at-element
+pub opening-looks : {w : List ℕ} → Opening w → (r : List ℕ) → look (w ++ r) ≡ at-element
 unfolding look look₂ look-if look-by
 opening-looks (opening a w h) r = rw (nameStart-is-not a 47 h (omega arith), nameStart-is-not a 33 h (omega arith))
 
@@ -60,9 +60,9 @@ slash-closes : {u : List ℕ} → Each blank u → (r : List ℕ) → ends closi
 unfolding ends closing blank
 slash-closes h r = rw (ends-blanks closing h (47 ∷ r))
 
-record ElementRead (d : ℕ) (e : Element) (w : List ℕ) : Type 0 where
-  reads : (n : ℕ) → length w ≤ n → (r : List ℕ) → element-at (contents-at n) d (w ++ r) ≡ got e r
-  opens : Opening w
+pub record ElementRead (d : ℕ) (e : Element) (w : List ℕ) : Type 0 where
+  pub reads : (n : ℕ) → length w ≤ n → (r : List ℕ) → element-at (contents-at n) d (w ++ r) ≡ got e r
+  pub opens : Opening w
 
 record ContentsRead (d : ℕ) (c : Contents) (w : List ℕ) : Type 0 where
   reads : (n : ℕ) → length w < n → (r : List ℕ) → contents-at n d (w ++ (60 ∷ 47 ∷ r)) ≡ got c (60 ∷ 47 ∷ r)
@@ -122,7 +122,7 @@ none-read : {d : ℕ} → ContentsRead d nothing []
 unfolding contents-by
 none-read {d} = record { reads = λ n h r. with-fuel (λ n. contents-at n d (60 ∷ 47 ∷ r) ≡ got nothing (60 ∷ 47 ∷ r)) 0 n h λ m hm. rw (contents-suc, close-looks) }
 
-comment-looks : {w : List ℕ} → Comment w → (r : List ℕ) → look (w ++ r) ≡ at-comment
+pub comment-looks : {w : List ℕ} → Comment w → (r : List ℕ) → look (w ++ r) ≡ at-comment
 unfolding look look₂ look-if look-by
 comment-looks (Grammar.comment t) r = refl
 
@@ -179,7 +179,7 @@ inner-read {d} {e} {c} {w} {s} ih₁ ih₂ = record {
       rw (append-assoc w s, contents-suc, opening-looks (ih₁ .opens), ih₁ .reads m fits₁ (s ++ (60 ∷ 47 ∷ r)), ih₂ .reads m fits₂ r);
 }
 
-element-read : {d : ℕ} {e : Element} {w : List ℕ} → WritesElement d e w → ElementRead d e w
+pub element-read : {d : ℕ} {e : Element} {w : List ℕ} → WritesElement d e w → ElementRead d e w
 element-read t = elim t as (λ d e w _. ElementRead d e w) (λ d c w _. ContentsRead d c w) [
   | Grammar.full nm at hu (kids → ih) hv ↦ full-read nm at hu ih hv
   | Grammar.empty nm at hu ↦ empty-read nm at hu
@@ -239,7 +239,7 @@ asked : (r : List ℕ) → begins (ascii "<?") (60 ∷ 63 ∷ r) ≡ true
 unfolding begins
 asked r = refl
 
-declaration-complete : {p : List ℕ} → Declaration p → (r : List ℕ) → begins (ascii "<?") r ≡ false → declaration-at (p ++ r) ≡ got tt r
+pub declaration-complete : {p : List ℕ} → Declaration p → (r : List ℕ) → begins (ascii "<?") r ≡ false → declaration-at (p ++ r) ≡ got tt r
 unfolding declaration-at declaration-if bind
 declaration-complete Grammar.no-declaration r h = rw h
 declaration-complete (Grammar.declaration {v} {e} {u} h₁ h₂ h₃) r h =
@@ -271,18 +271,18 @@ pub aside-long : {b w : List ℕ} → Aside b w → 0 < length w
 aside-long (Grammar.blank-aside h) = omega arith
 aside-long (Grammar.comment-aside k) = comment-long k
 
-aside-item : Item Aside no-aside aside-at
+pub aside-item : Item Aside no-aside aside-at
 aside-item = record { reads = λ k r. aside-reads k r; goes = λ k r. aside-goes k r; long = λ k. aside-long k }
 
-opening-no-aside : {w : List ℕ} → Opening w → (r : List ℕ) → no-aside (w ++ r) ≡ true
+pub opening-no-aside : {w : List ℕ} → Opening w → (r : List ℕ) → no-aside (w ++ r) ≡ true
 unfolding no-aside stops begins blank
 opening-no-aside (opening a w h) r = rw (nameStart-is-not a 33 h (omega arith))
 
-opening-no-ask : {w : List ℕ} → Opening w → (r : List ℕ) → begins (ascii "<?") (w ++ r) ≡ false
+pub opening-no-ask : {w : List ℕ} → Opening w → (r : List ℕ) → begins (ascii "<?") (w ++ r) ≡ false
 unfolding begins
 opening-no-ask (opening a w h) r = rw (nameStart-is-not a 63 h (omega arith))
 
-asides-no-ask : {l : List (List ℕ)} {u : List ℕ} → Sequence Aside l u → (r : List ℕ) → begins (ascii "<?") r ≡ false → begins (ascii "<?") (u ++ r) ≡ false
+pub asides-no-ask : {l : List (List ℕ)} {u : List ℕ} → Sequence Aside l u → (r : List ℕ) → begins (ascii "<?") r ≡ false → begins (ascii "<?") (u ++ r) ≡ false
 unfolding begins
 asides-no-ask no-more r e = e
 asides-no-ask (one-more (Grammar.blank-aside {a} h) t) r e = let low = blank-in a h in rw (ne-eqb a 60 λ q. omega arith)

@@ -109,7 +109,7 @@ module _ {e : Element} (g : GoodMap e) where
 
 -- ---- Children that the row does not name: there are none.
 
-unfoldable rowsName : String → List (ChildRow ElementKind) → Bool
+unfoldable pub rowsName : String → List (ChildRow ElementKind) → Bool
 rowsName s [] = false
 rowsName s (child t n w ∷ r) = is t (ascii s) || rowsName s r
 
@@ -121,7 +121,7 @@ module _ (s : String) where
       let z : is t (nameOf e) ≡ false = rw (is-word s (nameOf e) q) (or-left _ _ h) in
       rw z (unknown r e (or-right (is t (ascii s)) _ h) q)
 
-  absent : (r : List (ChildRow ElementKind)) (l : List Element) → rowsName s r ≡ false → AllGood r l → those (λ e. is s (nameOf e)) l ≡ []
+  pub absent : (r : List (ChildRow ElementKind)) (l : List Element) → rowsName s r ≡ false → AllGood r l → those (λ e. is s (nameOf e)) l ≡ []
   unfolding those
   absent r [] h none-left = refl
   absent r (e ∷ l) h (one-good (good-as {k} q g) m) = go (is s (nameOf e)) refl (absent r l h m)

@@ -94,7 +94,7 @@ kid-step n s =
     kid-suc (length s) n s
     ∙ by-same (kid-within (length s) n) (kid-at n) (look (to-tag s)) n (to-tag s) (λ r l. kid-enough (length s) (suc (length r)) n r (omega (arith, to-tag-short s)) (omega arith))
 
-kid-look : (n : ℕ) (s : List ℕ) (l : Look) → look s ≡ l → (l ≡ at-text → ⊥) → kid-at n s ≡ kid-by l (kid-at n) n s
+pub kid-look : (n : ℕ) (s : List ℕ) (l : Look) → look s ≡ l → (l ≡ at-text → ⊥) → kid-at n s ≡ kid-by l (kid-at n) n s
 kid-look n s l e f = let z = tag-here s l e f in kid-step n s ∙ rw (z, e)
 
 -- a cursor that was found in the end `s` of a text is not before it
@@ -119,7 +119,7 @@ unfolding left
 within-left zero text s = rw (kid-zero (length text) s) (omega arith)
 within-left (suc m) text s = rw (kid-suc m (length text) s) (omega (arith, to-tag-short s, by-left text (kid-within m (length text)) (look (to-tag s)) (to-tag s) (λ r. within-left m text r)))
 
-kid-left : (text s : List ℕ) → left text (kid-at (length text) s) ≤ length s
+pub kid-left : (text s : List ℕ) → left text (kid-at (length text) s) ≤ length s
 unfolding kid-at
 kid-left text s = within-left (suc (length s)) text s
 
@@ -127,11 +127,11 @@ left-child : (text : List ℕ) (k : ℕ) → left text (Child k) ≡ length text
 unfolding left
 left-child text k = refl
 
-next-read : (text : List ℕ) (at : ℕ) {e : Element} {r : List ℕ} → element₁₆ (drop at text) ≡ got e r → next text at ≡ kid-at (length text) r
+pub next-read : (text : List ℕ) (at : ℕ) {e : Element} {r : List ℕ} → element₁₆ (drop at text) ≡ got e r → next text at ≡ kid-at (length text) r
 unfolding next kid-then
 next-read text at {e} {r} k = rw (skip-element (drop at text) e r k)
 
-elements-joined : (b : List ℕ) (c : Contents) → elements (joined b c) ≡ elements c
+pub elements-joined : (b : List ℕ) (c : Contents) → elements (joined b c) ≡ elements c
 unfolding elements joined
 elements-joined b nothing = refl
 elements-joined b (child e c) = refl

@@ -7,7 +7,7 @@ use mathlib.Core.Bool.{not}
 use lib.ListN.{length, length-append}
 use Rattle.lists.specs.Booleans.{clash}
 use Rattle.grammar.specs.Bytes.{ascii, blank, begins}
-use Rattle.grammar.specs.Document.{Contents}
+use Rattle.grammar.specs.Document.{Element, Contents}
 use Rattle.grammar.specs.Read.{Read, fail, got, Reader, bind, seen, alt, Ok, failed, good, mark-sound, span-sound, test-sound}
 use Rattle.grammar.specs.Parser.{Look, at-close, at-comment, at-element, at-text, look, comment-at, empty-at, full-at, element-at, contents-by}
 use Rattle.grammar.specs.Sound.{name-sound, attributes-sound, comment-sound, text-sound}
@@ -84,6 +84,9 @@ contents-below (suc n) d e s h k = rw (contents-step d s, contents-step e s) (by
 below-got : {A : Type 0} {m n : Read A} {a : A} {r : List ℕ} → Below m n → m ≡ got a r → n ≡ got a r
 below-got fails e = clash (cc)
 below-got equal e = e
+
+pub element-deeper : (d : ℕ) (s : List ℕ) {e : Element} {r : List ℕ} → d ≤ 16 → element-at contents d s ≡ got e r → element-at contents 16 s ≡ got e r
+element-deeper d s h e = below-got (element-below (length s) (contents-below (length s)) d 16 s (omega arith) h) e
 
 pub contents-deeper : (d : ℕ) (s : List ℕ) {c : Contents} {r : List ℕ} → d ≤ 16 → contents d s ≡ got c r → contents 16 s ≡ got c r
 contents-deeper d s h e = below-got (contents-below (suc (length s)) d 16 s (omega arith) h) e

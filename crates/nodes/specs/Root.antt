@@ -31,7 +31,7 @@ pub record Rooted (text : List ℕ) (e : Element) : Type 0 where
   pub stands : Stands text place
   pub is : the text place ≡ e
 
-whole-tail : (text : List ℕ) → Tail text text
+pub whole-tail : (text : List ℕ) → Tail text text
 whole-tail text = let z : length text - length text ≡ 0 = omega arith in record { fits = omega arith; stands = rw z }
 
 answered : (m : Read Element) (e : Element) → answer m ≡ some e → (r : List ℕ) × (m ≡ got e r)

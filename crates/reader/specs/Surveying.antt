@@ -14,7 +14,6 @@ use Rattle.grammar.specs.Document.{Element}
 use Rattle.grammar.specs.Parser.{parse}
 use Rattle.nodes.specs.Places.{the}
 use Rattle.cifti.specs.Maps.{mapsOf}
-use Rattle.cifti.specs.Names.{namesOn}
 use Rattle.cifti.specs.Conditions as C
 use Rattle.cifti.specs.Conditions.{_when_, dimensionsWrong, lengthWrong, ofMaps, textTooLong}
 use Rattle.maps.specs.Survey.{MatrixAt, MapsAre}
@@ -22,8 +21,6 @@ use Rattle.maps.specs.Ready.{mapsIn, mapsAt, Ready, maps-many, maps-ready, maps
 use Rattle.maps.specs.Eight.{Surveyed}
 use Rattle.maps.specs.Nine.{InRoom}
 use Rattle.maps.specs.declared.survey.Maps.{Maps}
-use Rattle.describe.specs.NamesOn.{namesAt}
-use Rattle.describe.specs.OfDocument.{names-at}
 use Rattle.opening.specs.Opening.{Opens, Passed, number9, nine-document, lengths-three}
 use Rattle.opening.specs.declared.seven.Opening.{Opening}
 use Rattle.reader.specs.declared.surveying.Survey.{Survey}
@@ -35,7 +32,6 @@ pub record Readied (text lengths : List ℕ) (maps : Maps) : Type 0 where
   pub room : InRoom text maps
   pub all : mapsAt text maps ≡ mapsOf document
   pub listed : dimensionsWrong lengths (mapsAt text maps) ≡ false
-  pub named : (d : ℕ) → namesOn d document ≡ namesAt text maps d
 
 pub record Surveys (text lengths : List ℕ) (s : Survey) : Type 0 where
   pub number-is : s .number ≡ number9 text lengths
@@ -100,7 +96,6 @@ module _ {text lengths : List ℕ} {o : Opening} (op : Opens text lengths o) whe
                 room = survey-room;
                 all = same ∙ sym (passed .maps);
                 listed = rw same (sym p ∙ f);
-                named = names-at are few (passed .document) (passed .only);
               });
             }
 

@@ -11,7 +11,6 @@ mod lengths;
 mod listing;
 mod map;
 mod names;
-mod naming;
 mod ranges;
 mod reading;
 mod said;
@@ -27,4 +26,5 @@ mod volume;
 
 pub use names::map_name;
 pub use names::map_name_number;
+pub use names::map_name_place;
 pub use reading::read;

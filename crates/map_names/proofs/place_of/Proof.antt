@@ -1,0 +1,16 @@
+use Rattle.map_names.specs.Answered.{answering}
+use Rattle.map_names.proofs.place_of.Statement.{statement}
+use Rattle.map_names.proofs.place_of.Tie as tie
+
+pub place-of-spec : {M : Type 1} → statement M
+place-of-spec =
+    tie.close
+    (tie.spec
+    (λ c. search answering)
+    (λ c κs. search answering)
+    (λ c. search answering)
+    (λ c κs. search answering)
+    (λ c κs. search answering)
+    (λ c. search answering)
+    (λ c. search answering)
+    (λ c. search answering))

@@ -1,0 +1,53 @@
+-- THE PROMISE of `place_of`: what the program finds, and what it answers.
+use mathlib.Core.Path.{_≡_, refl, sym, ap, _∙_}
+use mathlib.Core.List.{List}
+use Prim.Native.Nat.{ℕ}
+use native.Mathlib.Omega.{arith}
+use lib.ListN.{length}
+use borrow.Author.Needs.{needs}
+use Rattle.lists.specs.Booleans.{clash}
+use Rattle.nodes.specs.Inside.{within}
+use Rattle.nodes.specs.declared.Found.{Found}
+use Rattle.nodes.specs.declared.Found.the-variants.{At, Nothing}
+use Rattle.ways.specs.One.{tagEnd}
+use Rattle.map_names.specs.Treads.{nameAt}
+use Rattle.map_names.specs.declared.NamePlace.{NamePlace}
+
+pub record Is (r : NamePlace) (number start size : ℕ) : Type 0 where
+  pub number-is : r .number ≡ number
+  pub start-is : r .start ≡ start
+  pub length-is : r .length ≡ size
+
+-- the refusal that is given; else 18 where nothing is found; else the place behind the tag, and the length of what stands between the tags
+pub record Answered (text : List ℕ) (number dimension index : ℕ) (r : NamePlace) : Type 0 where
+  pub refused : (number ≡ 0 → ⊥) → Is r number 0 0
+  pub missing : number ≡ 0 → nameAt text dimension index ≡ Nothing → Is r 18 0 0
+  pub found : number ≡ 0 → (k : ℕ) → nameAt text dimension index ≡ At k → Is r 0 (tagEnd text k) (length (within text k))
+
+module _ (text : List ℕ) {n : ℕ} (d i : ℕ) (r : NamePlace) where
+  pub answered-refused : (n ≡ 0 → ⊥) → r .number ≡ n → r .start ≡ 0 → r .length ≡ 0 → Answered text n d i r
+  answered-refused k a b c = record {
+    refused = λ _. record { number-is = a; start-is = b; length-is = c };
+    missing = λ z. absurd (k z);
+    found = λ z. absurd (k z);
+  }
+
+  module _ (z : n ≡ 0) {f : Found} (q : f ≡ nameAt text d i) where
+    pub answered-missing : f ≡ Nothing → r .number ≡ 18 → r .start ≡ 0 → r .length ≡ 0 → Answered text n d i r
+    answered-missing h a b c = record {
+      refused = λ k. absurd (k z);
+      missing = λ _ _. record { number-is = a; start-is = b; length-is = c };
+      found = λ _ k e. clash (cc);
+    }
+
+    pub answered-found : {k : ℕ} → f ≡ At k → {l : List ℕ} → l ≡ within text k → {s : ℕ} → s ≡ tagEnd text k → r .number ≡ 0
+        → r .start ≡ s → r .length ≡ length l → Answered text n d i r
+    answered-found {k} h w t a b c = record {
+      refused = λ y. absurd (y z);
+      missing = λ _ e. clash (cc);
+      found = λ _ j e.
+          let same : k ≡ j = cc in
+          record { number-is = a; start-is = b ∙ t ∙ ap (tagEnd text) same; length-is = c ∙ ap length (w ∙ ap (within text) same) };
+    }
+
+pub ruleset answering = (answered-refused, answered-missing, answered-found, needs)

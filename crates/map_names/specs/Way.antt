@@ -1,0 +1,32 @@
+-- THE WAY TO A MAP NAME: the Matrix, the MatrixIndicesMap that lists the dimension, its NamedMap of the index, from 0, and the MapName.
+use mathlib.Core.List.{List, [], _∷_}
+use mathlib.Core.Bool.{Bool, _&&_}
+use Prim.Native.Nat.{ℕ}
+use Prim.Native.String.{String}
+use lib.Dec.{eqb}
+use Rattle.lists.specs.Lists.{any}
+use Rattle.grammar.specs.Document.{Element}
+use Rattle.grammar.specs.Look.{is, nameOf, attr}
+use Rattle.numbers.specs.Numbers.{dimensionList}
+use Rattle.cifti.specs.Maps.{dimensionsOf}
+use Rattle.ways.specs.Way.{Step, step}
+
+unfoldable pub ofName : String → Element → Bool
+ofName s e = is s (nameOf e)
+
+-- its list of dimensions is in form, and the dimension is in it
+unfoldable pub lists : (dimension : ℕ) → Element → Bool
+lists d e = dimensionList (attr "AppliesToMatrixDimension" e) && any (eqb d) (dimensionsOf e)
+
+unfoldable pub mapThatLists : (dimension : ℕ) → Element → Bool
+mapThatLists d e = is "MatrixIndicesMap" (nameOf e) && lists d e
+
+unfoldable pub inMap : (index : ℕ) → List Step
+inMap i = step (ofName "NamedMap") i ∷ step (ofName "MapName") 0 ∷ []
+
+unfoldable pub nameWay : (dimension index : ℕ) → List Step
+nameWay d i = step (ofName "Matrix") 0 ∷ step (mapThatLists d) 0 ∷ inMap i
+
+unfoldable pub nameWays : Unit {0}
+unfolding ofName lists mapThatLists inMap nameWay
+nameWays = tt

@@ -1,0 +1,130 @@
+// Where a map name stands in the text: the way of map_names/specs/Way, step by step.
+use nodes::Found;
+use nodes::Kid;
+use nodes::attributes::attribute;
+use nodes::children::first_child;
+use nodes::children::next_child;
+use nodes::children::root_of;
+use nodes::names::name_is;
+use nodes::texts::written;
+use numbers::Whole;
+use numbers::dimensions_between;
+use records::Index;
+use ways::behind_tag;
+use ways::child_named;
+ghost use mathlib.Core.Path.{_≡_};
+ghost use mathlib.Core.List.{_∷_};
+ghost use Rattle.ways.specs.Walked.{childAt};
+ghost use Rattle.ways.specs.Treads.{trod, tread};
+ghost use Rattle.map_names.specs.Treads.{listsAt, mapAt, inMapTreads, nameAt};
+ghost use Rattle.map_names.specs.Answered.{Answered};
+
+// The number of the refusal, or 0, and then where the name starts in the text, and its length.
+pub struct NamePlace {
+    pub number: u64,
+    pub start: usize,
+    pub length: usize,
+}
+
+// The list of dimensions of the map at `at` is in form, and has the dimension.
+fn lists(text: &[u8], at: usize, dimension: u64) -> bool
+    ensures { λ r. ⌜ r ≡ listsAt (now (text .entry)) dimension at ⌝ }
+{
+    match attribute(text, at, b"AppliesToMatrixDimension") {
+        Found::At(v) => match dimensions_between(text, v, dimension, dimension) {
+            Whole::Is(n) => 0 < n,
+            Whole::No => false,
+        },
+        Found::Nothing => false,
+    }
+}
+
+fn map_lists(text: &[u8], at: usize, dimension: u64) -> bool
+    ensures { λ r. ⌜ r ≡ mapAt (now (text .entry)) dimension at ⌝ }
+{
+    if name_is(text, at, b"MatrixIndicesMap") {
+        return lists(text, at, dimension);
+    }
+    false
+}
+
+// The first map that lists the dimension, in the Matrix at `at`.
+fn map_on(text: &[u8], at: usize, dimension: u64) -> Found
+    ensures { λ r. ⌜ r ≡ childAt (mapAt (now (text .entry)) dimension) 0 (now (text .entry)) at ⌝ }
+{
+    let mut kid = first_child(text, at);
+    loop {
+        match kid {
+            Kid::Child(k) => {
+                kid = next_child(text, k);
+                if map_lists(text, k, dimension) {
+                    return Found::At(k);
+                }
+            }
+            Kid::Done => {
+                return Found::Nothing;
+            }
+        }
+    }
+}
+
+// The MapName of the NamedMap of this index, in the map at `at`.
+fn name_on(text: &[u8], at: usize, index: Index) -> Found
+    ensures { λ r. ⌜ r ≡ trod (inMapTreads (now (text .entry)) (index .0)) (now (text .entry)) at ⌝ }
+{
+    match child_named(text, at, b"NamedMap", index.0) {
+        Found::At(k) => child_named(text, k, b"MapName", 0),
+        Found::Nothing => Found::Nothing,
+    }
+}
+
+// The same in the Matrix at `at`, on the map that lists the dimension.
+fn name_in(text: &[u8], at: usize, dimension: u64, index: Index) -> Found
+    ensures { λ r. ⌜ r ≡ trod (tread (mapAt (now (text .entry)) dimension) 0 ∷ inMapTreads (now (text .entry)) (index .0)) (now (text .entry)) at ⌝ }
+{
+    match map_on(text, at, dimension) {
+        Found::At(k) => name_on(text, k, index),
+        Found::Nothing => Found::Nothing,
+    }
+}
+
+// From the root.
+fn name_there(text: &[u8], dimension: u64, index: Index) -> Found
+    ensures { λ r. ⌜ r ≡ nameAt (now (text .entry)) dimension (index .0) ⌝ }
+{
+    match root_of(text) {
+        Kid::Child(root) => match child_named(text, root, b"Matrix", 0) {
+            Found::At(m) => name_in(text, m, dimension, index),
+            Found::Nothing => Found::Nothing,
+        },
+        Kid::Done => Found::Nothing,
+    }
+}
+
+// The place of the name, where `number` is what the conditions before 18 give.
+pub fn place_of(text: &[u8], number: u64, dimension: u64, index: Index) -> NamePlace
+    ensures { λ r. ⌜ Answered (now (text .entry)) number dimension (index .0) r ⌝ }
+{
+    if number != 0 {
+        return NamePlace {
+            number: number,
+            start: 0,
+            length: 0,
+        };
+    }
+    match name_there(text, dimension, index) {
+        Found::At(k) => {
+            let part = written(text, k);
+            NamePlace {
+                number: 0,
+                start: behind_tag(text, k),
+                length: part.len(),
+            }
+        }
+        Found::Nothing => NamePlace {
+            number: 18,
+            start: 0,
+            length: 0,
+        },
+    }
+}

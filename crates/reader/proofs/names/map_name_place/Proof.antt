@@ -1,0 +1,11 @@
+use Rattle.reader.specs.Naming.{naming-map}
+use Rattle.reader.proofs.names.map_name_place.Statement.{statement}
+use Rattle.reader.proofs.names.map_name_place.Tie as tie
+
+pub map-name-place-spec : {M : Type 1} → statement M
+map-name-place-spec =
+    tie.close
+    (tie.spec
+    (λ c κs. search naming-map)
+    (λ c κs. search naming-map)
+    (λ c. search naming-map))

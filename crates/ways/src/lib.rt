@@ -1,0 +1,46 @@
+// Ways to an element of a text: what a way reaches, and where it stands, by the grammar; and the steps that a program takes.
+use nodes::Found;
+use nodes::Kid;
+use nodes::children::first_child;
+use nodes::children::next_child;
+use nodes::names::name_is;
+use nodes::scan::Tag;
+use nodes::scan::tag_end;
+ghost use mathlib.Core.Path.{_≡_};
+ghost use Rattle.ways.specs.Treads.{childNamed};
+ghost use Rattle.ways.specs.One.{tagEnd};
+
+// The n-th child of this name, from 0, of the element at `at`.
+pub fn child_named(text: &[u8], at: usize, word: &[u8], n: u64) -> Found
+    ensures { λ r. ⌜ r ≡ childNamed (now (word .entry)) n (now (text .entry)) at ⌝ }
+{
+    let mut left = n;
+    let mut kid = first_child(text, at);
+    loop {
+        match kid {
+            Kid::Child(k) => {
+                kid = next_child(text, k);
+                if name_is(text, k, word) {
+                    if left == 0 {
+                        return Found::At(k);
+                    }
+                    left -= 1;
+                }
+            }
+            Kid::Done => {
+                return Found::Nothing;
+            }
+        }
+    }
+}
+
+// Behind the start tag, or the only tag, of the element at `at`.
+pub fn behind_tag(text: &[u8], at: usize) -> usize
+    ensures { λ r. ⌜ r ≡ tagEnd (now (text .entry)) at ⌝ }
+{
+    match tag_end(text, at) {
+        Tag::Open(i) => i,
+        Tag::Bare(i) => i,
+        Tag::No => 0,
+    }
+}
