@@ -60,6 +60,7 @@ rows metaData = branch [] anyOrder
 rows md = branch [] anyOrder
     (child "Name" once (always words) ∷ child "Value" once (always words) ∷ [])
 rows words = leaf [] anyText
+-- Volume is needed with any voxel model: such a model has a VoxelIndicesIJK, and nothing else has (`needed-with-voxels` of maps)
 rows brainModels = branch mapAttributes anyOrder
     (child "BrainModel" atLeastOnce (chosen "ModelType" modelTypes)
     ∷ child "Volume" (neededBelow "VoxelIndicesIJK") (always volume)
