@@ -65,19 +65,19 @@ unfoldable pub kindIn : List (Case Kind) → Word → Kind
 kindIn [] w = None
 kindIn ((s ⇒ k) ∷ l) w = cond (is s w) k (kindIn l w)
 
-unfoldable pub isBrain : Kind → Bool
+abbrev pub isBrain : Kind → Bool
 isBrain None = false
 isBrain Brain = true
 isBrain Series = false
 isBrain Scalars = false
 
-unfoldable pub isSeries : Kind → Bool
+abbrev pub isSeries : Kind → Bool
 isSeries None = false
 isSeries Brain = false
 isSeries Series = true
 isSeries Scalars = false
 
-unfoldable pub isScalars : Kind → Bool
+abbrev pub isScalars : Kind → Bool
 isScalars None = false
 isScalars Brain = false
 isScalars Series = false
@@ -191,5 +191,5 @@ unfoldable pub brainMaps : List Map → List Map
 brainMaps l = those (λ m. isBrain (m .kind)) l
 
 unfoldable pub mapWords : Unit {0}
-unfolding kindWords kindIn isBrain isSeries isScalars listedBy modelOf sizesBy sizesOf seriesOf kindOfMap dimensionsOf mapOf mapElements mapsOf vertexNumbers threes voxelsOf sameVoxel voxelAt locationsBy locations covers lengthBy lengthOf brainMaps
+unfolding kindWords kindIn listedBy modelOf sizesBy sizesOf seriesOf kindOfMap dimensionsOf mapOf mapElements mapsOf vertexNumbers threes voxelsOf sameVoxel voxelAt locationsBy locations covers lengthBy lengthOf brainMaps
 mapWords = tt

@@ -45,7 +45,7 @@ unfoldable pub saysOf : (at : ℕ) → Map → Says
 saysOf at m = saysBy at (m .kind) m
 
 pub said-of : (at : ℕ) (m : Map) → said (described at m) ≡ saysOf at m
-unfolding said saidBy described saysOf saysBy isBrain isSeries asSeries
+unfolding said saidBy described saysOf saysBy asSeries
 said-of at m = go (m .kind)
   where
     go : (k : Kind) → saidBy k (record {

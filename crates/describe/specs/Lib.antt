@@ -1,4 +1,3 @@
-pub mod Reach
 pub mod Room
 pub mod Series
 pub mod Listing

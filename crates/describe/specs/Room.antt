@@ -15,10 +15,10 @@ use Rattle.nodes.specs.Places.{the}
 use Rattle.cifti.specs.Maps.{Map, mapOf, lengthOf, isBrain, brainMaps}
 use Rattle.cifti.specs.Conditions.{roomShort}
 use Rattle.cifti.specs.Answer.{reach}
-use Rattle.maps.specs.Sums.{Measured}
-use Rattle.maps.specs.Ready.{mapsAt}
-use Rattle.maps.specs.Digits.{from, from-all, from-none, from-one}
-use Rattle.maps.specs.Nine.{InRoom, room-map, room-place, room-length}
+use Rattle.maps.specs.Survey.{Noted, noted-kind-of}
+use Rattle.maps.specs.Ready.{Ready, mapsAt}
+use Rattle.maps.specs.Over.{Over, over-start, over-done, over-place, over-note, over-here, over-next, noteAt, from}
+use Rattle.maps.specs.declared.survey.MapNote.{MapNote}
 use Rattle.maps.specs.declared.survey.Maps.{Maps}
 
 pub brain-total : (l : List Map) → total lengthOf (brainMaps l) ≡ total reach l
@@ -39,7 +39,7 @@ brain-greatest (m ∷ l) = go (isBrain (m .kind)) (brain-greatest l)
     go true h = ap (max (lengthOf m)) h
     go false h = omega arith
 
--- ---- The loop.
+-- ---- The loop over the maps.
 
 -- with so much room left for these maps, there is too little
 abbrev short : (left work : ℕ) → List Map → Bool
@@ -60,50 +60,73 @@ ltb-same a b c d f g = go (decLt a b)
     go (yes h) = lt-ltb a b h ∙ sym (lt-ltb c d (f h))
     go (no h) = le-ltb a b (omega arith) ∙ sym (le-ltb c d (back h (decLt c d)))
 
-pub record Housing (text : List ℕ) (maps : Maps) (room work left i : ℕ) : Type 0 where
-  pub room-in : InRoom text maps
-  pub so-far : roomShort room work (mapsAt text maps) ≡ short left work (from text maps i)
+-- how many places the map takes, as it is noted
+unfoldable pub reachIn : MapNote → ℕ
+reachIn n = cond (isBrain (n .kind)) (n .length) 0
+
+module _ (n : MapNote) {b : Bool} (p : b ≡ isBrain (n .kind)) where
+  pub reach-brain : b ≡ true → n .length ≡ reachIn n
+  unfolding reachIn
+  reach-brain t = rw (sym p ∙ t)
+
+  pub reach-other : b ≡ false → 0 ≡ reachIn n
+  unfolding reachIn
+  reach-other f = rw (sym p ∙ f)
+
+pub ruleset reaching = (reach-brain, reach-other, needs)
+
+pub noted-reach : {text : List ℕ} {n : MapNote} → Noted text n → reachIn n ≡ reach (mapOf (the text (n .at)))
+unfolding reachIn reach
+noted-reach {text} {n} m =
+    let k : n .kind ≡ (mapOf (the text (n .at))) .kind = noted-kind-of m in
+    rw (k, m .long)
+
+pub reach-low : {text : List ℕ} {n : MapNote} → Noted text n → reachIn n ≤ 17592186044416
+unfolding reachIn
+reach-low {text} {n} m = go (isBrain (n .kind))
+  where
+    go : (b : Bool) → cond b (n .length) 0 ≤ 17592186044416
+    go true = m .most
+    go false = omega arith
+
+-- with `left` places there is too little room for all as there was
+pub record House (all : List Map) (room work left : ℕ) (l : List Map) : Type 0 where
+  pub so-far : roomShort room work all ≡ short left work l
 
 module _ {text : List ℕ} {maps : Maps} where
-  pub housing-start : (room work : ℕ) → InRoom text maps → Housing text maps room work room 0
-  housing-start room work r = record { room-in = r; so-far = short-is room work (mapsAt text maps) ∙ ap (short room work) (sym (from-all text maps)) }
+  pub house-start : (room work : ℕ) → Ready text maps → Over text maps (House (mapsAt text maps) room work room) 0
+  house-start room work r = over-start r (record { so-far = short-is room work (mapsAt text maps) })
 
-  module _ {room work left i : ℕ} (go : Housing text maps room work left i) where
-    pub housing-done : maps .count ≤ i → false ≡ roomShort room work (mapsAt text maps)
+  module _ {room work left i : ℕ} (go : Over text maps (House (mapsAt text maps) room work left) i) where
+    pub house-done : maps .count ≤ i → false ≡ roomShort room work (mapsAt text maps)
     unfolding total greatest
-    housing-done h = sym (go .so-far ∙ ap (short left work) (from-none (go .room-in .ready) i h) ∙ rw (le-ltb left 0 (omega arith), le-ltb work 0 (omega arith)))
+    house-done h = sym (over-done go h .so-far ∙ rw (le-ltb left 0 (omega arith), le-ltb work 0 (omega arith)))
 
-    module _ (u : i < maps .count) where
-      pub housing-place : i < length (maps .at)
-      housing-place = room-place (go .room-in) u
+    module _ (u : i < maps .count) {n : MapNote} (e : n ≡ noteAt maps i) {size : ℕ} (p : size ≡ reachIn n) where
+      split : (l : List Map) → short left work (mapOf (the text (n .at)) ∷ l) ≡ (ltb left (size + total reach l) || ltb work (max size (greatest reach l)))
+      unfolding total greatest
+      split l = ap (λ k. ltb left (k + total reach l) || ltb work (max k (greatest reach l))) (sym (p ∙ noted-reach (over-note go u e)))
 
-      pub housing-length : i < length (maps .length)
-      housing-length = room-length (go .room-in) u
+      here : roomShort room work (mapsAt text maps) ≡ (ltb left (size + total reach (from text maps (i + 1))) || ltb work (max size (greatest reach (from text maps (i + 1)))))
+      here = over-here go u e .so-far ∙ split (from text maps (i + 1))
 
-      pub housing-map : Measured text (getD (maps .at) i 0) (getD (maps .length) i 0)
-      housing-map = room-map (go .room-in) u
+      pub house-work : work < size → true ≡ roomShort room work (mapsAt text maps)
+      house-work h =
+          let z : ltb work (max size (greatest reach (from text maps (i + 1)))) ≡ true = lt-ltb work _ (omega arith) in
+          sym (here ∙ rw z (or-true (ltb left (size + total reach (from text maps (i + 1))))))
 
-      module _ {size : ℕ} (p : size ≡ reach (mapOf (the text (getD (maps .at) i 0)))) where
-        split : roomShort room work (mapsAt text maps) ≡ (ltb left (size + total reach (from text maps (i + 1))) || ltb work (max size (greatest reach (from text maps (i + 1)))))
-        unfolding total greatest
-        split =
-            go .so-far ∙ ap (short left work) (from-one (go .room-in .ready) i u)
-            ∙ ap (λ n. ltb left (n + total reach (from text maps (i + 1))) || ltb work (max n (greatest reach (from text maps (i + 1))))) (sym p)
+      pub house-left : left < size → true ≡ roomShort room work (mapsAt text maps)
+      house-left h =
+          let z : ltb left (size + total reach (from text maps (i + 1))) ≡ true = lt-ltb left _ (omega arith) in
+          sym (here ∙ rw z)
 
-        pub housing-work : work < size → true ≡ roomShort room work (mapsAt text maps)
-        housing-work h =
-            let z : ltb work (max size (greatest reach (from text maps (i + 1)))) ≡ true = lt-ltb work _ (omega arith) in
-            sym (split ∙ rw z (or-true (ltb left (size + total reach (from text maps (i + 1))))))
+      pub house-more : size ≤ work → size ≤ left → Over text maps (House (mapsAt text maps) room work (left - size)) (i + 1)
+      house-more h k = over-next go u e (λ l s. record { so-far = s .so-far ∙ split l ∙ rest l })
+        where
+          rest : (l : List Map) → (ltb left (size + total reach l) || ltb work (max size (greatest reach l))) ≡ short (left - size) work l
+          rest l =
+              let t : ltb left (size + total reach l) ≡ ltb (left - size) (total reach l) = ltb-same left (size + total reach l) (left - size) (total reach l) (λ x. omega arith) (λ x. omega arith) in
+              let w : ltb work (max size (greatest reach l)) ≡ ltb work (greatest reach l) = ltb-same work (max size (greatest reach l)) work (greatest reach l) (λ x. omega arith) (λ x. omega arith) in
+              rw (t, w) refl
 
-        pub housing-left : left < size → true ≡ roomShort room work (mapsAt text maps)
-        housing-left h =
-            let z : ltb left (size + total reach (from text maps (i + 1))) ≡ true = lt-ltb left _ (omega arith) in
-            sym (split ∙ rw z)
-
-        pub housing-more : size ≤ work → size ≤ left → Housing text maps room work (left - size) (i + 1)
-        housing-more h k =
-            let t : ltb left (size + total reach (from text maps (i + 1))) ≡ ltb (left - size) (total reach (from text maps (i + 1))) = ltb-same left (size + total reach (from text maps (i + 1))) (left - size) (total reach (from text maps (i + 1))) (λ x. omega arith) (λ x. omega arith) in
-            let w : ltb work (max size (greatest reach (from text maps (i + 1)))) ≡ ltb work (greatest reach (from text maps (i + 1))) = ltb-same work (max size (greatest reach (from text maps (i + 1)))) work (greatest reach (from text maps (i + 1))) (λ x. omega arith) (λ x. omega arith) in
-            record { room-in = go .room-in; so-far = split ∙ rw (t, w) }
-
-pub ruleset housing = (housing-start, housing-done, housing-place, housing-length, housing-map, housing-work, housing-left, housing-more, needs)
+pub ruleset housing = (house-start, house-done, over-place, house-work, house-left, house-more, needs)

@@ -1,2 +1,1 @@
-// The laws of what the answer says, of condition 13 and of map names that the reader's code is proved by; and what is said of each map, by value.
-pub mod said;
+// Laws: what the answer says of each dimension, the room that the records take, and the names of maps.

@@ -94,7 +94,7 @@ none-held : (k : Kind) (e : Element) → children "NamedMap" e ≡ [] → isScal
 none-held k e h s = record { named = rw h no-named; told = λ i. rw (h, s) (sym (le-ltb i 0 (omega arith))) }
 
 holds-by : (k : Kind) {e : Element} → isKind k ≡ true → Good (rowFor k) e → Holds k e
-unfolding rowFor isKind isScalars children rowsName is same
+unfolding rowFor isKind children rowsName is same
 holds-by None {e} h g = absurd (false≢true h)
 holds-by Brain {e} h g = none-held Brain e (absent "NamedMap" brainRows (elements (contentsOf e)) refl (brain-children g)) refl
 holds-by Series {e} h g = none-held Series e (absent "NamedMap" _ (elements (contentsOf e)) refl (good-children g _ _ _ rows-series)) refl

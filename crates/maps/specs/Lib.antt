@@ -9,10 +9,11 @@ pub mod MapKind
 pub mod Dimensions
 pub mod Seen
 pub mod Listed
+pub mod Sums
+pub mod Digits
 pub mod Survey
 pub mod Ready
-pub mod Digits
-pub mod Eight
-pub mod Sums
-pub mod Nine
+pub mod Over
+pub mod ListedOnce
+pub mod LengthsAgree
 pub mod Unread

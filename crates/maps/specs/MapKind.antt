@@ -6,6 +6,7 @@ use mathlib.Core.Option
 use mathlib.Core.Bool.{Bool, true, false, _&&_, _||_, cond, true≢false, false≢true}
 use Prim.Native.String.{String}
 use native.Mathlib.Omega.{arith}
+use borrow.Author.Needs.{needs}
 use Rattle.lists.specs.Lists.{all, each, those}
 use Rattle.lists.specs.Booleans.{never-some, and-left, and-right, or-left, or-right}
 use Rattle.grammar.specs.Bytes.{ascii}
@@ -15,7 +16,7 @@ use Rattle.grammar.specs.Parser.{same}
 use Rattle.numbers.specs.Numbers.{dimensionList}
 use Rattle.schema.specs.Schema.{ChildRow, child, Case, _⇒_, kindOf, kindChosen, kindAmong}
 use Rattle.cifti.specs.Rows.{ElementKind, words, brainModels, series, scalars, mapKinds, mapAttributes}
-use Rattle.cifti.specs.Maps.{kindWords, kindIn, kindOfMap, isBrain}
+use Rattle.cifti.specs.Maps.{kindWords, kindIn, kindOfMap, isBrain, isSeries, isScalars}
 use Rattle.cifti.specs.declared.answer.Kind.{Kind}
 use Rattle.cifti.specs.declared.answer.Kind.the-variants.{None, Brain, Series, Scalars}
 use Rattle.maps.specs.Good.{Good, GoodAs, good-as, AllGood, none-left, one-good, good-children}
@@ -131,7 +132,7 @@ module _ (s : String) where
       go false p ih = ih
 
 models-of : (k : Kind) {e : Element} → isKind k ≡ true → isBrain k ≡ false → Good (rowFor k) e → children "BrainModel" e ≡ []
-unfolding rowFor isKind isBrain children rowsName is same
+unfolding rowFor isKind children rowsName is same
 models-of None {e} h b g = absurd (false≢true h)
 models-of Brain {e} h b g = absurd (true≢false b)
 models-of Series {e} h b g = absent "BrainModel" _ (elements (contentsOf e)) refl (good-children g _ _ _ rows-series)
@@ -140,6 +141,24 @@ models-of Scalars {e} h b g = absent "BrainModel" _ (elements (contentsOf e)) re
 -- only a brain map has models
 pub no-models : {e : Element} → GoodMap e → isBrain (kindOfMap e) ≡ false → children "BrainModel" e ≡ []
 no-models {e} g b = models-of (kindOfMap e) (g .known) b (g .good)
+
+pub brain-kind : (k : Kind) → isBrain k ≡ true → k ≡ Brain
+brain-kind None h = absurd (false≢true h)
+brain-kind Brain h = refl
+brain-kind Series h = absurd (false≢true h)
+brain-kind Scalars h = absurd (false≢true h)
+
+pub series-kind : (k : Kind) → isSeries k ≡ true → k ≡ Series
+series-kind None h = absurd (false≢true h)
+series-kind Brain h = absurd (false≢true h)
+series-kind Series h = refl
+series-kind Scalars h = absurd (false≢true h)
+
+pub scalars-kind : (k : Kind) → isScalars k ≡ true → k ≡ Scalars
+scalars-kind None h = absurd (false≢true h)
+scalars-kind Brain h = absurd (false≢true h)
+scalars-kind Series h = absurd (false≢true h)
+scalars-kind Scalars h = refl
 
 -- ---- As its attribute tells it.
 
@@ -159,31 +178,20 @@ unfolding kindOfMap kindIn kindWords
 kind-words e = refl
 
 module _ (e : Element) {b : Bool} (p : Asked b "CIFTI_INDEX_TYPE_BRAIN_MODELS" e) where
-  pub asked-brain : b ≡ true → kindOfMap e ≡ Brain
-  asked-brain t = kind-words e ∙ rw (said-is "CIFTI_INDEX_TYPE_BRAIN_MODELS" e p, t)
-
-  pub brain-told : isBrain (kindOfMap e) ≡ b
-  unfolding isBrain
-  brain-told =
-      ap isBrain (kind-words e)
-      ∙ go (is "CIFTI_INDEX_TYPE_BRAIN_MODELS" (attr "IndicesMapToDataType" e)) (is "CIFTI_INDEX_TYPE_SERIES" (attr "IndicesMapToDataType" e)) (is "CIFTI_INDEX_TYPE_SCALARS" (attr "IndicesMapToDataType" e))
-      ∙ said-is "CIFTI_INDEX_TYPE_BRAIN_MODELS" e p
-    where
-      go : (x y z : Bool) → isBrain (cond x Brain (cond y Series (cond z Scalars None))) ≡ x
-      go true y z = refl
-      go false true z = refl
-      go false false true = refl
-      go false false false = refl
+  pub asked-brain : b ≡ true → Brain ≡ kindOfMap e
+  asked-brain t = sym (kind-words e ∙ rw (said-is "CIFTI_INDEX_TYPE_BRAIN_MODELS" e p, t))
 
   module _ (f : b ≡ false) {c : Bool} (q : Asked c "CIFTI_INDEX_TYPE_SERIES" e) where
-    pub asked-series : c ≡ true → kindOfMap e ≡ Series
-    asked-series t = kind-words e ∙ rw (said-is "CIFTI_INDEX_TYPE_BRAIN_MODELS" e p, f, said-is "CIFTI_INDEX_TYPE_SERIES" e q, t)
+    pub asked-series : c ≡ true → Series ≡ kindOfMap e
+    asked-series t = sym (kind-words e ∙ rw (said-is "CIFTI_INDEX_TYPE_BRAIN_MODELS" e p, f, said-is "CIFTI_INDEX_TYPE_SERIES" e q, t))
 
-module _ (e : Element) (g : GoodMap e) {b : Bool} (p : Asked b "CIFTI_INDEX_TYPE_BRAIN_MODELS" e) (f : b ≡ false) {c : Bool} (q : Asked c "CIFTI_INDEX_TYPE_SERIES" e) where
-  pub asked-scalars : c ≡ false → kindOfMap e ≡ Scalars
-  unfolding isKind
-  asked-scalars t = go (is "CIFTI_INDEX_TYPE_SCALARS" (attr "IndicesMapToDataType" e)) (kind-words e ∙ rw (said-is "CIFTI_INDEX_TYPE_BRAIN_MODELS" e p, f, said-is "CIFTI_INDEX_TYPE_SERIES" e q, t))
-    where
-      go : (x : Bool) → kindOfMap e ≡ cond x Scalars None → kindOfMap e ≡ Scalars
-      go true h = h
-      go false h = absurd (false≢true (sym (ap isKind h) ∙ g .known))
+    module _ (g : c ≡ false) {d : Bool} (r : Asked d "CIFTI_INDEX_TYPE_SCALARS" e) where
+      pub asked-scalars : d ≡ true → Scalars ≡ kindOfMap e
+      asked-scalars t =
+          sym (kind-words e ∙ rw (said-is "CIFTI_INDEX_TYPE_BRAIN_MODELS" e p, f, said-is "CIFTI_INDEX_TYPE_SERIES" e q, g, said-is "CIFTI_INDEX_TYPE_SCALARS" e r, t))
+
+      pub asked-none : d ≡ false → None ≡ kindOfMap e
+      asked-none t =
+          sym (kind-words e ∙ rw (said-is "CIFTI_INDEX_TYPE_BRAIN_MODELS" e p, f, said-is "CIFTI_INDEX_TYPE_SERIES" e q, g, said-is "CIFTI_INDEX_TYPE_SCALARS" e r, t))
+
+pub ruleset asking = (asked-brain, asked-series, asked-scalars, asked-none, needs)

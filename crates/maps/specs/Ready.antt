@@ -23,7 +23,9 @@ use Rattle.maps.specs.Good.{Good, GoodAs, AllGood, none-left, one-good}
 use Rattle.maps.specs.Kinds.{matrixRows, matrix-children}
 use Rattle.maps.specs.MapKind.{GoodMap, good-map, map-dimensions}
 use Rattle.maps.specs.Dimensions.{Small, no-small, one-small, values-small, values-some}
-use Rattle.maps.specs.Survey.{Holds, AllStand, none-stands, one-stands, MapsAre}
+use Rattle.maps.specs.Survey.{Noted, Holds, MapsAre}
+use Rattle.maps.specs.declared.survey.MapNote.{MapNote}
+use Rattle.cifti.specs.declared.answer.Kind.the-variants.{None}
 use Rattle.maps.specs.declared.survey.Maps.{Maps}
 
 -- the maps of the matrix
@@ -140,47 +142,44 @@ too-many lengths {l} u g v = go (allBelow n once) refl (any past listed) refl
 -- ---- The places.
 
 unfoldable pub places : Maps → List ℕ
-places r = take (r .count) (r .at)
+places r = each (λ n. n .at) (take (r .count) (r .each))
 
--- the places of at most three good maps, and their lengths
+-- at most three maps, each noted
 pub record Ready (text : List ℕ) (r : Maps) : Type 0 where
-  pub three : length (r .at) ≡ 3
+  pub three : length (r .each) ≡ 3
   pub few : r .count ≤ 3
-  pub stand : (i : ℕ) → i < r .count → Stands text (getD (r .at) i 0)
-  pub good : (i : ℕ) → i < r .count → GoodMap (the text (getD (r .at) i 0))
-  pub three-lengths : length (r .length) ≡ 3
-  pub lengths : (i : ℕ) → i < r .count → getD (r .length) i 0 ≡ lengthOf (mapOf (the text (getD (r .at) i 0)))
+  pub noted : (z : MapNote) (i : ℕ) → i < r .count → Noted text (getD (r .each) i z)
 
 unfoldable pub mapsAt : List ℕ → Maps → List Map
 mapsAt text r = each (λ p. mapOf (the text p)) (places r)
-
-stand-at : {text l : List ℕ} → AllStand text l → (i : ℕ) → i < length l → Stands text (getD l i 0)
-stand-at (one-stands s a) zero u = s
-stand-at (one-stands s a) (suc i) u = stand-at a i (le-of-suc-le-suc u)
-
-good-at : (text l : List ℕ) → GoodMaps (each (the text) l) → (i : ℕ) → i < length l → GoodMap (the text (getD l i 0))
-unfolding each
-good-at text (p ∷ l) (one-map g m) zero u = g
-good-at text (p ∷ l) (one-map g m) (suc i) u = good-at text l m i (le-of-suc-le-suc u)
 
 each-twice : (text l : List ℕ) → each mapOf (each (the text) l) ≡ each (λ p. mapOf (the text p)) l
 unfolding each
 each-twice text [] = refl
 each-twice text (p ∷ l) = ap (λ x. mapOf (the text p) ∷ x) (each-twice text l)
 
+-- a place to stand in for one that is not there
+abbrev pub no-note : MapNote
+no-note = record { at = 0; behind = 0; kind = None; lists = record { has = [] }; length = 0; volume = record { found = false; at = 0 } }
+
+each-at : (l : List MapNote) (i : ℕ) → i < length l → getD (each (λ (n : MapNote). n .at) l) i 0 ≡ (getD l i no-note) .at
+unfolding each
+each-at [] i u = absurd (omega arith)
+each-at (n ∷ l) zero u = refl
+each-at (n ∷ l) (suc i) u = each-at l i (le-of-suc-le-suc u)
+
 pub met-is : {text : List ℕ} {m : ℕ} {r : Maps} (a : MapsAre text m r) → r .count ≤ 3 → places r ≡ a .met
 unfolding places
 met-is {r = r} a few =
     let h = a .holds .many in
-    let t = a .holds .places .three in
-    let long : length (take (r .count) (r .at)) ≡ r .count = length-take-le (r .count) (r .at) (omega arith) in
-    ext-getD 0 (take (r .count) (r .at)) (a .met) (omega arith)
-    (λ i u. let v : i < r .count = omega arith in getD-take (r .count) (r .at) i 0 v ∙ a .holds .places .kept i (omega arith) (omega arith))
+    let t = a .holds .three in
+    let cut : length (take (r .count) (r .each)) ≡ r .count = length-take-le (r .count) (r .each) (omega arith) in
+    let long : length (each (λ (n : MapNote). n .at) (take (r .count) (r .each))) ≡ r .count = length-each (λ (n : MapNote). n .at) (take (r .count) (r .each)) ∙ cut in
+    ext-getD 0 (each (λ (n : MapNote). n .at) (take (r .count) (r .each))) (a .met) (omega arith)
+    (λ i u. let v : i < r .count = omega arith in
+    each-at (take (r .count) (r .each)) i (omega arith) ∙ ap (λ (n : MapNote). n .at) (getD-take (r .count) (r .each) i no-note v) ∙ a .holds .place no-note i (omega arith) (omega arith))
 
 module _ {text : List ℕ} {m : ℕ} {r : Maps} (a : MapsAre text m r) (g : Good matrix (the text m)) where
-  maps-good : GoodMaps (each (the text) (a .met))
-  maps-good = rw (a .are) at (good-maps g)
-
   length-met : length (children "MatrixIndicesMap" (the text m)) ≡ length (a .met)
   length-met = ap length (a .are) ∙ length-each (the text) (a .met)
 
@@ -194,22 +193,9 @@ module _ {text : List ℕ} {m : ℕ} {r : Maps} (a : MapsAre text m r) (g : Good
       too-many lengths u (good-maps g) w
 
   module _ (few : r .count ≤ 3) where
-    below : (i : ℕ) → i < r .count → i < length (a .met)
-    below i u = let h = a .holds .many in omega arith
-
-    place : (i : ℕ) → i < r .count → getD (r .at) i 0 ≡ getD (a .met) i 0
-    place i u = a .holds .places .kept i (omega arith) (below i u)
-
     -- at most three: they are ready, and they are the maps of the matrix
     pub maps-ready : Ready text r
-    maps-ready = record {
-      three = a .holds .places .three;
-      few = few;
-      stand = λ i u. rw (place i u) (stand-at (a .stand) i (below i u));
-      good = λ i u. rw (place i u) (good-at text (a .met) maps-good i (below i u));
-      three-lengths = a .holds .lengths .three;
-      lengths = λ i u. rw (place i u) (a .holds .lengths .kept i (omega arith) (below i u));
-    }
+    maps-ready = record { three = a .holds .three; few = few; noted = λ z i u. (let h = a .holds .many in a .holds .noted z i (omega arith) (omega arith)) }
 
     pub maps-same : mapsAt text r ≡ mapsIn (the text m)
     unfolding mapsAt mapsIn

@@ -88,7 +88,7 @@ pub record Reading (text : List ℕ) (v q : ℕ) (r : Dims) (i : ℕ) : Type 0 w
   pub so-far : Lists done r
   pub all : value-there text v ≡ done ++ tells q (drop i text)
 
-none-yet : (r : Dims) → r .has ≡ replicate 10 0 → Lists [] r
+pub none-yet : (r : Dims) → r .has ≡ replicate 10 0 → Lists [] r
 unfolding count
 none-yet r e = record { ten = ap length e; each-is = λ d u. (ap (λ l. getD l d 0) e ∙ getD-replicate 10 d 0 0 u ∙ omega arith) }
 

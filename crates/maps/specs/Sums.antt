@@ -9,7 +9,7 @@ use lib.Dec.{leb}
 use lib.ListN.{length, drop, length-drop}
 use borrow.Author.Needs.{needs}
 use borrow.Author.Tests.{leb-true}
-use Rattle.lists.specs.Booleans.{clash}
+use Rattle.lists.specs.Booleans.{clash, both-ways}
 use Rattle.lists.specs.Lists.{all, total, each, those}
 use Rattle.grammar.specs.Bytes.{ascii, between, blank}
 use Rattle.grammar.specs.Document.{Element}
@@ -36,14 +36,16 @@ use Rattle.nodes.specs.Names.{named, name-is-law}
 use Rattle.nodes.specs.Walk.{kids, Walk, Turn, walk-children, kids-children, walk-none, turn-at, turn-splits, turn-falls, left-fits}
 use Rattle.nodes.specs.declared.Kid.{Kid}
 use Rattle.cifti.specs.Rows.{brainModels, series, scalars}
-use Rattle.cifti.specs.Maps.{Model, Map, mapOf, modelOf, seriesOf, kindOfMap, lengthOf, lengthBy}
-use Rattle.cifti.specs.declared.answer.Kind.the-variants.{Brain, Series, Scalars}
-use Rattle.maps.specs.MapKind.{GoodMap, good-brain, good-series, Asked, asked-brain, asked-series, asked-scalars}
+use Rattle.cifti.specs.Maps.{Model, Map, mapOf, modelOf, seriesOf, isBrain, kindOfMap, lengthOf, lengthBy}
+use Rattle.cifti.specs.declared.answer.Kind.{Kind}
+use Rattle.cifti.specs.declared.answer.Kind.the-variants.{None, Brain, Series, Scalars}
+use Rattle.maps.specs.MapKind.{GoodMap, good-brain, good-series}
 use Rattle.maps.specs.Good.{Good, GoodAs, AllGood, none-left, one-good}
 use Rattle.maps.specs.Kinds.{GoodModel, good-model, brainRows, scalarRows, brain-children, scalars-children, model-facts, series-facts}
 use Rattle.maps.specs.Fields.{wordAt, word-at, says-has, numberSeen, number-seen, orZero}
 use Rattle.numbers.specs.Answers.{wholeIn}
 use Rattle.maps.specs.declared.survey.Measure.{Measure}
+use Rattle.maps.specs.declared.survey.Seen.{Seen}
 use Rattle.numbers.specs.declared.Whole.the-variants.{Is, No}
 
 -- what a child adds to the length of its map
@@ -85,6 +87,49 @@ module _ {text : List ℕ} {at : ℕ} (st : Stands text at) where
 
 pub ruleset weighing = (weight-model, weight-other, weight-name, weight-none, needs)
 
+-- ---- The Volume: the first of the children that is one.
+
+unfoldable pub isVolume : Element → Bool
+isVolume e = is "Volume" (nameOf e)
+
+-- of all, where those of the list are left
+pub record VolumeLeft (text : List ℕ) (all l : List Element) (s : Seen) : Type 0 where
+  pub none : s .found ≡ false → those isVolume all ≡ those isVolume l
+  pub stands : s .found ≡ true → Stands text (s .at)
+  pub rest : List Element
+  pub first : s .found ≡ true → those isVolume all ≡ the text (s .at) ∷ rest
+
+-- one child more, of a brain map
+abbrev pub VolumeMet : Bool → List ℕ → ℕ → Seen → Seen → Type 0
+VolumeMet b text k before after = b ≡ true → (all l : List Element) → VolumeLeft text all (the text k ∷ l) before → VolumeLeft text all l after
+
+module _ {text : List ℕ} {k : ℕ} (st : Stands text k) (s : Seen) where
+  pub met-other : {b : Bool} → b ≡ false → VolumeMet b text k s s
+  met-other f t = both-ways t f
+
+  pub met-before : {b : Bool} → s .found ≡ true → VolumeMet b text k s s
+  met-before h t all l v = record { none = λ n. both-ways h n; stands = v .stands; rest = v .rest; first = v .first }
+
+  module _ (h : s .found ≡ false) {c : Bool} (nm : c ≡ named text k (ascii "Volume")) where
+    is-it : isVolume (the text k) ≡ c
+    unfolding isVolume
+    is-it = sym (nm ∙ name-is-law "Volume" st)
+
+    pub met-here : c ≡ true → {b : Bool} (r : Seen) → r .found ≡ true → r .at ≡ k → VolumeMet b text k s r
+    unfolding those
+    met-here y r e f t all l v = record {
+      none = λ n. both-ways e n;
+      stands = λ _. rw f st;
+      rest = those isVolume l;
+      first = λ _. rw f (v .none h ∙ rw (is-it ∙ y) refl);
+    }
+
+    pub met-past : c ≡ false → {b : Bool} → VolumeMet b text k s s
+    unfolding those
+    met-past y t all l v = record { none = λ n. (v .none n ∙ rw (is-it ∙ y) refl); stands = v .stands; rest = v .rest; first = v .first }
+
+pub ruleset meeting = (met-other, met-before, met-here, met-past, needs)
+
 -- ---- The sum.
 
 pub record InShort (text : List ℕ) (at : ℕ) : Type 0 where
@@ -98,6 +143,8 @@ AheadBehind text k a = (j : ℕ) → Behind text k j → a ≡ ahead-at true (le
 -- the sum over the children of the element at a place, and where it ends
 pub record Summed (text : List ℕ) (at : ℕ) (b : Bool) (r : Measure) : Type 0 where
   pub sum : r .length ≡ total (weightOf b) (elements (contentsOf (the text at)))
+  pub most : r .length ≤ 17592186044416
+  pub volume : b ≡ true → VolumeLeft text (elements (contentsOf (the text at))) [] (r .volume)
   pub ends : Behind text at (r .behind)
 
 -- an element that stands ends somewhere
@@ -135,7 +182,7 @@ module _ {text : List ℕ} {k : ℕ} {x : Step} (e : x ≡ stepped (length text)
 
 pub ruleset behind-so = (behind-found, behind-missing, ahead-found, ahead-missing, needs)
 
-pub record Summing (text : List ℕ) (at : ℕ) (b : Bool) (n : ℕ) (ahead : Ahead) : Type 0 where
+pub record Summing (text : List ℕ) (at : ℕ) (b : Bool) (n : ℕ) (seen : Seen) (ahead : Ahead) : Type 0 where
   pub stands : Stands text at
   pub short : length text ≤ 16777216
   pub kid : Kid
@@ -146,9 +193,10 @@ pub record Summing (text : List ℕ) (at : ℕ) (b : Bool) (n : ℕ) (ahead : Ah
   pub walk : Walk text kid
   pub so-far : total (weightOf b) (elements (contentsOf (the text at))) ≡ n + total (weightOf b) (kids text kid)
   pub room : n + 1048576 * left text kid ≤ 1048576 * length text
+  pub volumes : b ≡ true → VolumeLeft text (elements (contentsOf (the text at))) (kids text kid) seen
 
-pub sum-start : {text : List ℕ} {at : ℕ} (b : Bool) → InShort text at → {ahead : Ahead} → ahead ≡ first-ahead true text at → Summing text at b 0 ahead
-sum-start {text} {at} b i e =
+pub sum-start : {text : List ℕ} {at : ℕ} (b : Bool) → InShort text at → (seen : Seen) → seen .found ≡ false → {ahead : Ahead} → ahead ≡ first-ahead true text at → Summing text at b 0 seen ahead
+sum-start {text} {at} b i seen f e =
     rw e (record {
       stands = i .stands;
       short = i .short;
@@ -160,16 +208,22 @@ sum-start {text} {at} b i e =
       walk = walk-children (i .stands);
       so-far = sym (ap (total (weightOf b)) (kids-children (i .stands))) ∙ omega arith;
       room = let f = left-fits text (first text at) in omega arith;
+      volumes = λ _. record {
+        none = λ _. sym (ap (those isVolume) (kids-children (i .stands)));
+        stands = λ t. both-ways t f;
+        rest = [];
+        first = λ t. both-ways t f;
+      };
     })
 
-module _ {text : List ℕ} {at : ℕ} {b : Bool} {n : ℕ} {ahead : Ahead} (go : Summing text at b n ahead) where
-  pub sum-done : {j : ℕ} → ahead ≡ ahead-is.End j → Summed text at b (record { length = n; behind = j })
+module _ {text : List ℕ} {at : ℕ} {b : Bool} {n : ℕ} {seen : Seen} {ahead : Ahead} (go : Summing text at b n seen ahead) where
+  pub sum-done : {j : ℕ} → ahead ≡ ahead-is.End j → Summed text at b (record { length = n; volume = seen; behind = j })
   unfolding total
   sum-done {j} e =
       let o = facing-end (go .facing) e in
       let z : total (weightOf b) (kids text (go .kid)) ≡ 0 = rw (walk-none (go .walk) (o .no-next)) in
       let s = go .so-far in
-      record { sum = omega arith; ends = record { ends = go .leave-so ∙ o .ends; inside = o .inside; after = o .after } }
+      record { sum = omega arith; most = (let r = go .room in let h = go .short in omega arith); volume = λ t. rw (walk-none (go .walk) (o .no-next)) at (go .volumes t); ends = record { ends = go .leave-so ∙ o .ends; inside = o .inside; after = o .after } }
 
   pub sum-never : ahead ≡ ahead-is.Stray → (r : Measure) → Summed text at b r
   sum-never e r =
@@ -204,9 +258,9 @@ module _ {text : List ℕ} {at : ℕ} {b : Bool} {n : ℕ} {ahead : Ahead} (go :
       pub sum-fits : n + w < 2 ^ 64
       sum-fits = let f = falls in let m = weighed .most in let r = go .room in let s = go .short in let l = left-fits text (go .kid) in omega arith
 
-      pub sum-more : {ahead₁ : Ahead} → AheadBehind text k ahead₁ → Summing text at b (n + w) ahead₁
+      pub sum-more : {seen₁ : Seen} → VolumeMet b text k seen seen₁ → {ahead₁ : Ahead} → AheadBehind text k ahead₁ → Summing text at b (n + w) seen₁ ahead₁
       unfolding total
-      sum-more a =
+      sum-more v a =
           let f = falls in
           let m = weighed .most in
           let r = go .room in
@@ -224,6 +278,7 @@ module _ {text : List ℕ} {at : ℕ} {b : Bool} {n : ℕ} {ahead : Ahead} (go :
             walk = turn .then;
             so-far = omega arith;
             room = omega arith;
+            volumes = λ t. v t _ _ (rw (turn-splits (go .walk) (met .is-next)) at (go .volumes t));
           }
 
 pub ruleset summing = (sum-start, sum-done, sum-never, sum-stands, sum-less, sum-fits, sum-more, needs)
@@ -235,19 +290,17 @@ pub record MapAt (text : List ℕ) (at : ℕ) : Type 0 where
   pub good : GoodMap (the text at)
   pub short : length text ≤ 16777216
 
--- the length of the map at a place, and where it ends
-pub record Spanned (text : List ℕ) (at : ℕ) (r : Measure) : Type 0 where
-  pub long : r .length ≡ lengthOf (mapOf (the text at))
-  pub ends : Behind text at (r .behind)
-
-pub record SpannedIf (wanted : Bool) (text : List ℕ) (at : ℕ) (r : Measure) : Type 0 where
-  pub long : wanted ≡ true → r .length ≡ lengthOf (mapOf (the text at))
-  pub ends : Behind text at (r .behind)
-
--- a map stands there, and n is its length
-pub record Measured (text : List ℕ) (at n : ℕ) : Type 0 where
+-- the same, of this kind
+pub record KindAt (text : List ℕ) (at : ℕ) (kind : Kind) : Type 0 where
   pub map : MapAt text at
-  pub long : n ≡ lengthOf (mapOf (the text at))
+  pub kind-is : kind ≡ kindOfMap (the text at)
+
+-- the length of the map at a place, and where it ends
+pub record Spanned (text : List ℕ) (at : ℕ) (kind : Kind) (r : Measure) : Type 0 where
+  pub long : r .length ≡ lengthOf (mapOf (the text at))
+  pub volume : isBrain kind ≡ true → VolumeLeft text (elements (contentsOf (the text at))) [] (r .volume)
+  pub most : r .length ≤ 17592186044416
+  pub ends : Behind text at (r .behind)
 
 model-count : (e : Element) → GoodModel e → numberSeen 1 1048576 (wordAt (ascii "IndexCount") e) ≡ (modelOf e) .count
 unfolding modelOf
@@ -274,42 +327,41 @@ names-total (e ∷ l) = go (is "NamedMap" (nameOf e)) (names-total l)
     go true ih = omega arith
     go false ih = omega arith
 
-module _ {text : List ℕ} {at : ℕ} (m : MapAt text at) where
+module _ {text : List ℕ} {at : ℕ} {kind : Kind} (k : KindAt text at kind) where
   pub in-short : InShort text at
-  in-short = record { stands = m .stands; short = m .short }
+  in-short = record { stands = k .map .stands; short = k .map .short }
 
-  pub map-stands : Stands text at
-  map-stands = m .stands
+  pub span-stands : Stands text at
+  span-stands = k .map .stands
 
-  pub length-brain : kindOfMap (the text at) ≡ Brain → {n : ℕ} → n ≡ total (weightOf true) (elements (contentsOf (the text at))) → n ≡ lengthOf (mapOf (the text at))
+  is-kind : {j : Kind} → kind ≡ j → kindOfMap (the text at) ≡ j
+  is-kind h = sym (k .kind-is) ∙ h
+
+  pub span-none : kind ≡ None → {j : ℕ} → Behind text at j → (s : Seen) → Spanned text at kind (record { length = 0; volume = s; behind = j })
+  unfolding lengthOf lengthBy mapOf
+  span-none h b s = record { long = rw (is-kind h); volume = λ t. both-ways t (ap isBrain h); most = omega arith; ends = b }
+
+  pub span-brain : kind ≡ Brain → {r : Measure} → Summed text at true r → Spanned text at kind r
   unfolding lengthOf lengthBy mapOf children
-  length-brain h q = rw h (q ∙ models-total (elements (contentsOf (the text at))) (brain-children (good-brain (m .good) h)))
+  span-brain h s = record {
+    long = rw (is-kind h) (s .sum ∙ models-total (elements (contentsOf (the text at))) (brain-children (good-brain (k .map .good) (is-kind h))));
+    volume = λ _. s .volume refl;
+    most = s .most;
+    ends = s .ends;
+  }
 
-  length-series : kindOfMap (the text at) ≡ Series → {n : ℕ} → n ≡ numberSeen 1 1048576 (wordAt (ascii "NumberOfSeriesPoints") (the text at)) → n ≡ lengthOf (mapOf (the text at))
+  pub span-series : kind ≡ Series → {n : ℕ} → n ≡ numberSeen 1 1048576 (wordAt (ascii "NumberOfSeriesPoints") (the text at)) → {j : ℕ} → Behind text at j → (s : Seen) → Spanned text at kind (record { length = n; volume = s; behind = j })
   unfolding lengthOf lengthBy mapOf seriesOf
-  length-series h r =
-      rw h (r ∙ ap (numberSeen 1 1048576) (word-at "NumberOfSeriesPoints" (the text at))
-      ∙ number-seen 1 1048576 (attr "NumberOfSeriesPoints" (the text at)) (series-facts (good-series (m .good) h) .points))
+  span-series h e b s = record {
+    volume = λ t. both-ways t (ap isBrain h);
+    long = rw (is-kind h) (e ∙ ap (numberSeen 1 1048576) (word-at "NumberOfSeriesPoints" (the text at))
+        ∙ number-seen 1 1048576 (attr "NumberOfSeriesPoints" (the text at)) (series-facts (good-series (k .map .good) (is-kind h)) .points));
+    most = let m = seen-most 1 1048576 (wordAt (ascii "NumberOfSeriesPoints") (the text at)) in omega arith;
+    ends = b;
+  }
 
-  length-scalars : kindOfMap (the text at) ≡ Scalars → {n : ℕ} → n ≡ total (weightOf false) (elements (contentsOf (the text at))) → n ≡ lengthOf (mapOf (the text at))
+  pub span-scalars : kind ≡ Scalars → {r : Measure} → Summed text at false r → Spanned text at kind r
   unfolding lengthOf lengthBy mapOf children
-  length-scalars h r = rw h (r ∙ names-total (elements (contentsOf (the text at))))
+  span-scalars h s = record { long = rw (is-kind h) (s .sum ∙ names-total (elements (contentsOf (the text at)))); volume = λ t. both-ways t (ap isBrain h); most = s .most; ends = s .ends }
 
-  module _ {b : Bool} (p : Asked b "CIFTI_INDEX_TYPE_BRAIN_MODELS" (the text at)) where
-    pub span-brain : b ≡ true → {r : Measure} → Summed text at true r → Spanned text at r
-    span-brain t s = record { long = length-brain (asked-brain (the text at) p t) (s .sum); ends = s .ends }
-
-    module _ (f : b ≡ false) {c : Bool} (q : Asked c "CIFTI_INDEX_TYPE_SERIES" (the text at)) where
-      pub span-series : c ≡ true → {n : ℕ} → n ≡ numberSeen 1 1048576 (wordAt (ascii "NumberOfSeriesPoints") (the text at)) → {j : ℕ} → Behind text at j → Spanned text at (record { length = n; behind = j })
-      span-series t e b₀ = record { long = length-series (asked-series (the text at) p f q t) e; ends = b₀ }
-
-      pub span-scalars : c ≡ false → {r : Measure} → Summed text at false r → Spanned text at r
-      span-scalars t s = record { long = length-scalars (asked-scalars (the text at) (m .good) p f q t) (s .sum); ends = s .ends }
-
-  pub span-wanted : {w : Bool} → w ≡ true → {r : Measure} → Spanned text at r → SpannedIf w text at r
-  span-wanted t s = record { long = λ _. s .long; ends = s .ends }
-
-  pub span-unwanted : {w : Bool} → w ≡ false → {j : ℕ} → Behind text at j → SpannedIf w text at (record { length = 0; behind = j })
-  span-unwanted f b = record { long = λ t. absurd (true≢false (sym t ∙ f)); ends = b }
-
-pub ruleset measuring = (in-short, map-stands, span-brain, span-series, span-scalars, span-wanted, span-unwanted, needs)
+pub ruleset measuring = (in-short, span-stands, span-none, span-brain, span-series, span-scalars, needs)

@@ -1,4 +1,4 @@
--- WHERE THE MAPS OF A MATRIX BEGIN: how many there are, told up to four, and of the first three the places and the lengths.
+-- WHAT IS NOTED OF THE MAPS OF A MATRIX: how many there are, told up to four, and of the first three where each begins, its end, kind, dimensions and length.
 use mathlib.Core.Path.{_≡_, refl, sym, ap, _∙_}
 use mathlib.Core.List.{List, [], _∷_, _++_, append-nil}
 use mathlib.Core.Bool.{Bool, true, false, cond}
@@ -7,13 +7,14 @@ use native.Mathlib.Omega.{arith}
 use native.Mathlib.Decide.{ℕ-discrete}
 use lib.Dec.{ltb}
 use borrow.Author.Tests.{lt-ltb}
-use lib.ListN.{length, drop, getD, set, length-set, length-append, replicate, List·getD-append}
+use lib.ListN.{length, drop, getD, set, length-set, length-append, List·getD-append}
 use lib.Seq.{getD-set-same, getD-set-other, getD-append-seam}
 use borrow.Author.Needs.{needs}
+use Rattle.lists.specs.Booleans.{both-ways}
 use Rattle.lists.specs.Lists.{each, those}
 use Rattle.grammar.specs.Bytes.{ascii}
 use Rattle.grammar.specs.Document.{Element}
-use Rattle.grammar.specs.Look.{is, nameOf, children}
+use Rattle.grammar.specs.Look.{is, nameOf, contentsOf, elements, children}
 use Rattle.nodes.specs.Places.{Stands, the}
 use Rattle.nodes.specs.Children.{kid-at, first, next, left}
 use Rattle.nodes.specs.Names.{named, name-is-law}
@@ -21,33 +22,74 @@ use Rattle.nodes.specs.Walk.{kids, Walk, Turn, walk-children, kids-children, wa
 use Rattle.nodes.specs.declared.Kid.{Kid}
 use Rattle.nodes.specs.declared.Kid.the-variants.{Child, Done}
 use Rattle.cifti.specs.Rows as kinds
-use Rattle.cifti.specs.Maps.{mapOf, lengthOf}
+use Rattle.cifti.specs.Maps.{mapOf, lengthOf, isBrain, kindOfMap, dimensionsOf}
+use Rattle.cifti.specs.declared.answer.Kind.{Kind}
 use Rattle.maps.specs.Good.{Good, AllGood, good-head, good-tail}
 use Rattle.maps.specs.Kinds.{matrixRows, matrix-children}
 use Rattle.maps.specs.MapKind.{good-map}
-use Rattle.nodes.specs.Leaving.{next-behind}
-use Rattle.maps.specs.Sums.{MapAt, SpannedIf}
+use Rattle.nodes.specs.Leaving.{Behind, next-behind}
+use Rattle.maps.specs.Sums.{MapAt, KindAt, Spanned, VolumeLeft}
+use Rattle.maps.specs.Digits.{Tells}
+use Rattle.maps.specs.declared.dims.Dims.{Dims}
+use Rattle.maps.specs.declared.survey.MapNote.{MapNote}
 use Rattle.maps.specs.declared.survey.Measure.{Measure}
 use Rattle.maps.specs.declared.survey.Maps.{Maps}
 
--- f of each of the first three of l
-pub record Kept (f : ℕ → ℕ) (l array : List ℕ) : Type 0 where
-  pub three : length array ≡ 3
-  pub kept : (i : ℕ) → i < 3 → i < length l → getD array i 0 ≡ f (getD l i 0)
+-- WHAT IS NOTED OF A MAP, in a text
+pub record Noted (text : List ℕ) (n : MapNote) : Type 0 where
+  pub map : MapAt text (n .at)
+  pub ends : Behind text (n .at) (n .behind)
+  pub kind-is : n .kind ≡ kindOfMap (the text (n .at))
+  pub lists : Tells (dimensionsOf (the text (n .at))) (n .lists)
+  pub long : n .length ≡ lengthOf (mapOf (the text (n .at)))
+  pub most : n .length ≤ 17592186044416
+  pub volume : isBrain (n .kind) ≡ true → VolumeLeft text (elements (contentsOf (the text (n .at)))) [] (n .volume)
 
--- the places l, as far as they are kept, and the lengths of the maps there
+pub noted-kind-of : {text : List ℕ} {n : MapNote} → Noted text n → n .kind ≡ (mapOf (the text (n .at))) .kind
+unfolding mapOf
+noted-kind-of m = m .kind-is
+
+-- the same of the map at k where it is wanted; else only where it ends
+pub record NotedIf (wanted : Bool) (text : List ℕ) (k : ℕ) (n : MapNote) : Type 0 where
+  pub place : n .at ≡ k
+  pub ends : Behind text k (n .behind)
+  pub noted : wanted ≡ true → Noted text n
+
+module _ {text : List ℕ} {at : ℕ} (m : MapAt text at) where
+  pub note-map : MapAt text at
+  note-map = m
+
+  pub note-stands : Stands text at
+  note-stands = m .stands
+
+  pub note-kind : {k : Kind} → k ≡ kindOfMap (the text at) → KindAt text at k
+  note-kind h = record { map = m; kind-is = h }
+
+  pub note-wanted : {w : Bool} → w ≡ true → {k : Kind} → k ≡ kindOfMap (the text at) → {d : Dims} → Tells (dimensionsOf (the text at)) d → {r : Measure} → Spanned text at k r
+      → NotedIf w text at (record { at = at; behind = r .behind; kind = k; lists = d; length = r .length; volume = r .volume })
+  note-wanted t h l s = record {
+    place = refl;
+    ends = s .ends;
+    noted = λ _. record { map = m; ends = s .ends; kind-is = h; lists = l; long = s .long; most = s .most; volume = s .volume };
+  }
+
+  pub note-unwanted : {w : Bool} → w ≡ false → {j : ℕ} → Behind text at j → (n : MapNote) → n .at ≡ at → n .behind ≡ j → NotedIf w text at n
+  note-unwanted f b n p q = record { place = p; ends = rw q b; noted = λ t. both-ways t f }
+
+pub ruleset noting-one = (note-map, note-stands, note-kind, note-wanted, note-unwanted, needs)
+
+-- ---- Of the first three.
+
+-- the maps at the places l, as far as they are kept
 pub record Holds (text l : List ℕ) (r : Maps) : Type 0 where
   pub many : r .count ≡ min 4 (length l)
-  pub places : Kept (λ p. p) l (r .at)
-  pub lengths : Kept (λ p. lengthOf (mapOf (the text p))) l (r .length)
+  pub three : length (r .each) ≡ 3
+  pub place : (z : MapNote) (i : ℕ) → i < 3 → i < length l → (getD (r .each) i z) .at ≡ getD l i 0
+  pub noted : (z : MapNote) (i : ℕ) → i < 3 → i < length l → Noted text (getD (r .each) i z)
 
--- whatever places are kept, with one more behind them
-abbrev pub Noted : List ℕ → ℕ → Maps → Maps → Type 0
-Noted text k before after = (l : List ℕ) → Holds text l before → Holds text (l ++ (k ∷ [])) after
-
--- the same, where the length of the map is told if it is to be kept
-abbrev pub NotedWith : ℕ → ℕ → Maps → Maps → Type 0
-NotedWith k n before after = (text : List ℕ) → (before .count < 3 → n ≡ lengthOf (mapOf (the text k))) → Noted text k before after
+-- with this one more, whatever maps are kept
+abbrev pub NotedWith : MapNote → Maps → Maps → Type 0
+NotedWith n before after = (text l : List ℕ) → (before .count < 3 → Noted text n) → Holds text l before → Holds text (l ++ (n .at ∷ [])) after
 
 one-longer : (l : List ℕ) (k : ℕ) → length (l ++ (k ∷ [])) ≡ length l + 1
 one-longer l k = length-append l (k ∷ [])
@@ -55,44 +97,41 @@ one-longer l k = length-append l (k ∷ [])
 as-before : (l : List ℕ) (k i : ℕ) → i < length l → getD (l ++ (k ∷ [])) i 0 ≡ getD l i 0
 as-before l k i u = List·getD-append l (k ∷ []) 0 i u
 
-module _ (f : ℕ → ℕ) (l array : List ℕ) (k : ℕ) (h : Kept f l array) where
-  -- there was room
-  kept-room : (n v : ℕ) → n < 3 → n ≡ length l → v ≡ f k → Kept f (l ++ (k ∷ [])) (set array n v)
-  kept-room n v few here e = record {
-    three = length-set array n v ∙ h .three;
-    kept = λ i u w. (let m = one-longer l k in go i u (omega arith) (ℕ-discrete i n));
+module _ (n : MapNote) (r s : Maps) where
+  pub noted-room : r .count < 3 → s .each ≡ set (r .each) (r .count) n → s .count ≡ r .count + 1 → NotedWith n r s
+  noted-room few a c text l f h = record {
+    many = let m = one-longer l (n .at) in let h₀ = h .many in omega arith;
+    three = ap length a ∙ length-set (r .each) (r .count) n ∙ h .three;
+    place = λ z i u w. (let m = one-longer l (n .at) in rw a (place-at z i u (omega arith) (ℕ-discrete i (r .count))));
+    noted = λ z i u w. (let m = one-longer l (n .at) in rw a (noted-at z i u (omega arith) (ℕ-discrete i (r .count))));
   }
     where
-      go : (i : ℕ) → i < 3 → i ≤ length l → Dec (i ≡ n) → getD (set array n v) i 0 ≡ f (getD (l ++ (k ∷ [])) i 0)
-      go i u w (yes q) =
+      here : r .count ≡ length l
+      here = let m = h .many in omega arith
+
+      place-at : (z : MapNote) (i : ℕ) → i < 3 → i ≤ length l → Dec (i ≡ r .count) → (getD (set (r .each) (r .count) n) i z) .at ≡ getD (l ++ (n .at ∷ [])) i 0
+      place-at z i u w (yes q) =
           let t = h .three in
-          rw q (getD-set-same array n v 0 (omega arith) ∙ e ∙ sym (ap (λ j. f (getD (l ++ (k ∷ [])) j 0)) here ∙ ap f (getD-append-seam l k [] 0)))
-      go i u w (no q) =
-          let low : i < length l = omega arith in
-          getD-set-other array n i v 0 q ∙ h .kept i u low ∙ ap f (sym (as-before l k i low))
+          let e : getD (l ++ (n .at ∷ [])) i 0 ≡ n .at = ap (λ j. getD (l ++ (n .at ∷ [])) j 0) (q ∙ here) ∙ getD-append-seam l (n .at) [] 0 in
+          ap (λ j. (getD (set (r .each) (r .count) n) j z) .at) q ∙ ap (λ (x : MapNote). x .at) (getD-set-same (r .each) (r .count) n z (omega arith)) ∙ sym e
+      place-at z i u w (no q) =
+          let low : i < length l = (let k = here in omega arith) in
+          ap (λ (x : MapNote). x .at) (getD-set-other (r .each) (r .count) i n z q) ∙ h .place z i u low ∙ sym (as-before l (n .at) i low)
 
-  -- there was none
-  kept-full : 3 ≤ length l → Kept f (l ++ (k ∷ [])) array
-  kept-full full = record { three = h .three; kept = λ i u w. (let low : i < length l = omega arith in h .kept i u low ∙ ap f (sym (as-before l k i low))) }
+      noted-at : (z : MapNote) (i : ℕ) → i < 3 → i ≤ length l → Dec (i ≡ r .count) → Noted text (getD (set (r .each) (r .count) n) i z)
+      noted-at z i u w (yes q) = let t = h .three in rw (q, getD-set-same (r .each) (r .count) n z (omega arith)) (f few)
+      noted-at z i u w (no q) = let low : i < length l = (let k = here in omega arith) in rw (getD-set-other (r .each) (r .count) i n z q) (h .noted z i u low)
 
-module _ (k n : ℕ) (r s : Maps) where
-  pub noted-room : r .count < 3 → s .at ≡ set (r .at) (r .count) k → s .length ≡ set (r .length) (r .count) n → s .count ≡ r .count + 1 → NotedWith k n r s
-  noted-room few a b c text f l h =
-      let here : r .count ≡ length l = (let m = h .many in omega arith) in
-      record {
-        many = let m = one-longer l k in omega arith;
-        places = rw a (kept-room (λ p. p) l (r .at) k (h .places) (r .count) k few here refl);
-        lengths = rw b (kept-room (λ p. lengthOf (mapOf (the text p))) l (r .length) k (h .lengths) (r .count) n few here (f few));
-      }
-
-  pub noted-full : 3 ≤ r .count → s .at ≡ r .at → s .length ≡ r .length → s .count ≡ 4 → NotedWith k n r s
-  noted-full full a b c text f l h =
-      let past : 3 ≤ length l = (let m = h .many in omega arith) in
-      record {
-        many = let m = one-longer l k in omega arith;
-        places = rw a (kept-full (λ p. p) l (r .at) k (h .places) past);
-        lengths = rw b (kept-full (λ p. lengthOf (mapOf (the text p))) l (r .length) k (h .lengths) past);
-      }
+  pub noted-full : 3 ≤ r .count → s .each ≡ r .each → s .count ≡ 4 → NotedWith n r s
+  noted-full full a c text l f h = record {
+    many = let m = one-longer l (n .at) in let h₀ = h .many in omega arith;
+    three = ap length a ∙ h .three;
+    place = λ z i u w. (let low : i < length l = past i u in rw a (h .place z i u low ∙ sym (as-before l (n .at) i low)));
+    noted = λ z i u w. rw a (h .noted z i u (past i u));
+  }
+    where
+      past : (i : ℕ) → i < 3 → i < length l
+      past i u = let m = h .many in omega arith
 
 pub ruleset noting = (noted-room, noted-full, needs)
 
@@ -133,18 +172,25 @@ pub record Surveying (text : List ℕ) (matrix : ℕ) (r : Maps) (kid : Kid) : T
   pub stand : AllStand text met
   pub so-far : children "MatrixIndicesMap" (the text matrix) ≡ each (the text) met ++ those (λ e. is "MatrixIndicesMap" (nameOf e)) (kids text kid)
 
-none-kept : (f : ℕ → ℕ) (array : List ℕ) → array ≡ replicate 3 0 → Kept f [] array
-none-kept f array e = record { three = ap length e; kept = λ i u v. absurd (omega arith) }
+-- none is noted
+pub record NoneYet (r : Maps) : Type 0 where
+  pub three : length (r .each) ≡ 3
+  pub none : r .count ≡ 0
 
-pub surveying-start : {text : List ℕ} {at : ℕ} (r : Maps) → r .at ≡ replicate 3 0 → r .length ≡ replicate 3 0 → r .count ≡ 0 → MatrixAt text at → {kid : Kid} → kid ≡ first text at → Surveying text at r kid
+pub none-yet : (r : Maps) → length (r .each) ≡ 3 → r .count ≡ 0 → NoneYet r
+none-yet r a c = record { three = a; none = c }
+
+pub ruleset none-noted = (none-yet, needs)
+
+pub surveying-start : {text : List ℕ} {at : ℕ} {r : Maps} → NoneYet r → MatrixAt text at → {kid : Kid} → kid ≡ first text at → Surveying text at r kid
 unfolding children each
-surveying-start {text} {at} r a b c m {kid} e =
+surveying-start {text} {at} {r} y m {kid} e =
     let go : Surveying text at r (first text at) = record {
       walk = walk-children (m .stands);
       good = rw (kids-children (m .stands)) (matrix-children (m .good));
       short = m .short;
       met = [];
-      holds = record { many = omega arith; places = none-kept (λ p. p) (r .at) a; lengths = none-kept (λ p. lengthOf (mapOf (the text p))) (r .length) b };
+      holds = record { many = (let c = y .none in omega arith); three = y .three; place = λ z i u v. absurd (omega arith); noted = λ z i u v. absurd (omega arith) };
       stand = none-stands;
       so-far = ap (those (λ d. is "MatrixIndicesMap" (nameOf d))) (sym (kids-children (m .stands)));
     } in
@@ -195,27 +241,25 @@ module _ {text : List ℕ} {matrix : ℕ} {r : Maps} {kid : Kid} (go : Surveying
       short = go .short;
     }
 
-    hit : {b : Bool} → b ≡ named text k (ascii "MatrixIndicesMap") → b ≡ true → {s : Maps} → Noted text k r s → {kid₁ : Kid} → kid₁ ≡ next text k → Surveying text matrix s kid₁
-    hit nm f {s} more e =
-        let z : is "MatrixIndicesMap" (nameOf (the text k)) ≡ true = sym (name-is-law "MatrixIndicesMap" (turn .stands)) ∙ sym nm ∙ f in
-        rw e (record {
-          walk = turn .then;
-          good = good-tail ahead;
-          short = go .short;
-          met = go .met ++ (k ∷ []);
-          holds = more (go .met) (go .holds);
-          stand = stand-more (go .stand) (turn .stands);
-          so-far = go .so-far ∙ ap (λ l. each (the text) (go .met) ++ l) (rw z at splits) ∙ each-more text (go .met) k _;
-        })
-
-    module _ {m : Measure} (span : SpannedIf (ltb (r .count) 3) text k m) {kid₁ : Kid} (e : kid₁ ≡ kid-at (length text) (drop (m .behind) text)) where
+    module _ {n : MapNote} (at : NotedIf (ltb (r .count) 3) text k n) {kid₁ : Kid} (e : kid₁ ≡ kid-at (length text) (drop (n .behind) text)) where
       is-next : kid₁ ≡ next text k
-      is-next = e ∙ sym (next-behind (span .ends))
+      is-next = e ∙ sym (next-behind (at .ends))
 
       pub surveying-on : left text kid₁ < left text kid
       surveying-on = surveying-less is-next
 
-      pub surveying-hit : {b : Bool} → b ≡ named text k (ascii "MatrixIndicesMap") → b ≡ true → {s : Maps} → NotedWith k (m .length) r s → Surveying text matrix s kid₁
-      surveying-hit nm f {s} noted = hit nm f (noted text (λ few. span .long (lt-ltb (r .count) 3 few))) is-next
+      pub surveying-hit : {b : Bool} → b ≡ named text k (ascii "MatrixIndicesMap") → b ≡ true → {s : Maps} → NotedWith n r s → Surveying text matrix s kid₁
+      surveying-hit nm f {s} more =
+          let z : is "MatrixIndicesMap" (nameOf (the text k)) ≡ true = sym (name-is-law "MatrixIndicesMap" (turn .stands)) ∙ sym nm ∙ f in
+          let held : Holds text (go .met ++ (k ∷ [])) s = rw (at .place) at (more text (go .met) (λ few. at .noted (lt-ltb (r .count) 3 few)) (go .holds)) in
+          rw is-next (record {
+            walk = turn .then;
+            good = good-tail ahead;
+            short = go .short;
+            met = go .met ++ (k ∷ []);
+            holds = held;
+            stand = stand-more (go .stand) (turn .stands);
+            so-far = go .so-far ∙ ap (λ l. each (the text) (go .met) ++ l) (rw z at splits) ∙ each-more text (go .met) k _;
+          })
 
 pub ruleset surveying = (surveying-start, surveying-done, surveying-less, surveying-miss, surveying-map, surveying-on, surveying-hit, needs)

@@ -17,11 +17,12 @@ use Rattle.nodes.specs.Walk.{kids, Walk, walk-children, kids-children, walk-non
 use Rattle.nodes.specs.declared.Kid.{Kid}
 use Rattle.nodes.specs.declared.Kid.the-variants.{Child, Done}
 use Rattle.cifti.specs.Rows.{brainModels}
-use Rattle.cifti.specs.Maps.{modelOf, sizesOf, kindOfMap, mapOf, lengthOf, lengthBy}
+use Rattle.cifti.specs.Maps.{modelOf, sizesOf, isBrain, kindOfMap, mapOf, lengthOf, lengthBy}
 use Rattle.cifti.specs.declared.answer.Kind.the-variants.{Brain}
 use Rattle.maps.specs.Good.{Good, GoodAs, AllGood, good-head, good-tail}
-use Rattle.maps.specs.MapKind.{good-brain}
-use Rattle.maps.specs.Sums.{MapAt}
+use Rattle.maps.specs.MapKind.{good-brain, brain-kind, no-models}
+use Rattle.maps.specs.Survey.{Noted}
+use Rattle.maps.specs.declared.survey.MapNote.{MapNote}
 use Rattle.maps.specs.Kinds.{brainRows, GoodModel, good-model, brain-children}
 
 pub record BrainAt (text : List ℕ) (map : ℕ) : Type 0 where
@@ -29,8 +30,21 @@ pub record BrainAt (text : List ℕ) (map : ℕ) : Type 0 where
   pub good : Good brainModels (the text map)
   pub is-brain : kindOfMap (the text map) ≡ Brain
 
-pub brain-at : {text : List ℕ} {map : ℕ} → MapAt text map → kindOfMap (the text map) ≡ Brain → BrainAt text map
-brain-at m h = record { stands = m .stands; good = good-brain (m .good) h; is-brain = h }
+-- whether a map is one, as it is noted
+module _ {text : List ℕ} {n : MapNote} (m : Noted text n) {b : Bool} (p : b ≡ isBrain (n .kind)) where
+  pub noted-kind : isBrain ((mapOf (the text (n .at))) .kind) ≡ b
+  unfolding mapOf
+  noted-kind = sym (p ∙ ap isBrain (m .kind-is))
+
+  pub noted-brain : b ≡ true → BrainAt text (n .at)
+  noted-brain t =
+      let h : kindOfMap (the text (n .at)) ≡ Brain = sym (m .kind-is) ∙ brain-kind (n .kind) (sym p ∙ t) in
+      record { stands = m .map .stands; good = good-brain (m .map .good) h; is-brain = h }
+
+  -- another has no models
+  pub noted-plain : b ≡ false → (mapOf (the text (n .at))) .models ≡ []
+  unfolding mapOf each
+  noted-plain f = ap (each modelOf) (no-models (m .map .good) (sym (ap isBrain (m .kind-is)) ∙ sym p ∙ f))
 
 -- ---- What it holds.
 

@@ -12,7 +12,10 @@ use Rattle.lists.specs.Lists.{countUp, all, any, count, allBelow}
 use Rattle.nodes.specs.Places.{the}
 use Rattle.cifti.specs.Maps.{Voxel, Model, Map, modelOf, mapOf, lengthOf, covers}
 use Rattle.cifti.specs.Conditions.{listsCount, uneven, beyond}
-use Rattle.models.specs.Brain.{BrainAt}
+use Rattle.grammar.specs.Look.{contentsOf, elements}
+use Rattle.maps.specs.Sums.{VolumeLeft}
+use Rattle.maps.specs.declared.survey.Seen.{Seen}
+use Rattle.models.specs.LawsSizes.{VolumeNoted}
 use Rattle.models.specs.Tables.{up-one, up-done, up-all}
 use Rattle.models.specs.Ranges.{rangesOf, Ranged}
 use Rattle.models.specs.Held.{Holding, holding, BrainHeld, modelAt, modelsAt, held-models, held-ranged, held-tiling}
@@ -169,12 +172,20 @@ or-true : (a : Bool) → (a || true) ≡ true
 or-true true = refl
 or-true false = refl
 
-module _ {text : List ℕ} {map : ℕ} {m : Models} (h : BrainHeld text map m) where
+-- the models are gathered, and the Volume is noted
+pub record Listable (text : List ℕ) (map : ℕ) (m : Models) (s : Seen) : Type 0 where
+  pub held : BrainHeld text map m
+  pub seen : VolumeLeft text (elements (contentsOf (the text map))) [] s
+
+module _ {text : List ℕ} {map : ℕ} {m : Models} {seen : Seen} (ask : Listable text map m seen) where
+  h : BrainHeld text map m
+  h = ask .held
+
+  pub rule-volume : VolumeNoted text map seen
+  rule-volume = record { brain = h .brain; seen = ask .seen }
+
   pub rule-ranged : Ranged m
   rule-ranged = held-ranged (holding (h .held))
-
-  pub rule-brain : BrainAt text map
-  rule-brain = h .brain
 
   pub rule-holding : Holding text m
   rule-holding = holding (h .held)
@@ -200,4 +211,4 @@ module _ {text : List ℕ} {map : ℕ} {m : Models} (h : BrainHeld text map m) w
         turned true b = refl
         turned false b = refl
 
-pub ruleset ruling = (rule-ranged, rule-brain, rule-holding, rule-untiled, rule-lists, needs)
+pub ruleset ruling = (rule-ranged, rule-volume, rule-holding, rule-untiled, rule-lists, needs)

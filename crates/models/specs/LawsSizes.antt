@@ -1,7 +1,7 @@
 -- The sizes of a map's volume: those of its first Volume.
 use mathlib.Core.Path.{_≡_, refl, sym, ap, _∙_}
 use mathlib.Core.List.{List, [], _∷_, _++_}
-use mathlib.Core.Bool.{Bool, true, false, false≢true}
+use mathlib.Core.Bool.{Bool, true, false, cond, false≢true}
 use Prim.Native.Nat.{ℕ, _<_}
 use native.Mathlib.Omega.{arith}
 use lib.ListN.{getD}
@@ -12,21 +12,18 @@ use Rattle.grammar.specs.Document.{Element}
 use Rattle.grammar.specs.Look.{Word, is, nameOf, contentsOf, attr, elements, children}
 use Rattle.numbers.specs.Numbers.{whole, value, three, parts, comma, volumeDimensions, commaValues}
 use Rattle.nodes.specs.Places.{Stands, the}
-use Rattle.nodes.specs.Children.{first, next, left}
-use Rattle.nodes.specs.Names.{named, name-is-law}
 use Rattle.nodes.specs.Attributes.{place}
 use Rattle.nodes.specs.Values.{value-there}
-use Rattle.nodes.specs.Walk.{kids, walk-none, turn-splits, kids-children}
-use Rattle.nodes.specs.declared.Kid.{Kid}
-use Rattle.nodes.specs.declared.Kid.the-variants.{Child, Done}
 use Rattle.nodes.specs.declared.Found.{Found}
 use Rattle.nodes.specs.declared.Found.the-variants.{At, Nothing}
 use Rattle.cifti.specs.Rows.{volume}
 use Rattle.cifti.specs.Maps.{Voxel, voxel, sizesBy, sizesOf, mapOf}
-use Rattle.maps.specs.Good.{Good}
-use Rattle.maps.specs.Kinds.{good-volume, volume-sizes}
+use Rattle.maps.specs.Good.{Good, AllGood, none-left, one-good}
+use Rattle.maps.specs.Kinds.{brainRows, brain-children, good-volume, volume-sizes}
+use Rattle.maps.specs.Sums.{isVolume, VolumeLeft}
+use Rattle.maps.specs.declared.survey.Seen.{Seen}
 use Rattle.maps.specs.Fields.{word-at, found-value, found-none}
-use Rattle.models.specs.Brain.{BrainAt, map-volume, Among, among-start, among-stands, among-good, among-next, among-falls}
+use Rattle.models.specs.Brain.{BrainAt}
 use Rattle.numbers.specs.Answers.{threeIn, lengthsOf}
 use Rattle.numbers.specs.declared.Lengths.{Lengths}
 use Rattle.numbers.specs.declared.Three.{Three}
@@ -97,57 +94,42 @@ module _ {text : List ℕ} {at : ℕ} (v : VolumeAt text at) {f : Found} (e : f 
 
 pub ruleset sizing = (sizes-stands, sizes-there, sizes-not, sizes-missing, needs)
 
--- ---- The first of the map's children that is one.
+-- ---- The first of the map's children that is one, as it is noted.
 
-pub isVolume : Element → Bool
-isVolume e = is "Volume" (nameOf e)
+pub record VolumeNoted (text : List ℕ) (map : ℕ) (s : Seen) : Type 0 where
+  pub brain : BrainAt text map
+  pub seen : VolumeLeft text (elements (contentsOf (the text map))) [] s
 
-pub record Looking (text : List ℕ) (map : ℕ) (kid : Kid) : Type 0 where
-  pub among : Among text kid
-  pub ahead : (mapOf (the text map)) .volume ≡ sizesBy (eachIn sizesAt (those isVolume (kids text kid)))
+first-good : (l : List Element) → AllGood brainRows l → (e : Element) (r : List Element) → those isVolume l ≡ e ∷ r → Good volume e
+unfolding those isVolume
+first-good [] none-left e r h = absurd (let z : _≡_ {A = ℕ} 0 1 = cc in omega arith)
+first-good (d ∷ l) (one-good g m) e r h = go (is "Volume" (nameOf d)) refl h (first-good l m e r)
+  where
+    go : (b : Bool) → is "Volume" (nameOf d) ≡ b → cond b (d ∷ those (λ x. is "Volume" (nameOf x)) l) (those (λ x. is "Volume" (nameOf x)) l) ≡ e ∷ r
+        → (those (λ x. is "Volume" (nameOf x)) l ≡ e ∷ r → Good volume e) → Good volume e
+    go true q k ih = let z : d ≡ e = cc in rw (← z) (good-volume d g q)
+    go false q k ih = ih k
 
-volumes-are : (e : Element) → sizesOf e ≡ sizesBy (eachIn sizesAt (those isVolume (elements (contentsOf e))))
-unfolding sizesOf sizesAt children isVolume
+volumes-are : (e : Element) → (mapOf e) .volume ≡ sizesBy (eachIn sizesAt (those isVolume (elements (contentsOf e))))
+unfolding mapOf sizesOf sizesAt children isVolume
 volumes-are e = refl
 
-pub looking-start : {text : List ℕ} {map : ℕ} {kid : Kid} → BrainAt text map → kid ≡ first text map → Looking text map kid
-looking-start {text} {map} b e =
-    rw e (record {
-      among = among-start b;
-      ahead = map-volume (the text map) ∙ volumes-are (the text map) ∙ ap (λ l. sizesBy (eachIn sizesAt (those isVolume l))) (sym (kids-children (b .stands)));
-    })
-
-module _ {text : List ℕ} {map : ℕ} {kid : Kid} (go : Looking text map kid) where
-  pub looking-done : kid ≡ Done → voxel 0 0 0 ≡ (mapOf (the text map)) .volume
+module _ {text : List ℕ} {map : ℕ} {s : Seen} (n : VolumeNoted text map s) where
+  pub volume-none : s .found ≡ false → voxel 0 0 0 ≡ (mapOf (the text map)) .volume
   unfolding those eachIn sizesBy
-  looking-done e = sym (go .ahead ∙ ap (λ l. sizesBy (eachIn sizesAt (those isVolume l))) (walk-none (go .among .walk) e))
+  volume-none f = sym (volumes-are (the text map) ∙ ap (λ l. sizesBy (eachIn sizesAt l)) (n .seen .none f))
 
-  module _ {k : ℕ} (is : kid ≡ Child k) where
-    pub looking-less : {kid₁ : Kid} → kid₁ ≡ next text k → left text kid₁ < left text kid
-    looking-less e = rw e (among-falls (go .among) is)
+  module _ (t : s .found ≡ true) where
+    pub volume-there : VolumeAt text (s .at)
+    volume-there = record {
+      stands = n .seen .stands t;
+      good = first-good (elements (contentsOf (the text map))) (brain-children (n .brain .good)) (the text (s .at)) (n .seen .rest) (n .seen .first t);
+    }
 
-    module _ {b : Bool} (nm : b ≡ named text k (ascii "Volume")) where
-      name : b ≡ isVolume (the text k)
-      unfolding isVolume
-      name = nm ∙ name-is-law "Volume" (among-stands (go .among) is)
+    pub volume-found : {v : Voxel} → v ≡ sizesBy (sizesAt (the text (s .at))) → v ≡ (mapOf (the text map)) .volume
+    unfolding eachIn
+    volume-found h =
+        h ∙ sym (volumes-are (the text map) ∙ ap (λ l. sizesBy (eachIn sizesAt l)) (n .seen .first t)
+        ∙ sizes-first (sizesAt (the text (s .at))) (eachIn sizesAt (n .seen .rest)) (in-form (volume-there .good)))
 
-      pub looking-on : b ≡ false → {kid₁ : Kid} → kid₁ ≡ next text k → Looking text map kid₁
-      unfolding those
-      looking-on t e = rw e (record {
-        among = among-next (go .among) is;
-        ahead = go .ahead ∙ ap (λ l. sizesBy (eachIn sizesAt l)) (ap (those isVolume) (turn-splits (go .among .walk) is) ∙ rw (sym name ∙ t));
-      })
-
-      module _ (t : b ≡ true) where
-        pub looking-at : VolumeAt text k
-        unfolding isVolume
-        looking-at = record { stands = among-stands (go .among) is; good = good-volume (the text k) (among-good (go .among) is) (sym name ∙ t) }
-
-        pub looking-found : {v : Voxel} → v ≡ sizesBy (sizesAt (the text k)) → v ≡ (mapOf (the text map)) .volume
-        unfolding those eachIn
-        looking-found s =
-            let w : those isVolume (kids text kid) ≡ the text k ∷ those isVolume (kids text (next text k)) = ap (those isVolume) (turn-splits (go .among .walk) is) ∙ rw (sym name ∙ t) in
-            s ∙ sym (go .ahead ∙ ap (λ l. sizesBy (eachIn sizesAt l)) w
-            ∙ sizes-first (sizesAt (the text k)) (eachIn sizesAt (those isVolume (kids text (next text k)))) (in-form (looking-at .good)))
-
-pub ruleset looking = (looking-start, looking-done, looking-less, looking-on, looking-at, looking-found, needs)
+pub ruleset volumes = (volume-none, volume-there, volume-found, needs)

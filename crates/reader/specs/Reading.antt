@@ -22,8 +22,7 @@ use Rattle.cifti.specs.Answer.{acceptedWith, refusedWith, answerBy, recordsBy, 
 use Rattle.cifti.specs.Answer as A
 use Rattle.cifti.specs.Theorems.{reads-by, answerOf, recordsOf, numberOf}
 use Rattle.cifti.specs.declared.answer.Answer.{Answer}
-use Rattle.maps.specs.Nine.{InRoom}
-use Rattle.maps.specs.Ready.{mapsAt}
+use Rattle.maps.specs.Ready.{Ready, mapsAt}
 use Rattle.stretches.specs.All.{Fillable}
 use Rattle.opening.specs.Opening.{number9}
 use Rattle.reader.specs.Surveying.{Surveys, Readied}
@@ -55,7 +54,7 @@ module _ {text lengths : List ℕ} {s : Survey} (sv : Surveys text lengths s) (r
     got : Readied text lengths (s .maps)
     got = sv .readied z
 
-    pub read-room : InRoom text (s .maps)
+    pub read-room : Ready text (s .maps)
     read-room = got .room
 
     module _ {v : ℕ} {after : List ℕ} (lt : Later text (s .maps) (length records) work v after) where
@@ -78,10 +77,8 @@ module _ {text lengths : List ℕ} {s : Survey} (sv : Surveys text lengths s) (r
             let l = mapsAt text (s .maps) in
             let none = given-none (rules14 (length records) (length work) l) refl (sym (lt .told) ∙ y) in
             record {
-              room-in = got .room;
-              share = row-fails none;
-              ranges = row-fails (rows-past 1 none);
-              inside = row-fails (rows-past 2 none);
+              ready = got .room;
+              fine = record { share = row-fails none; ranges = row-fails (rows-past 1 none); inside = row-fails (rows-past 2 none) };
               enough = ltb-false (length records) (total lengthOf (brainMaps l)) (or-left _ (ltb (length work) (greatest lengthOf (brainMaps l))) (row-fails (rows-past 3 none)));
             }
 

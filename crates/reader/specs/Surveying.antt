@@ -18,8 +18,7 @@ use Rattle.cifti.specs.Conditions as C
 use Rattle.cifti.specs.Conditions.{_when_, dimensionsWrong, lengthWrong, ofMaps, textTooLong}
 use Rattle.maps.specs.Survey.{MatrixAt, MapsAre}
 use Rattle.maps.specs.Ready.{mapsIn, mapsAt, Ready, maps-many, maps-ready, maps-same}
-use Rattle.maps.specs.Eight.{Surveyed}
-use Rattle.maps.specs.Nine.{InRoom}
+use Rattle.maps.specs.ListedOnce.{Surveyed}
 use Rattle.maps.specs.declared.survey.Maps.{Maps}
 use Rattle.opening.specs.Opening.{Opens, Passed, number9, nine-document, lengths-three}
 use Rattle.opening.specs.declared.seven.Opening.{Opening}
@@ -29,7 +28,7 @@ use Rattle.reader.specs.declared.surveying.Survey.{Survey}
 pub record Readied (text lengths : List ℕ) (maps : Maps) : Type 0 where
   pub document : Element
   pub parsed : parse text ≡ some document
-  pub room : InRoom text maps
+  pub room : Ready text maps
   pub all : mapsAt text maps ≡ mapsOf document
   pub listed : dimensionsWrong lengths (mapsAt text maps) ≡ false
 
@@ -75,8 +74,8 @@ module _ {text lengths : List ℕ} {o : Opening} (op : Opens text lengths o) whe
           same : mapsAt text maps ≡ mapsIn (the text (o .matrix))
           same = maps-same are (passed .good) few
 
-          pub survey-room : InRoom text maps
-          survey-room = record { ready = maps-ready are (passed .good) few; short = passed .short }
+          pub survey-room : Ready text maps
+          survey-room = maps-ready are (passed .good) few
 
           module _ {c : Bool} (q : c ≡ lengthWrong lengths (mapsAt text maps)) where
             nine : lengthWrong lengths (mapsIn (the text (o .matrix))) ≡ c

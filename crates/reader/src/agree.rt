@@ -1,15 +1,15 @@
 // Condition 9: a map's length is not that of a dimension it applies to.
-use super::dims::lists_digit;
+use super::survey::nth;
+use maps::survey::MapNote;
 use maps::survey::Maps;
 ghost use mathlib.Core.Path.{_≡_};
 ghost use lib.ListN.{getD};
 ghost use Rattle.nodes.specs.Places.{the};
 ghost use Rattle.cifti.specs.Conditions.{lengthWrong};
 ghost use Rattle.cifti.specs.Maps.{dimensionsOf};
-ghost use Rattle.maps.specs.Sums.{MapAt};
-ghost use Rattle.maps.specs.Ready.{mapsAt};
-ghost use Rattle.maps.specs.Digits.{Askable};
-ghost use Rattle.maps.specs.Nine.{differs, differsAt, InRoom};
+ghost use Rattle.maps.specs.Survey.{Noted};
+ghost use Rattle.maps.specs.Ready.{Ready, mapsAt};
+ghost use Rattle.maps.specs.LengthsAgree.{differs, differsAt, DigitOf};
 
 fn length_at(lengths: &[u64], d: usize) -> u64
     ensures { λ r. ⌜ r ≡ getD (now (lengths .entry)) d 0 ⌝ }
@@ -18,24 +18,25 @@ fn length_at(lengths: &[u64], d: usize) -> u64
 }
 
 // Whether the map lists the dimension, and it has another length.
-fn dimension_differs(text: &[u8], at: usize, d: usize, size: u64, lengths: &[u64]) -> bool
-    requires { ⌜ Askable (now text) at d ⌝ }
-    ensures { λ r. ⌜ r ≡ differsAt size (now (lengths .entry)) (dimensionsOf (the (now (text .entry)) at)) d ⌝ }
+fn dimension_differs(text: &[u8], note: MapNote, d: usize, lengths: &[u64]) -> bool
+    requires { ⌜ DigitOf (now text) note d ⌝ }
+    ensures { λ r. ⌜ r ≡ differsAt (note .length) (now (lengths .entry)) (dimensionsOf (the (now (text .entry)) (note .at))) d ⌝ }
 {
-    if length_at(lengths, d) == size {
+    if length_at(lengths, d) == note.length {
         return false;
     }
-    lists_digit(text, at, d) != 0
+    let lists = note.lists;
+    lists.has[d] != 0
 }
 
 // Whether a dimension that the map lists has another length.
-fn length_differs(text: &[u8], at: usize, size: u64, lengths: &[u64]) -> bool
-    requires { ⌜ MapAt (now text) at ⌝ }
-    ensures { λ r. ⌜ r ≡ differs size (now (lengths .entry)) (dimensionsOf (the (now (text .entry)) at)) ⌝ }
+fn length_differs(text: &[u8], note: MapNote, lengths: &[u64]) -> bool
+    requires { ⌜ Noted (now text) note ⌝ }
+    ensures { λ r. ⌜ r ≡ differs (note .length) (now (lengths .entry)) (dimensionsOf (the (now (text .entry)) (note .at))) ⌝ }
 {
     let mut d = 0;
     while d < 10 {
-        if dimension_differs(text, at, d, size, lengths) {
+        if dimension_differs(text, note, d, lengths) {
             return true;
         }
         d += 1;
@@ -44,14 +45,13 @@ fn length_differs(text: &[u8], at: usize, size: u64, lengths: &[u64]) -> bool
 }
 
 pub(crate) fn length_wrong(text: &[u8], maps: Maps, lengths: &[u64]) -> bool
-    requires { ⌜ InRoom (now text) maps ⌝ }
+    requires { ⌜ Ready (now text) maps ⌝ }
     ensures { λ r. ⌜ r ≡ lengthWrong (now (lengths .entry)) (mapsAt (now (text .entry)) maps) ⌝ }
 {
-    let at = maps.at;
-    let sizes = maps.length;
     let mut i = 0;
     while i < maps.count {
-        if length_differs(text, at[i], sizes[i], lengths) {
+        let note = nth(maps, i);
+        if length_differs(text, note, lengths) {
             return true;
         }
         i += 1;

@@ -1,18 +1,12 @@
 // The dimensions that a map lists.
 use maps::dims::Dims;
-use maps::survey::Maps;
 use nodes::Char;
 use nodes::Found;
-ghost use mathlib.Core.Path.{_≡_};
-ghost use Prim.Native.Nat.{min};
-ghost use lib.Dec.{eqb};
-ghost use Rattle.lists.specs.Lists.{count};
 ghost use Rattle.nodes.specs.Places.{the};
-ghost use Rattle.cifti.specs.Maps.{dimensionsOf};
-ghost use Rattle.cifti.specs.Conditions.{listedDimensions};
-ghost use Rattle.maps.specs.Ready.{mapsAt};
-ghost use Rattle.maps.specs.Digits.{Askable, Asking};
 ghost use Rattle.nodes.specs.Values.{value-there};
+ghost use Rattle.cifti.specs.Maps.{dimensionsOf};
+ghost use Rattle.maps.specs.Sums.{MapAt};
+ghost use Rattle.maps.specs.Digits.{Tells};
 ghost use Rattle.maps.specs.Seen.{Grown, Lists};
 
 fn one_more(dims: Dims, b: u8) -> Dims
@@ -54,37 +48,13 @@ fn digits_at(text: &[u8], v: usize) -> Dims
     }
 }
 
-// How often the map lists the dimension, told up to twice.
-pub(crate) fn lists_digit(text: &[u8], at: usize, d: usize) -> u64
-    requires { ⌜ Askable (now text) at d ⌝ }
-    ensures { λ r. ⌜ r ≡ min 2 (count (eqb d) (dimensionsOf (the (now (text .entry)) at))) ⌝ }
+// How often the map at `at` lists each dimension, told up to twice.
+pub(crate) fn dimensions_of(text: &[u8], at: usize) -> Dims
+    requires { ⌜ MapAt (now text) at ⌝ }
+    ensures { λ r. ⌜ Tells (dimensionsOf (the (now (text .entry)) at)) r ⌝ }
 {
     match nodes::attributes::attribute(text, at, b"AppliesToMatrixDimension") {
-        Found::At(v) => {
-            let dims = digits_at(text, v);
-            dims.has[d]
-        }
-        Found::Nothing => 0,
+        Found::At(v) => digits_at(text, v),
+        Found::Nothing => Dims { has: [0; 10] },
     }
-}
-
-// How often the maps list the dimension, told up to twice.
-pub(crate) fn listed(text: &[u8], maps: Maps, d: usize) -> u64
-    requires { ⌜ Asking (now text) maps d ⌝ }
-    ensures { λ r. ⌜ r ≡ min 2 (count (eqb d) (listedDimensions (mapsAt (now (text .entry)) maps))) ⌝ }
-{
-    let at = maps.at;
-    let mut n = 0;
-    let mut i = 0;
-    while i < maps.count {
-        n = capped(n + lists_digit(text, at[i], d));
-        i += 1;
-    }
-    n
-}
-
-fn capped(n: u64) -> u64
-    ensures { λ r. ⌜ r ≡ min 2 n ⌝ }
-{
-    if n < 2 { n } else { 2 }
 }

@@ -1,15 +1,17 @@
 // Conditions 10, 11 and 12 over all maps: each map's lists are read once.
-use super::fields::attribute_is;
 use super::gather::models_of;
+use super::kind::is_brain;
+use super::survey::nth;
 use super::verdict::lists_verdict;
+use maps::survey::MapNote;
 use maps::survey::Maps;
 ghost use mathlib.Core.Path.{_≡_};
+ghost use Rattle.lists.specs.Refusals.{sooner};
 ghost use Rattle.nodes.specs.Places.{the};
 ghost use Rattle.cifti.specs.Maps.{mapOf};
-ghost use Rattle.maps.specs.Nine.{InRoom};
-ghost use Rattle.maps.specs.Ready.{mapsAt};
-ghost use Rattle.maps.specs.Sums.{MapAt};
-ghost use Rattle.reader.specs.Judging.{mapRule, sooner, rule12};
+ghost use Rattle.maps.specs.Survey.{Noted};
+ghost use Rattle.maps.specs.Ready.{Ready, mapsAt};
+ghost use Rattle.reader.specs.Judging.{mapRefusal, modelRefusal};
 
 fn first_of(a: u64, b: u64) -> u64
     ensures { λ r. ⌜ r ≡ sooner a b ⌝ }
@@ -24,36 +26,32 @@ fn first_of(a: u64, b: u64) -> u64
 }
 
 // The first of 10, 11 and 12 that applies to the map, or 0.
-fn map_rule(text: &[u8], at: usize) -> u64
-    requires { ⌜ MapAt (now text) at ⌝ }
-    ensures { λ r. ⌜ r ≡ mapRule (mapOf (the (now (text .entry)) at)) ⌝ }
+fn map_rule(text: &[u8], note: MapNote) -> u64
+    requires { ⌜ Noted (now text) note ⌝ }
+    ensures { λ r. ⌜ r ≡ mapRefusal (mapOf (the (now (text .entry)) (note .at))) ⌝ }
 {
-    if attribute_is(
-        text,
-        at,
-        b"IndicesMapToDataType",
-        b"CIFTI_INDEX_TYPE_BRAIN_MODELS",
-    ) {
-        let models = models_of(text, at);
+    let kind = note.kind;
+    if is_brain(kind) {
+        let models = models_of(text, note.at);
         if models.shared {
             return 10;
         }
-        return lists_verdict(text, at, models);
+        let volume = note.volume;
+        return lists_verdict(text, note.at, models, volume);
     }
     0
 }
 
 pub(crate) fn judged(text: &[u8], maps: Maps) -> u64
-    requires { ⌜ InRoom (now text) maps ⌝ }
-    ensures { λ r. ⌜ r ≡ rule12 (mapsAt (now (text .entry)) maps) ⌝ }
+    requires { ⌜ Ready (now text) maps ⌝ }
+    ensures { λ r. ⌜ r ≡ modelRefusal (mapsAt (now (text .entry)) maps) ⌝ }
 {
-    let at = maps.at;
     let mut found = 0;
-    let mut done = 0;
-    while done < maps.count {
-        let i = maps.count - 1 - done;
-        found = first_of(map_rule(text, at[i]), found);
-        done += 1;
+    let mut i = 0;
+    while i < maps.count {
+        let note = nth(maps, i);
+        found = first_of(found, map_rule(text, note));
+        i += 1;
     }
     found
 }

@@ -1,7 +1,8 @@
 // The length of a map, and where it ends: one walk over its children.
-use super::fields::attribute_is;
 use super::fields::attribute_number;
+use cifti::Kind;
 use maps::survey::Measure;
+use maps::survey::Seen;
 use nodes::ahead::Ahead;
 use nodes::ahead::ahead_first;
 use nodes::ahead::ahead_from;
@@ -9,7 +10,7 @@ use nodes::scan::skip;
 use tokens::Step;
 ghost use Rattle.nodes.specs.Places.{Stands, the};
 ghost use Rattle.nodes.specs.Leaving.{Behind};
-ghost use Rattle.maps.specs.Sums.{Weighed, InShort, AheadBehind, Summed, MapAt, Spanned, SpannedIf};
+ghost use Rattle.maps.specs.Sums.{Weighed, InShort, AheadBehind, Summed, KindAt, Spanned, VolumeMet};
 
 // What a child adds to the length of its map: in a brain map the count of a model, else 1 for a name.
 fn weight(text: &[u8], at: usize, brain: bool) -> u64
@@ -28,6 +29,26 @@ fn weight(text: &[u8], at: usize, brain: bool) -> u64
     0
 }
 
+// What is seen of a brain map's Volume, with the child at `at`; the first is kept.
+fn volume_met(text: &[u8], at: usize, brain: bool, seen: Seen) -> Seen
+    requires { ⌜ Stands (now text) at ⌝ }
+    ensures { λ r. ⌜ VolumeMet brain (now (text .entry)) at seen r ⌝ }
+{
+    if brain {
+        if seen.found {
+            return seen;
+        }
+        if nodes::names::name_is(text, at, b"Volume") {
+            return Seen {
+                found: true,
+                at: at,
+            };
+        }
+        return seen;
+    }
+    seen
+}
+
 // What stands ahead behind the element at `at`.
 fn ahead_behind(text: &[u8], at: usize) -> Ahead
     ensures { λ r. ⌜ AheadBehind (now (text .entry)) at r ⌝ }
@@ -39,7 +60,7 @@ fn ahead_behind(text: &[u8], at: usize) -> Ahead
 }
 
 // The place behind the element at `at`.
-fn place_behind(text: &[u8], at: usize) -> usize
+pub(crate) fn place_behind(text: &[u8], at: usize) -> usize
     requires { ⌜ Stands (now text) at ⌝ }
     ensures { λ r. ⌜ Behind (now (text .entry)) at r ⌝ }
 {
@@ -55,22 +76,29 @@ fn children_sum(text: &[u8], at: usize, brain: bool) -> Measure
     ensures { λ r. ⌜ Summed (now (text .entry)) at brain r ⌝ }
 {
     let mut n = 0;
+    let mut seen = Seen {
+        found: false,
+        at: 0,
+    };
     let mut next = ahead_first(text, at, true);
     loop {
         match next {
             Ahead::Child(k) => {
                 n += weight(text, k, brain);
+                seen = volume_met(text, k, brain, seen);
                 next = ahead_behind(text, k);
             }
             Ahead::End(behind) => {
                 return Measure {
                     length: n,
+                    volume: seen,
                     behind: behind,
                 };
             }
             Ahead::Stray => {
                 return Measure {
                     length: n,
+                    volume: seen,
                     behind: 0,
                 };
             }
@@ -78,43 +106,27 @@ fn children_sum(text: &[u8], at: usize, brain: bool) -> Measure
     }
 }
 
-// The length of the map at `at`, and where it ends.
-pub(crate) fn map_measure(text: &[u8], at: usize) -> Measure
-    requires { ⌜ MapAt (now text) at ⌝ }
-    ensures { λ r. ⌜ Spanned (now (text .entry)) at r ⌝ }
+// The length of the map at `at`, which is of this kind, and where it ends.
+pub(crate) fn map_measure(text: &[u8], at: usize, kind: Kind) -> Measure
+    requires { ⌜ KindAt (now text) at kind ⌝ }
+    ensures { λ r. ⌜ Spanned (now (text .entry)) at kind r ⌝ }
 {
-    if attribute_is(
-        text,
-        at,
-        b"IndicesMapToDataType",
-        b"CIFTI_INDEX_TYPE_BRAIN_MODELS",
-    ) {
-        return children_sum(text, at, true);
-    }
-    if attribute_is(
-        text,
-        at,
-        b"IndicesMapToDataType",
-        b"CIFTI_INDEX_TYPE_SERIES",
-    ) {
-        return Measure {
-            length: attribute_number(text, at, b"NumberOfSeriesPoints", 1, 1_048_576),
+    let none = Seen {
+        found: false,
+        at: 0,
+    };
+    match kind {
+        Kind::None => Measure {
+            length: 0,
+            volume: none,
             behind: place_behind(text, at),
-        };
-    }
-    children_sum(text, at, false)
-}
-
-// The same where the length is wanted; else only where the map ends.
-pub(crate) fn measure_if(text: &[u8], at: usize, wanted: bool) -> Measure
-    requires { ⌜ MapAt (now text) at ⌝ }
-    ensures { λ r. ⌜ SpannedIf wanted (now (text .entry)) at r ⌝ }
-{
-    if wanted {
-        return map_measure(text, at);
-    }
-    Measure {
-        length: 0,
-        behind: place_behind(text, at),
+        },
+        Kind::Brain => children_sum(text, at, true),
+        Kind::Series => Measure {
+            length: attribute_number(text, at, b"NumberOfSeriesPoints", 1, 1_048_576),
+            volume: none,
+            behind: place_behind(text, at),
+        },
+        Kind::Scalars => children_sum(text, at, false),
     }
 }

@@ -6,6 +6,7 @@ mod fields;
 mod fill;
 mod gather;
 mod judge;
+mod kind;
 mod later;
 mod lengths;
 mod listing;

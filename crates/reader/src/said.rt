@@ -1,123 +1,86 @@
 // What the answer says of the maps.
-use super::dims::lists_digit;
-use super::fields::attribute_is;
+use super::kind::is_brain;
+use super::kind::is_series;
 use super::series::series_at;
+use super::stretch::reach_of;
+use super::survey::nth;
 use cifti::Answer;
 use cifti::Dimension;
-use cifti::Kind;
 use cifti::Series;
 use cifti::dimension_by;
 use cifti::no_series;
 use cifti::unused;
-use describe::said::Said;
+use maps::survey::MapNote;
 use maps::survey::Maps;
 ghost use mathlib.Core.Path.{_≡_};
 ghost use Rattle.nodes.specs.Places.{the};
 ghost use Rattle.cifti.specs.Maps.{mapOf};
 ghost use Rattle.cifti.specs.Answer as answers;
-ghost use Rattle.maps.specs.Sums.{Measured};
-ghost use Rattle.maps.specs.Ready.{mapsAt};
-ghost use Rattle.maps.specs.Nine.{InRoom};
-ghost use Rattle.describe.specs.Said.{brainSaid, seriesDimension, scalarsSaid, takes, AllSaid, Choosing};
+ghost use Rattle.maps.specs.Survey.{Noted};
+ghost use Rattle.maps.specs.Ready.{Ready, mapsAt};
+ghost use Rattle.maps.specs.ListedOnce.{Asking};
+ghost use Rattle.describe.specs.Said.{seriesIn, startIn};
 
-fn brain_said(length: u64, start: usize) -> Dimension
-    ensures { λ r. ⌜ r ≡ brainSaid length start ⌝ }
+// What the map says of a series; zero where it is none.
+fn series_in(text: &[u8], note: MapNote) -> Series
+    requires { ⌜ Noted (now text) note ⌝ }
+    ensures { λ r. ⌜ r ≡ seriesIn (now (text .entry)) note ⌝ }
 {
-    dimension_by(Kind::Brain, length, start, no_series())
-}
-
-fn series_said(length: u64, series: Series) -> Dimension
-    ensures { λ r. ⌜ r ≡ seriesDimension length series ⌝ }
-{
-    dimension_by(Kind::Series, length, 0, series)
-}
-
-fn scalars_said(length: u64) -> Dimension
-    ensures { λ r. ⌜ r ≡ scalarsSaid length ⌝ }
-{
-    dimension_by(Kind::Scalars, length, 0, no_series())
-}
-
-// What the answer says of the map at `at`, of this length, whose stretch, if it has one, begins at `start`.
-fn described(text: &[u8], at: usize, length: u64, start: usize) -> Dimension
-    requires { ⌜ Measured (now text) at length ⌝ }
-    ensures { λ r. ⌜ r ≡ answers.described start (mapOf (the (now (text .entry)) at)) ⌝ }
-{
-    if attribute_is(
-        text,
-        at,
-        b"IndicesMapToDataType",
-        b"CIFTI_INDEX_TYPE_BRAIN_MODELS",
-    ) {
-        return brain_said(length, start);
+    let kind = note.kind;
+    if is_series(kind) {
+        return series_at(text, note.at);
     }
-    if attribute_is(
-        text,
-        at,
-        b"IndicesMapToDataType",
-        b"CIFTI_INDEX_TYPE_SERIES",
-    ) {
-        return series_said(length, series_at(text, at));
-    }
-    scalars_said(length)
+    no_series()
 }
 
-// How many places of the table a dimension so described takes.
-fn places_of(dimension: Dimension) -> u64
-    ensures { λ r. ⌜ r ≡ takes dimension ⌝ }
+// Where its stretch begins; zero where it has none.
+fn start_in(note: MapNote, start: usize) -> usize
+    ensures { λ r. ⌜ r ≡ startIn note start ⌝ }
 {
-    let kind = dimension.kind;
-    match kind {
-        Kind::None => 0,
-        Kind::Brain => dimension.length,
-        Kind::Series => 0,
-        Kind::Scalars => 0,
+    let kind = note.kind;
+    if is_brain(kind) {
+        return start;
     }
+    0
 }
 
-fn all_said(text: &[u8], maps: Maps) -> Said
-    requires { ⌜ InRoom (now text) maps ⌝ }
-    ensures { λ r. ⌜ AllSaid (now (text .entry)) maps r ⌝ }
+// What the answer says of the map whose stretch, if it has one, begins at `start`.
+fn described(text: &[u8], note: MapNote, start: usize) -> Dimension
+    requires { ⌜ Noted (now text) note ⌝ }
+    ensures { λ r. ⌜ r ≡ answers.described start (mapOf (the (now (text .entry)) (note .at))) ⌝ }
 {
-    let none = unused();
-    let mut all = Said { each: [none; 3] };
-    let at = maps.at;
-    let sizes = maps.length;
-    let mut start = 0;
-    let mut i = 0;
-    while i < maps.count {
-        let said = described(text, at[i], sizes[i], start);
-        all.each[i] = said;
-        start += places_of(said) as usize;
-        i += 1;
-    }
-    all
+    let kind = note.kind;
+    let series = series_in(text, note);
+    let begins = start_in(note, start);
+    dimension_by(kind, note.length, begins, series)
 }
 
 // What the answer says of dimension d.
-fn dimension_at(text: &[u8], maps: Maps, all: Said, d: usize) -> Dimension
-    requires { ⌜ Choosing (now text) maps all d ⌝ }
+fn dimension_at(text: &[u8], maps: Maps, d: usize) -> Dimension
+    requires { ⌜ Asking (now text) maps d ⌝ }
     ensures { λ r. ⌜ r ≡ answers.dimensionAt 0 (mapsAt (now (text .entry)) maps) d ⌝ }
 {
-    let at = maps.at;
+    let mut start = 0;
     let mut i = 0;
     while i < maps.count {
-        if lists_digit(text, at[i], d) != 0 {
-            return all.each[i];
+        let note = nth(maps, i);
+        let lists = note.lists;
+        if lists.has[d] != 0 {
+            return described(text, note, start);
         }
+        start += reach_of(note) as usize;
         i += 1;
     }
     unused()
 }
 
 pub(crate) fn accepted(text: &[u8], maps: Maps) -> Answer
-    requires { ⌜ InRoom (now text) maps ⌝ }
+    requires { ⌜ Ready (now text) maps ⌝ }
     ensures { λ r. ⌜ r ≡ answers.acceptedWith (mapsAt (now (text .entry)) maps) ⌝ }
 {
-    let all = all_said(text, maps);
-    let first = dimension_at(text, maps, all, 0);
-    let second = dimension_at(text, maps, all, 1);
-    let third = dimension_at(text, maps, all, 2);
+    let first = dimension_at(text, maps, 0);
+    let second = dimension_at(text, maps, 1);
+    let third = dimension_at(text, maps, 2);
     Answer {
         number: 0,
         dimensions: [first, second, third],

@@ -1,42 +1,33 @@
 // How many records a map takes, and condition 13: records lent are fewer than all stretches, or work space than the longest.
-use super::fields::attribute_is;
+use super::kind::is_brain;
+use super::survey::nth;
+use maps::survey::MapNote;
 use maps::survey::Maps;
 ghost use mathlib.Core.Path.{_≡_};
-ghost use Rattle.nodes.specs.Places.{the};
-ghost use Rattle.cifti.specs.Maps.{mapOf};
 ghost use Rattle.cifti.specs.Conditions.{roomShort};
-ghost use Rattle.cifti.specs.Answer.{reach};
-ghost use Rattle.maps.specs.Sums.{Measured};
-ghost use Rattle.maps.specs.Ready.{mapsAt};
-ghost use Rattle.maps.specs.Nine.{InRoom};
+ghost use Rattle.maps.specs.Ready.{Ready, mapsAt};
+ghost use Rattle.describe.specs.Room.{reachIn};
 
-// Of a map of this length.
-fn stretch_length(text: &[u8], at: usize, length: u64) -> u64
-    requires { ⌜ Measured (now text) at length ⌝ }
-    ensures { λ r. ⌜ r ≡ reach (mapOf (the (now (text .entry)) at)) ⌝ }
+pub(crate) fn reach_of(note: MapNote) -> u64
+    ensures { λ r. ⌜ r ≡ reachIn note ⌝ }
 {
-    if attribute_is(
-        text,
-        at,
-        b"IndicesMapToDataType",
-        b"CIFTI_INDEX_TYPE_BRAIN_MODELS",
-    ) {
-        return length;
+    let kind = note.kind;
+    if is_brain(kind) {
+        return note.length;
     }
     0
 }
 
 pub(crate) fn room_short(text: &[u8], maps: Maps, room: usize, work: usize) -> bool
-    requires { ⌜ InRoom (now text) maps ⌝ }
+    requires { ⌜ Ready (now text) maps ⌝ }
     ensures { λ r. ⌜ r ≡ roomShort room work (mapsAt (now (text .entry)) maps) ⌝ }
 {
-    let at = maps.at;
-    let sizes = maps.length;
     let lent = work as u64;
     let mut left = room as u64;
     let mut i = 0;
     while i < maps.count {
-        let size = stretch_length(text, at[i], sizes[i]);
+        let note = nth(maps, i);
+        let size = reach_of(note);
         if lent < size {
             return true;
         }

@@ -2,6 +2,7 @@
 use super::agree::length_wrong;
 use super::dimensions::dimensions_wrong;
 use super::survey::maps_of;
+use super::survey::no_maps;
 use maps::survey::Maps;
 use opening::opened;
 ghost use Rattle.reader.specs.Surveying.{Surveys};
@@ -21,11 +22,7 @@ pub(crate) fn surveyed(text: &[u8], lengths: &[u64]) -> Survey
     if n != 0 {
         return Survey {
             number: n,
-            maps: Maps {
-                count: 0,
-                at: [0; 3],
-                length: [0; 3],
-            },
+            maps: no_maps(),
         };
     }
     let maps = maps_of(text, m);

@@ -1,18 +1,15 @@
 // The volume of a brain map.
+use maps::survey::Seen;
 use models::volume::Sizes;
 use nodes::Found;
-use nodes::Kid;
 use nodes::attributes::attribute;
-use nodes::children::first_child;
-use nodes::children::next_child;
-use nodes::names::name_is;
 use numbers::Three;
 use numbers::three_lengths;
 ghost use mathlib.Core.Path.{_≡_};
 ghost use Rattle.nodes.specs.Places.{the};
 ghost use Rattle.cifti.specs.Maps.{mapOf, sizesBy};
-ghost use Rattle.models.specs.Brain.{BrainAt};
 ghost use Rattle.models.specs.Sizes.{VolumeAt, sizesAt};
+ghost use Rattle.models.specs.LawsSizes.{VolumeNoted};
 ghost use Rattle.models.specs.Verdicts.{volumeFrom};
 
 // The sizes of the Volume at `at`.
@@ -33,23 +30,13 @@ fn sizes_at(text: &[u8], at: usize) -> Sizes
     }
 }
 
-// The sizes of the map's volume, 0 where it has none.
-pub(crate) fn volume_of(text: &[u8], map: usize) -> Sizes
-    requires { ⌜ BrainAt (now text) map ⌝ }
+// The sizes of the volume of the map at `map`, 0 where it has none.
+pub(crate) fn volume_sizes(text: &[u8], map: usize, volume: Seen) -> Sizes
+    requires { ⌜ VolumeNoted (now text) map volume ⌝ }
     ensures { λ r. ⌜ volumeFrom r ≡ (mapOf (the (now (text .entry)) map)) .volume ⌝ }
 {
-    let mut kid = first_child(text, map);
-    loop {
-        match kid {
-            Kid::Child(k) => {
-                if name_is(text, k, b"Volume") {
-                    return sizes_at(text, k);
-                }
-                kid = next_child(text, k);
-            }
-            Kid::Done => {
-                return Sizes { i: 0, j: 0, k: 0 };
-            }
-        }
+    if volume.found {
+        return sizes_at(text, volume.at);
     }
+    Sizes { i: 0, j: 0, k: 0 }
 }

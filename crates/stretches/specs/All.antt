@@ -1,135 +1,71 @@
 -- ALL STRETCHES, map after map.
 use mathlib.Core.Path.{_≡_, refl, sym, ap, _∙_}
 use mathlib.Core.List.{List, [], _∷_, _++_}
-use mathlib.Core.Bool.{Bool, true, false, cond}
 use Prim.Native.Nat.{ℕ, _+_, _<_, _≤_}
 use native.Mathlib.Omega.{arith}
-use lib.ListN.{length, getD, drop, length-append}
+use lib.ListN.{length, drop, length-append}
 use borrow.Author.Needs.{needs}
-use Rattle.lists.specs.Lists.{any, eachIn, those, total, twoOf}
-use Rattle.lists.specs.Booleans.{or-left, or-right}
+use Rattle.lists.specs.Lists.{eachIn, those, total}
 use Rattle.records.specs.Fill.{wrote, wrote-none, wrote-on, length-wrote}
-use Rattle.cifti.specs.Maps.{Map, brainMaps, isBrain, lengthOf}
-use Rattle.cifti.specs.Conditions.{alike, uneven, beyond, modelsShare, rangesWrong, numbersOutside}
+use Rattle.cifti.specs.Maps.{Map, brainMaps, lengthOf}
 use Rattle.cifti.specs.Answer.{stretches, filledWith}
-use Rattle.maps.specs.Ready.{mapsAt}
-use Rattle.maps.specs.Digits.{from, from-all, from-none, from-one}
-use Rattle.maps.specs.Nine.{InRoom, room-map, room-place}
+use Rattle.maps.specs.Ready.{Ready, mapsAt}
+use Rattle.maps.specs.Over.{Over, over-start, over-done, over-place, over-note, over-here, over-next, noteAt, from}
+use Rattle.maps.specs.declared.survey.MapNote.{MapNote}
 use Rattle.maps.specs.declared.survey.Maps.{Maps}
 use Rattle.table.specs.Ready.{mapAt}
-use Rattle.stretches.specs.One.{stretchOf, stretches-one, stretches-length, Writable, Written}
+use Rattle.stretches.specs.One.{stretchOf, stretches-one, stretches-length, Fine, fine-first, fine-rest, Writable, Written}
 
 -- the maps pass conditions 10, 11 and 12, and their stretches have room
 pub record Fillable (text : List ℕ) (maps : Maps) (room : ℕ) : Type 0 where
-  pub room-in : InRoom text maps
-  pub share : modelsShare (mapsAt text maps) ≡ false
-  pub ranges : rangesWrong (mapsAt text maps) ≡ false
-  pub inside : numbersOutside (mapsAt text maps) ≡ false
+  pub ready : Ready text maps
+  pub fine : Fine (mapsAt text maps)
   pub enough : total lengthOf (brainMaps (mapsAt text maps)) ≤ room
 
--- the stretches of the maps before the i-th are written, up to `next`
-pub record Filling (text : List ℕ) (maps : Maps) (before : List ℕ) (next i : ℕ) (records : List ℕ) : Type 0 where
-  pub room-in : InRoom text maps
-  pub share : modelsShare (from text maps i) ≡ false
-  pub ranges : rangesWrong (from text maps i) ≡ false
-  pub inside : numbersOutside (from text maps i) ≡ false
-  pub enough : next + length (stretches (from text maps i)) ≤ length before
+-- the stretches of the maps that are left, written from `next` on, give what all give
+pub record Fill (all : List Map) (before : List ℕ) (next : ℕ) (records : List ℕ) (l : List Map) : Type 0 where
+  pub fine : Fine l
+  pub enough : next + length (stretches l) ≤ length before
   pub kept : length records ≡ length before
-  pub same : wrote next (stretches (from text maps i)) records ≡ wrote 0 (stretches (mapsAt text maps)) before
-
--- ---- Conditions 10, 11 and 12, by the first map and the others.
-
-module _ (m : Map) (l : List Map) where
-  share-one : modelsShare (m ∷ l) ≡ false → twoOf alike (m .models) ≡ false
-  unfolding modelsShare any
-  share-one h = or-left _ _ h
-
-  share-rest : modelsShare (m ∷ l) ≡ false → modelsShare l ≡ false
-  unfolding modelsShare any
-  share-rest h = or-right (twoOf alike (m .models)) _ h
-
-  inside-one : numbersOutside (m ∷ l) ≡ false → any (λ b. beyond (m .volume) (b .listed)) (m .models) ≡ false
-  unfolding numbersOutside any
-  inside-one h = or-left _ _ h
-
-  inside-rest : numbersOutside (m ∷ l) ≡ false → numbersOutside l ≡ false
-  unfolding numbersOutside any
-  inside-rest h = or-right (any (λ b. beyond (m .volume) (b .listed)) (m .models)) _ h
-
-  ranges-one : rangesWrong (m ∷ l) ≡ false → isBrain (m .kind) ≡ true → uneven m ≡ false
-  unfolding rangesWrong brainMaps those any
-  ranges-one h t = or-left (uneven m) _ (rw t at h)
-
-  ranges-rest : rangesWrong (m ∷ l) ≡ false → rangesWrong l ≡ false
-  unfolding rangesWrong brainMaps those any
-  ranges-rest h = go (isBrain (m .kind)) h
-    where
-      go : (b : Bool) → any uneven (cond b (m ∷ brainMaps l) (brainMaps l)) ≡ false → any uneven (brainMaps l) ≡ false
-      go true k = or-right (uneven m) _ k
-      go false k = k
-
--- ---- Map after map.
+  pub same : wrote next (stretches l) records ≡ wrote 0 (stretches all) before
 
 module _ {text : List ℕ} {maps : Maps} where
-  pub filling-start : (records : List ℕ) → Fillable text maps (length records) → Filling text maps records 0 0 records
-  filling-start records f = record {
-    room-in = f .room-in;
-    share = rw (from-all text maps) (f .share);
-    ranges = rw (from-all text maps) (f .ranges);
-    inside = rw (from-all text maps) (f .inside);
-    enough = omega (arith, f .enough, stretches-length (mapsAt text maps), ap (λ l. length (stretches l)) (from-all text maps));
+  pub fill-start : (records : List ℕ) → Fillable text maps (length records) → Over text maps (Fill (mapsAt text maps) records 0 records) 0
+  fill-start records f = over-start (f .ready) (record {
+    fine = f .fine;
+    enough = omega (arith, f .enough, stretches-length (mapsAt text maps));
     kept = refl;
-    same = ap (λ l. wrote 0 (stretches l) records) (from-all text maps);
-  }
+    same = refl;
+  })
 
-  module _ {before : List ℕ} {next i : ℕ} {records : List ℕ} (go : Filling text maps before next i records) where
-    pub filling-kept : length records ≡ length before
-    filling-kept = go .kept
+  module _ {before : List ℕ} {next i : ℕ} {records : List ℕ} (go : Over text maps (Fill (mapsAt text maps) before next records) i) where
+    pub fill-kept : length records ≡ length before
+    fill-kept = go .left .kept
 
-    pub filling-done : maps .count ≤ i → records ≡ filledWith (stretches (mapsAt text maps)) before
+    pub fill-done : maps .count ≤ i → records ≡ filledWith (stretches (mapsAt text maps)) before
     unfolding filledWith stretches brainMaps those eachIn
-    filling-done h =
-        let none : stretches (from text maps i) ≡ [] = ap stretches (from-none (go .room-in .ready) i h) in
+    fill-done h =
         let zero-on : 0 + length (stretches (mapsAt text maps)) ≡ length (stretches (mapsAt text maps)) = omega arith in
-        sym (wrote-none next records)
-        ∙ ap (λ s. wrote next s records) (sym none)
-        ∙ go .same
-        ∙ ap (λ n. stretches (mapsAt text maps) ++ drop n before) zero-on
+        sym (wrote-none next records) ∙ over-done go h .same ∙ ap (λ n. stretches (mapsAt text maps) ++ drop n before) zero-on
 
-    module _ (u : i < maps .count) where
-      pub filling-place : i < length (maps .at)
-      filling-place = room-place (go .room-in) u
+    module _ (u : i < maps .count) {n : MapNote} (e : n ≡ noteAt maps i) where
+      length-split : (l : List Map) → length (stretches (mapAt text (n .at) ∷ l)) ≡ length (stretchOf (mapAt text (n .at))) + length (stretches l)
+      length-split l = ap length (stretches-one (mapAt text (n .at)) l) ∙ length-append (stretchOf (mapAt text (n .at))) (stretches l)
 
-      splits : from text maps i ≡ mapAt text (getD (maps .at) i 0) ∷ from text maps (i + 1)
-      splits = from-one (go .room-in .ready) i u
+      pub fill-one : Writable text n (length records) next
+      fill-one =
+          let h = over-here go u e in
+          record { noted = over-note go u e; fine = fine-first (h .fine); enough = omega (arith, h .enough, length-split (from text maps (i + 1)), h .kept) }
 
-      stretches-split : stretches (from text maps i) ≡ stretchOf (mapAt text (getD (maps .at) i 0)) ++ stretches (from text maps (i + 1))
-      stretches-split = ap stretches splits ∙ stretches-one (mapAt text (getD (maps .at) i 0)) (from text maps (i + 1))
+      pub fill-more : {next₁ : ℕ} {after : List ℕ} → Written text (n .at) records next next₁ after → Over text maps (Fill (mapsAt text maps) before next₁ after) (i + 1)
+      fill-more {next₁} {after} w = over-next go u e (λ l h. record {
+        fine = fine-rest (h .fine);
+        enough = omega (arith, h .enough, length-split l, w .ends);
+        kept = ap length (w .written) ∙ length-wrote next (stretchOf (mapAt text (n .at))) records (omega (arith, h .enough, length-split l, h .kept)) ∙ h .kept;
+        same = ap (λ s. wrote next₁ (stretches l) s) (w .written)
+            ∙ wrote-on next next₁ (stretchOf (mapAt text (n .at))) (stretches l) records (w .ends) (omega (arith, h .enough, length-split l, h .kept, w .ends))
+            ∙ ap (λ s. wrote next s records) (sym (stretches-one (mapAt text (n .at)) l))
+            ∙ h .same;
+      })
 
-      length-split : length (stretches (from text maps i)) ≡ length (stretchOf (mapAt text (getD (maps .at) i 0))) + length (stretches (from text maps (i + 1)))
-      length-split = ap length stretches-split ∙ length-append (stretchOf (mapAt text (getD (maps .at) i 0))) (stretches (from text maps (i + 1)))
-
-      pub filling-one : Writable text (getD (maps .at) i 0) (length records) next
-      filling-one = record {
-        at = room-map (go .room-in) u .map;
-        apart = share-one _ _ (sym (ap modelsShare splits) ∙ go .share);
-        even = ranges-one _ _ (sym (ap rangesWrong splits) ∙ go .ranges);
-        in-volume = inside-one _ _ (sym (ap numbersOutside splits) ∙ go .inside);
-        enough = omega (arith, go .enough, length-split, go .kept);
-      }
-
-      pub filling-more : {next₁ : ℕ} {after : List ℕ} → Written text (getD (maps .at) i 0) records next next₁ after → Filling text maps before next₁ (i + 1) after
-      filling-more {next₁} {after} w = record {
-        room-in = go .room-in;
-        share = share-rest (mapAt text (getD (maps .at) i 0)) _ (sym (ap modelsShare splits) ∙ go .share);
-        ranges = ranges-rest (mapAt text (getD (maps .at) i 0)) _ (sym (ap rangesWrong splits) ∙ go .ranges);
-        inside = inside-rest (mapAt text (getD (maps .at) i 0)) _ (sym (ap numbersOutside splits) ∙ go .inside);
-        enough = omega (arith, go .enough, length-split, w .ends);
-        kept = ap length (w .written) ∙ length-wrote next (stretchOf (mapAt text (getD (maps .at) i 0))) records (omega (arith, go .enough, length-split, go .kept)) ∙ go .kept;
-        same = ap (λ s. wrote next₁ (stretches (from text maps (i + 1))) s) (w .written)
-            ∙ wrote-on next next₁ (stretchOf (mapAt text (getD (maps .at) i 0))) (stretches (from text maps (i + 1))) records (w .ends) (omega (arith, go .enough, length-split, go .kept, w .ends))
-            ∙ ap (λ s. wrote next s records) (sym stretches-split)
-            ∙ go .same;
-      }
-
-pub ruleset filling = (filling-start, filling-kept, filling-done, filling-place, filling-one, filling-more, needs)
+pub ruleset filling = (fill-start, fill-kept, fill-done, over-place, fill-one, fill-more, needs)

@@ -1,4 +1,4 @@
-use Rattle.maps.specs.Nine.{length-there}
+use Rattle.maps.specs.LengthsAgree.{length-there}
 use Rattle.reader.proofs.agree.length_at.Statement.{statement}
 use Rattle.reader.proofs.agree.length_at.Tie as tie
 

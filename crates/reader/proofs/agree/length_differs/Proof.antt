@@ -1,13 +1,13 @@
-use Rattle.maps.specs.Nine.{comparing, Comparing}
+use Rattle.maps.specs.LengthsAgree.{comparing, Comparing}
 use Prim.Native.Nat.{_-_}
 use Rattle.reader.proofs.agree.length_differs.Statement.{statement}
 use Rattle.reader.proofs.agree.length_differs.Tie as tie
 
 abbrev Inv-loop : tie.InvT-loop
-Inv-loop text at size lengths d₀ d = Comparing text at size lengths d
+Inv-loop text note lengths d₀ d = Comparing text note lengths d
 
 abbrev μ-loop : tie.MeasureT-loop
-μ-loop text at size lengths d₀ d = 10 - d
+μ-loop text note lengths d₀ d = 10 - d
 
 pub length-differs-spec : {M : Type 1} → statement M
 length-differs-spec =

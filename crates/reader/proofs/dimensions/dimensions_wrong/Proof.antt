@@ -1,4 +1,4 @@
-use Rattle.maps.specs.Eight.{eight, eight-more, Judging}
+use Rattle.maps.specs.ListedOnce.{listed-once, once-more, Judging}
 use Prim.Native.Nat.{_-_}
 use Rattle.reader.proofs.dimensions.dimensions_wrong.Statement.{statement}
 use Rattle.reader.proofs.dimensions.dimensions_wrong.Tie as tie
@@ -15,12 +15,12 @@ dimensions-wrong-spec =
     (tie.spec
     Inv-loop
     μ-loop
-    (λ c. search eight)
-    (λ c. search eight)
-    (λ c κs. search eight)
-    (λ c κs. search eight)
-    (λ c. search eight)
-    (λ c. search eight)
-    (λ c. search eight)
-    (λ c. eight-more (c .before .before .before .before .loop .inv) (c .before .before .listed .ensures) (c .before .times-wanted .ensures) (c .if2 .left))
-    (λ c. search eight))
+    (λ c. search listed-once)
+    (λ c. search listed-once)
+    (λ c κs. search listed-once)
+    (λ c κs. search listed-once)
+    (λ c. search listed-once)
+    (λ c. search listed-once)
+    (λ c. search listed-once)
+    (λ c. once-more (c .before .before .before .before .loop .inv) (c .before .before .listed .ensures) (c .before .times-wanted .ensures) (c .if2 .left))
+    (λ c. search listed-once))

@@ -1,4 +1,4 @@
-use Rattle.maps.specs.Eight.{wanting}
+use Rattle.maps.specs.ListedOnce.{wanting}
 use Rattle.reader.proofs.dimensions.times_wanted.Statement.{statement}
 use Rattle.reader.proofs.dimensions.times_wanted.Tie as tie
 

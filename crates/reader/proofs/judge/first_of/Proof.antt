@@ -3,4 +3,10 @@ use Rattle.reader.proofs.judge.first_of.Statement.{statement}
 use Rattle.reader.proofs.judge.first_of.Tie as tie
 
 pub first-of-spec : {M : Type 1} → statement M
-first-of-spec = tie.close (tie.spec (λ c. search choosing) (λ c. search choosing) (λ c. search choosing) (λ c. search choosing))
+first-of-spec =
+    tie.close
+    (tie.spec
+    (λ c. search choosing)
+    (λ c. search choosing)
+    (λ c. search choosing)
+    (λ c. search choosing))

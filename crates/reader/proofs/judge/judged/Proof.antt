@@ -1,13 +1,15 @@
-use Rattle.reader.specs.Judging.{descending, Descending}
+use Rattle.reader.specs.Judging.{judging, Judge}
 use Prim.Native.Nat.{_-_}
+use Rattle.maps.specs.Ready.{mapsAt}
+use Rattle.maps.specs.Over.{Over}
 use Rattle.reader.proofs.judge.judged.Statement.{statement}
 use Rattle.reader.proofs.judge.judged.Tie as tie
 
 abbrev Inv-loop : tie.InvT-loop
-Inv-loop text maps at found₀ done₀ found done = Descending text maps found done
+Inv-loop text maps found₀ i₀ found i = Over text maps (Judge (mapsAt text maps) found) i
 
 abbrev μ-loop : tie.MeasureT-loop
-μ-loop text maps at found₀ done₀ found done = maps .count - done
+μ-loop text maps found₀ i₀ found i = maps .count - i
 
 pub judged-spec : {M : Type 1} → statement M
 judged-spec =
@@ -15,14 +17,11 @@ judged-spec =
     (tie.spec
     Inv-loop
     μ-loop
-    (λ c. search descending)
-    (λ c. search descending)
-    (λ c. search descending)
-    (λ c. search descending)
-    (λ c. search descending)
-    (λ c κs. search descending)
-    (λ c κs. search descending)
-    (λ c. search descending)
-    (λ c. search descending)
-    (λ c. search descending)
-    (λ c. search descending))
+    (λ c. search judging)
+    (λ c κs. search judging)
+    (λ c κs. search judging)
+    (λ c κs. search judging)
+    (λ c. search judging)
+    (λ c. search judging)
+    (λ c. search judging)
+    (λ c. search judging))

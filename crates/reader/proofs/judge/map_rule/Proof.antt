@@ -6,8 +6,6 @@ pub map-rule-spec : {M : Type 1} → statement M
 map-rule-spec =
     tie.close
     (tie.spec
-    (λ c. search ruling)
-    (λ c. search ruling)
     (λ c κs. search ruling)
     (λ c κs. search ruling)
     (λ c. search ruling)

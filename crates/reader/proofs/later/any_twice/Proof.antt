@@ -1,13 +1,15 @@
-use Rattle.reader.specs.Later.{looking, Looking}
+use Rattle.reader.specs.Later.{looking, Look}
 use Prim.Native.Nat.{_-_}
+use Rattle.maps.specs.Ready.{mapsAt}
+use Rattle.maps.specs.Over.{Over}
 use Rattle.reader.proofs.later.any_twice.Statement.{statement}
 use Rattle.reader.proofs.later.any_twice.Tie as tie
 
 abbrev Inv-loop : tie.InvT-loop
-Inv-loop text maps work₀ at i₀ work i = Looking text maps work₀ i work
+Inv-loop text maps work₀ i₀ work i = Over text maps (Look (mapsAt text maps) work₀ work) i
 
 abbrev μ-loop : tie.MeasureT-loop
-μ-loop text maps work₀ at i₀ work i = maps .count - i
+μ-loop text maps work₀ i₀ work i = maps .count - i
 
 pub any-twice-spec : {M : Type 1} → statement M
 any-twice-spec =
@@ -16,8 +18,7 @@ any-twice-spec =
     Inv-loop
     μ-loop
     (λ c. search looking)
-    (λ c. search looking)
-    (λ c. search looking)
+    (λ c κs. search looking)
     (λ c κs. search looking)
     (λ c. search looking)
     (λ c. search looking)

@@ -6,8 +6,6 @@ pub map-twice-spec : {M : Type 1} → statement M
 map-twice-spec =
     tie.close
     (tie.spec
-    (λ c. search telling)
-    (λ c. search telling)
     (λ c κs. search telling)
     (λ c κs. search telling)
     (λ c. search telling)

@@ -1,13 +1,13 @@
+use Rattle.maps.specs.Sums.{summing, Summing}
 use Rattle.nodes.specs.Facing.{left-ahead}
-use Rattle.maps.specs.Sums.{Summing, summing}
 use Rattle.reader.proofs.lengths.children_sum.Statement.{statement}
 use Rattle.reader.proofs.lengths.children_sum.Tie as tie
 
 abbrev Inv-loop : tie.InvT-loop
-Inv-loop text at brain n₀ next₀ n next = Summing text at brain n next
+Inv-loop text at brain n₀ seen₀ next₀ n seen next = Summing text at brain n seen next
 
 abbrev μ-loop : tie.MeasureT-loop
-μ-loop text at brain n₀ next₀ n next = left-ahead text next
+μ-loop text at brain n₀ seen₀ next₀ n seen next = left-ahead text next
 
 pub children-sum-spec : {M : Type 1} → statement M
 children-sum-spec =
@@ -20,6 +20,7 @@ children-sum-spec =
     (λ c. search summing)
     (λ c κs. search summing)
     (λ c. search summing)
+    (λ c κs. search summing)
     (λ c κs. search summing)
     (λ c. search summing)
     (λ c. search summing)

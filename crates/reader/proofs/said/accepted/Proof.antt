@@ -9,5 +9,4 @@ accepted-spec =
     (λ c κs. search answering)
     (λ c κs. search answering)
     (λ c κs. search answering)
-    (λ c κs. search answering)
     (λ c. search answering))

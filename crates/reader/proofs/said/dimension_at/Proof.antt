@@ -1,13 +1,13 @@
-use Rattle.describe.specs.Said.{picking, Picking, picking-more}
+use Rattle.describe.specs.Said.{picking, Picking}
 use Prim.Native.Nat.{_-_}
 use Rattle.reader.proofs.said.dimension_at.Statement.{statement}
 use Rattle.reader.proofs.said.dimension_at.Tie as tie
 
 abbrev Inv-loop : tie.InvT-loop
-Inv-loop text maps d all at i₀ i = Picking text maps all d i
+Inv-loop text maps d start₀ i₀ start i = Picking text maps d start i
 
 abbrev μ-loop : tie.MeasureT-loop
-μ-loop text maps d all at i₀ i = maps .count - i
+μ-loop text maps d start₀ i₀ start i = maps .count - i
 
 pub dimension-at-spec : {M : Type 1} → statement M
 dimension-at-spec =
@@ -16,14 +16,15 @@ dimension-at-spec =
     Inv-loop
     μ-loop
     (λ c. search picking)
+    (λ c κs. search picking)
     (λ c. search picking)
+    (λ c. search picking)
+    (λ c κs. search picking)
     (λ c. search picking)
     (λ c κs. search picking)
     (λ c. search picking)
     (λ c. search picking)
     (λ c. search picking)
     (λ c. search picking)
-    (λ c. search picking)
-    (λ c. picking-more (c .before .before .before .before .loop .inv) (c .before .before .if1 .taken) (c .before .lists-digit .ensures) (c .if2 .left))
     (λ c κs. search picking)
     (λ c. search picking))

@@ -1,4 +1,3 @@
--- `stretches::fill::fill_one` meets its contract. Assumes nothing.
 use Rattle.stretches.specs.One.{writing}
 use Rattle.reader.proofs.stretching.fill_one.Statement.{statement}
 use Rattle.reader.proofs.stretching.fill_one.Tie as tie
@@ -7,8 +6,6 @@ pub fill-one-spec : {M : Type 1} → statement M
 fill-one-spec =
     tie.close
     (tie.spec
-    (λ c. search writing)
-    (λ c. search writing)
     (λ c κs. search writing)
     (λ c κs. search writing)
     (λ c. search writing)

@@ -1,5 +1,5 @@
+use Rattle.maps.specs.Survey.{surveying, Surveying}
 use Rattle.nodes.specs.Children.{left}
-use Rattle.maps.specs.Survey.{Surveying, surveying}
 use Rattle.reader.proofs.survey.maps_of.Statement.{statement}
 use Rattle.reader.proofs.survey.maps_of.Tie as tie
 
@@ -15,6 +15,7 @@ maps-of-spec =
     (tie.spec
     Inv-loop
     μ-loop
+    (λ c κs. search surveying)
     (λ c κs. search surveying)
     (λ c. search surveying)
     (λ c. search surveying)

@@ -10,6 +10,4 @@ noted-spec =
     (λ c. search noting)
     (λ c. search noting)
     (λ c. search noting)
-    (λ c. search noting)
-    (λ c. search noting)
     (λ c. search noting))

@@ -7,6 +7,7 @@ surveyed-spec =
     tie.close
     (tie.spec
     (λ c κs. search surveyed)
+    (λ c κs. search surveyed)
     (λ c. search surveyed)
     (λ c κs. search surveyed)
     (λ c κs. search surveyed)

@@ -1,13 +1,15 @@
-use Rattle.maps.specs.Digits.{tallying, Tallying}
+use Rattle.maps.specs.ListedOnce.{tallying, Tally}
 use Prim.Native.Nat.{_-_, _<_}
-use Rattle.reader.proofs.dims.listed.Statement.{statement}
-use Rattle.reader.proofs.dims.listed.Tie as tie
+use Rattle.maps.specs.Ready.{mapsAt}
+use Rattle.maps.specs.Over.{Over}
+use Rattle.reader.proofs.dimensions.listed.Statement.{statement}
+use Rattle.reader.proofs.dimensions.listed.Tie as tie
 
 abbrev Inv-loop : tie.InvT-loop
-Inv-loop text maps d at n₀ i₀ n i = Tallying text maps d n i × (d < 10)
+Inv-loop text maps d n₀ i₀ n i = Over text maps (Tally (mapsAt text maps) d n) i × (d < 10)
 
 abbrev μ-loop : tie.MeasureT-loop
-μ-loop text maps d at n₀ i₀ n i = maps .count - i
+μ-loop text maps d n₀ i₀ n i = maps .count - i
 
 pub listed-spec : {M : Type 1} → statement M
 listed-spec =
@@ -16,9 +18,9 @@ listed-spec =
     Inv-loop
     μ-loop
     (λ c. search tallying)
-    (λ c. search tallying)
-    (λ c. search tallying)
     (λ c κs. search tallying)
+    (λ c. search tallying)
+    (λ c. search tallying)
     (λ c. search tallying)
     (λ c κs. search tallying)
     (λ c. search tallying)

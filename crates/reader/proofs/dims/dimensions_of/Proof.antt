@@ -1,17 +1,15 @@
 use Rattle.maps.specs.Digits.{digits-of-map}
-use Rattle.reader.proofs.dims.lists_digit.Statement.{statement}
-use Rattle.reader.proofs.dims.lists_digit.Tie as tie
+use Rattle.reader.proofs.dims.dimensions_of.Statement.{statement}
+use Rattle.reader.proofs.dims.dimensions_of.Tie as tie
 
-pub lists-digit-spec : {M : Type 1} → statement M
-lists-digit-spec =
+pub dimensions-of-spec : {M : Type 1} → statement M
+dimensions-of-spec =
     tie.close
     (tie.spec
     (λ c. search digits-of-map)
     (λ c κs. search digits-of-map)
     (λ c. search digits-of-map)
     (λ c κs. search digits-of-map)
-    (λ c. search digits-of-map)
-    (λ c. search digits-of-map)
     (λ c. search digits-of-map)
     (λ c. search digits-of-map)
     (λ c. search digits-of-map))
