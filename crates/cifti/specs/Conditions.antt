@@ -112,8 +112,8 @@ unfoldable pub ofMaps : (List Map → Bool) → Option Element → Bool
 ofMaps p d = there (λ e. p (mapsOf e)) d
 
 -- 1 to 9, which the map name checks too
-unfoldable pub conditionsTo9 : (lengths : List ℕ) (size : ℕ) → Option Element → List Refusal
-conditionsTo9 lengths size d =
+unfoldable pub conditionsOfHeader : (lengths : List ℕ) (size : ℕ) → Option Element → List Refusal
+conditionsOfHeader lengths size d =
     1 when lengthsWrong lengths
     ∷ 2 when textTooLong size
     ∷ 3 when noDocument d
@@ -125,8 +125,8 @@ conditionsTo9 lengths size d =
     ∷ 9 when ofMaps (lengthWrong lengths) d
     ∷ []
 
-unfoldable pub conditionsFrom10 : (room work : ℕ) → Option Element → List Refusal
-conditionsFrom10 room work d =
+unfoldable pub conditionsOfTable : (room work : ℕ) → Option Element → List Refusal
+conditionsOfTable room work d =
     10 when ofMaps modelsShare d
     ∷ 11 when ofMaps rangesWrong d
     ∷ 12 when ofMaps numbersOutside d
@@ -135,12 +135,12 @@ conditionsFrom10 room work d =
     ∷ []
 
 unfoldable pub conditions : (lengths : List ℕ) (size room work : ℕ) → Option Element → List Refusal
-conditions lengths size room work d = conditionsTo9 lengths size d ++ conditionsFrom10 room work d
+conditions lengths size room work d = conditionsOfHeader lengths size d ++ conditionsOfTable room work d
 
 -- The number is that of the first row that applies; 0 where none does.
 unfoldable pub refusal : (lengths : List ℕ) (size room work : ℕ) → Option Element → ℕ
 refusal lengths size room work d = first (conditions lengths size room work d)
 
 unfoldable pub conditionWords : Unit {0}
-unfolding lengthsWrong textTooLong noDocument rootWrong kindNotRead shapeWrong numberWrong listedDimensions dimensionsWrong lengthWrong sameType alike modelsShare listsCount uneven rangesWrong outside beyond numbersOutside roomShort repeats locationTwice ofMaps conditionsTo9 conditionsFrom10 conditions first refusal
+unfolding lengthsWrong textTooLong noDocument rootWrong kindNotRead shapeWrong numberWrong listedDimensions dimensionsWrong lengthWrong sameType alike modelsShare listsCount uneven rangesWrong outside beyond numbersOutside roomShort repeats locationTwice ofMaps conditionsOfHeader conditionsOfTable conditions first refusal
 conditionWords = tt

@@ -15,7 +15,7 @@ use Rattle.grammar.specs.Document.{Element}
 use Rattle.grammar.specs.Grammar.{Writes}
 use Rattle.records.specs.Record.{onSurface, recordOf}
 use Rattle.cifti.specs.Maps.{Model, Map, mapsOf, brainMaps, lengthOf, isBrain, covers, locations}
-use Rattle.cifti.specs.Conditions.{ofMaps, rangesWrong, uneven, conditions, conditionsTo9, conditionsFrom10, refusal}
+use Rattle.cifti.specs.Conditions.{ofMaps, rangesWrong, uneven, conditions, conditionsOfHeader, conditionsOfTable, refusal}
 use Rattle.cifti.specs.Answer.{stretch, stretches, filledWith, reach, described, dimensionAt, mapsIn, acceptedWith, answerBy, recordsBy, answerTo, recordsAfter, unused, recordAt, Reads}
 use Rattle.cifti.specs.Smallest.{refusal-none}
 use Rattle.cifti.specs.TextLaws.{answers-of}
@@ -28,7 +28,7 @@ use Rattle.cifti.specs.declared.answer.Answer.{Answer}
 
 -- the eleventh row
 ranges-right : (lengths : List ℕ) (size room work : ℕ) (e : Element) → refusal lengths size room work (some e) ≡ 0 → rangesWrong (mapsOf e) ≡ false
-unfolding conditions conditionsTo9 conditionsFrom10 ofMaps there
+unfolding conditions conditionsOfHeader conditionsOfTable ofMaps there
 ranges-right lengths size room work e h = row-fails (rows-past 10 (refusal-none lengths size room work (some e) h))
 
 even-in : (k : List Map) (m : Map) (l : List Map) → isBrain (m .kind) ≡ true → any uneven (brainMaps (k ++ (m ∷ l))) ≡ false → uneven m ≡ false

@@ -11,7 +11,7 @@ use Rattle.lists.specs.Lists.{any, those, each, eachIn}
 use Rattle.grammar.specs.Document.{Element}
 use Rattle.grammar.specs.Look.{Word, withinOf, children}
 use Rattle.cifti.specs.Maps.{Map, isScalars, dimensionsOf, mapElements}
-use Rattle.cifti.specs.Conditions.{_when_, conditionsTo9, ofMaps, first}
+use Rattle.cifti.specs.Conditions.{_when_, conditionsOfHeader, ofMaps, first}
 use Rattle.cifti.specs.Text.{Answers}
 
 -- 18: no such dimension, it is not scalars, or the index is not below its length
@@ -22,7 +22,7 @@ unfoldable pub noName : (dimension index : ℕ) → List Map → Bool
 noName d i l = not (any (λ m. any (eqb d) (m .dimensions) && holdsName i m) l)
 
 unfoldable pub nameRefusal : (lengths : List ℕ) (size dimension index : ℕ) → Option Element → ℕ
-nameRefusal lengths size d i e = first (conditionsTo9 lengths size e ++ (18 when ofMaps (noName d i) e ∷ []))
+nameRefusal lengths size d i e = first (conditionsOfHeader lengths size e ++ (18 when ofMaps (noName d i) e ∷ []))
 
 -- the names of the map that the dimension has, in order, each as it is written (`<MapName/>`: empty)
 unfoldable pub namesOn : (dimension : ℕ) → Element → List Word

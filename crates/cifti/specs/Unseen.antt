@@ -18,7 +18,7 @@ use Rattle.schema.specs.Schema.{shaped, numbered}
 use Rattle.schema.specs.Erased.{walk-erased, shaped-erased, numbered-erased}
 use Rattle.cifti.specs.Rows.{cifti, rows}
 use Rattle.cifti.specs.Maps.{Map, listedBy, modelOf, sizesBy, sizesOf, seriesOf, kindOfMap, dimensionsOf, mapOf, mapElements, mapsOf}
-use Rattle.cifti.specs.Conditions.{_when_, textTooLong, noDocument, rootWrong, kindNotRead, shapeWrong, numberWrong, ofMaps, conditionsTo9, conditionsFrom10, conditions, first, refusal}
+use Rattle.cifti.specs.Conditions.{_when_, textTooLong, noDocument, rootWrong, kindNotRead, shapeWrong, numberWrong, ofMaps, conditionsOfHeader, conditionsOfTable, conditions, first, refusal}
 use Rattle.cifti.specs.Names.{noName, nameRefusal}
 use Rattle.cifti.specs.Answer.{answerBy, recordsBy, mapsIn, answerTo, recordsAfter}
 use Rattle.cifti.specs.TextLaws.{Unseeing}
@@ -102,28 +102,28 @@ small : (n : ℕ) → n ≤ 16777216 → textTooLong n ≡ false
 unfolding textTooLong
 small n h = le-ltb 16777216 n h
 
-to9-erased : (lengths : List ℕ) (size : ℕ) (e : Element) → conditionsTo9 lengths size (some (plain e)) ≡ conditionsTo9 lengths size (some e)
-unfolding conditionsTo9 noDocument ofMaps there isSome
-to9-erased lengths size e = rw (root-erased e, kinds-erased e, shape-erased e, number-erased e, maps-erased e) refl
+header-erased : (lengths : List ℕ) (size : ℕ) (e : Element) → conditionsOfHeader lengths size (some (plain e)) ≡ conditionsOfHeader lengths size (some e)
+unfolding conditionsOfHeader noDocument ofMaps there isSome
+header-erased lengths size e = rw (root-erased e, kinds-erased e, shape-erased e, number-erased e, maps-erased e) refl
 
-to9-size : (lengths : List ℕ) (m n : ℕ) (d : Option Element) → m ≤ 16777216 → n ≤ 16777216 → conditionsTo9 lengths m d ≡ conditionsTo9 lengths n d
-unfolding conditionsTo9
-to9-size lengths m n d h k = rw (small m h, small n k) refl
+header-size : (lengths : List ℕ) (m n : ℕ) (d : Option Element) → m ≤ 16777216 → n ≤ 16777216 → conditionsOfHeader lengths m d ≡ conditionsOfHeader lengths n d
+unfolding conditionsOfHeader
+header-size lengths m n d h k = rw (small m h, small n k) refl
 
-from10-erased : (room work : ℕ) (e : Element) → conditionsFrom10 room work (some (plain e)) ≡ conditionsFrom10 room work (some e)
-unfolding conditionsFrom10 ofMaps there
-from10-erased room work e = rw (maps-erased e) refl
+table-erased : (room work : ℕ) (e : Element) → conditionsOfTable room work (some (plain e)) ≡ conditionsOfTable room work (some e)
+unfolding conditionsOfTable ofMaps there
+table-erased room work e = rw (maps-erased e) refl
 
 -- ---- The terms that the promises are made of.
 
 module _ (lengths : List ℕ) (room work : ℕ) where
   refusal-bytes : (n : ℕ) (e : Element) → refusal lengths n room work (some (plain e)) ≡ refusal lengths n room work (some e)
   unfolding refusal conditions
-  refusal-bytes n e = ap₂ (λ a b. first (a ++ b)) (to9-erased lengths n e) (from10-erased room work e)
+  refusal-bytes n e = ap₂ (λ a b. first (a ++ b)) (header-erased lengths n e) (table-erased room work e)
 
   refusal-size : (m n : ℕ) → m ≤ 16777216 → n ≤ 16777216 → (d : Option Element) → refusal lengths m room work d ≡ refusal lengths n room work d
   unfolding refusal conditions
-  refusal-size m n h k d = ap (λ a. first (a ++ conditionsFrom10 room work d)) (to9-size lengths m n d h k)
+  refusal-size m n h k d = ap (λ a. first (a ++ conditionsOfTable room work d)) (header-size lengths m n d h k)
 
 answer-bytes : (number : ℕ) (e : Element) → answerBy number (some (plain e)) ≡ answerBy number (some e)
 unfolding answerBy mapsIn
@@ -153,6 +153,6 @@ records-unseeing lengths records work = record {
 pub name-unseeing : (lengths : List ℕ) (d i : ℕ) → Unseeing (λ size. nameRefusal lengths size d i)
 unfolding nameRefusal ofMaps there
 name-unseeing lengths d i = record {
-  bytes = λ n e. ap₂ (λ a l. first (a ++ (18 when noName d i l ∷ []))) (to9-erased lengths n e) (maps-erased e);
-  size = λ m n h k e. ap (λ a. first (a ++ (18 when noName d i (mapsOf e) ∷ []))) (to9-size lengths m n (some e) h k);
+  bytes = λ n e. ap₂ (λ a l. first (a ++ (18 when noName d i l ∷ []))) (header-erased lengths n e) (maps-erased e);
+  size = λ m n h k e. ap (λ a. first (a ++ (18 when noName d i (mapsOf e) ∷ []))) (header-size lengths m n (some e) h k);
 }

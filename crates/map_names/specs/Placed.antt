@@ -23,7 +23,7 @@ use Rattle.nodes.specs.Places.{the}
 use Rattle.nodes.specs.Inside.{within, within-law}
 use Rattle.nodes.specs.declared.Found.{Found}
 use Rattle.nodes.specs.declared.Found.the-variants.{At, Nothing}
-use Rattle.cifti.specs.Conditions.{conditionsTo9, ofMaps, shapeWrong, numberWrong, noDocument, dimensionsWrong}
+use Rattle.cifti.specs.Conditions.{conditionsOfHeader, ofMaps, shapeWrong, numberWrong, noDocument, dimensionsWrong}
 use Rattle.cifti.specs.Maps.{mapsOf}
 use Rattle.cifti.specs.Names.{noName, nameRefusal, namesOn, partBy, namePart, NameNumber, NamePart}
 use Rattle.cifti.specs.Rows.{cifti}
@@ -55,8 +55,8 @@ record Fine (lengths : List ℕ) (o : Option Element) : Type 0 where
   good : Good cifti document
   once : dimensionsWrong lengths (mapsOf document) ≡ false
 
-fine : (lengths : List ℕ) (size : ℕ) (o : Option Element) → NoneApplies (conditionsTo9 lengths size o) → Fine lengths o
-unfolding conditionsTo9 noDocument isSome there shapeWrong numberWrong ofMaps
+fine : (lengths : List ℕ) (size : ℕ) (o : Option Element) → NoneApplies (conditionsOfHeader lengths size o) → Fine lengths o
+unfolding conditionsOfHeader noDocument isSome there shapeWrong numberWrong ofMaps
 fine lengths size Option.none h = both-ways refl (row-fails (rows-behind (rows-behind h)))
 fine lengths size (some e) h =
     let six = rows-behind (rows-behind (rows-behind (rows-behind (rows-behind h)))) in
@@ -121,13 +121,13 @@ module _ (text lengths : List ℕ) (d i : ℕ) where
       }
 
   -- 18, behind the conditions before it
-  eighteen : {e : Element} {b : Bool} → NoneApplies (conditionsTo9 lengths (length text) (parse text)) → parse text ≡ some e
+  eighteen : {e : Element} {b : Bool} → NoneApplies (conditionsOfHeader lengths (length text) (parse text)) → parse text ≡ some e
       → noName d i (mapsOf e) ≡ b
       → nameRefusal lengths (length text) d i (parse text) ≡ first (18 when b ∷ [])
   unfolding nameRefusal ofMaps there
   eighteen h p q = first-none h (18 when ofMaps (noName d i) (parse text) ∷ []) ∙ rw (p, q)
 
-  by-way : {e : Element} {r : NamePlace} → NoneApplies (conditionsTo9 lengths (length text) (parse text)) → parse text ≡ some e
+  by-way : {e : Element} {r : NamePlace} → NoneApplies (conditionsOfHeader lengths (length text) (parse text)) → parse text ≡ some e
       → Answered text 0 d i r
       → {f : Found} {o : Option Element} → wayAt (nameWay d i) text ≡ f → Agrees text f o → NameOf d i e o → NamePlaced text lengths d i r
   unfolding first
@@ -136,7 +136,7 @@ module _ (text lengths : List ℕ) (d i : ℕ) where
   by-way h p a w (stands-there {k} st) (a-name q x) =
       placed-so p (eighteen h p q) w (x ∙ sym (within-law st)) (a .found refl k (name-way text d i p ∙ w))
 
-  accepted-so : {r : NamePlace} → NoneApplies (conditionsTo9 lengths (length text) (parse text)) → Answered text 0 d i r
+  accepted-so : {r : NamePlace} → NoneApplies (conditionsOfHeader lengths (length text) (parse text)) → Answered text 0 d i r
       → NamePlaced text lengths d i r
   accepted-so h a =
       let f = fine lengths (length text) (parse text) h in
@@ -144,15 +144,15 @@ module _ (text lengths : List ℕ) (d i : ℕ) where
       (name-of d i (f .good) (listed-once lengths (mapsOf (f .document)) (f .once) d))
 
   -- THE LAW: where the number is that of the conditions before 18, what `place_of` answers is promised
-  pub placed-name : {n : ℕ} {r : NamePlace} → n ≡ first (conditionsTo9 lengths (length text) (parse text)) → Answered text n d i r
+  pub placed-name : {n : ℕ} {r : NamePlace} → n ≡ first (conditionsOfHeader lengths (length text) (parse text)) → Answered text n d i r
       → NamePlaced text lengths d i r
-  unfolding conditionsTo9 positive nameRefusal
+  unfolding conditionsOfHeader positive nameRefusal
   placed-name {n} {r} h a = by (ℕ-discrete n 0)
     where
       by : Dec (n ≡ 0) → NamePlaced text lengths d i r
       by (yes z) =
-          accepted-so (given-none (conditionsTo9 lengths (length text) (parse text)) refl (sym h ∙ z)) (subst (λ (m : ℕ). Answered text m d i r) z a)
-      by (no k) = refused-so n k (first-kept (conditionsTo9 lengths (length text) (parse text)) _ n k (sym h)) (a .refused k)
+          accepted-so (given-none (conditionsOfHeader lengths (length text) (parse text)) refl (sym h ∙ z)) (subst (λ (m : ℕ). Answered text m d i r) z a)
+      by (no k) = refused-so n k (first-kept (conditionsOfHeader lengths (length text) (parse text)) _ n k (sym h)) (a .refused k)
 
 -- ---- ONE PLACE for every input.
 

@@ -27,7 +27,7 @@ use Rattle.schema.specs.Schema.{everywhere, shaped, numbered}
 use Rattle.cifti.specs.Rows.{cifti, matrix, rows}
 use Rattle.cifti.specs.Maps.{Map, mapOf, mapElements, mapsOf}
 use Rattle.cifti.specs.Conditions as C
-use Rattle.cifti.specs.Conditions.{_when_, lengthsWrong, textTooLong, noDocument, rootWrong, kindNotRead, shapeWrong, numberWrong, conditionsTo9}
+use Rattle.cifti.specs.Conditions.{_when_, lengthsWrong, textTooLong, noDocument, rootWrong, kindNotRead, shapeWrong, numberWrong, conditionsOfHeader}
 use Rattle.opening.specs.Agree.{rootFault, Judged, ChecksCifti}
 use Rattle.shape.specs.declared.Checked.{Checked}
 use Rattle.lists.specs.Booleans.{never-some}
@@ -35,7 +35,7 @@ use Rattle.maps.specs.Good.{Good}
 use Rattle.maps.specs.Kinds.{root-child}
 use Rattle.maps.specs.Ready.{mapsIn}
 use Rattle.maps.specs.Unread.{all-read}
-use Rattle.opening.specs.declared.seven.Opening.{Opening}
+use Rattle.opening.specs.declared.header.Opening.{Opening}
 
 -- ---- Condition 1.
 
@@ -118,9 +118,9 @@ pub record Passed (text lengths : List ℕ) (m : ℕ) : Type 0 where
   pub maps : mapsOf document ≡ mapsIn (the text m)
   pub only : children "Matrix" document ≡ the text m ∷ []
 
--- the first of the nine that applies
-abbrev pub number9 : (text lengths : List ℕ) → ℕ
-number9 text lengths = C.first (conditionsTo9 lengths (length text) (parse text))
+-- the first of the header's conditions that applies
+abbrev pub headerNumber : (text lengths : List ℕ) → ℕ
+headerNumber text lengths = C.first (conditionsOfHeader lengths (length text) (parse text))
 
 unfoldable pub placeOf : Kid → ℕ
 placeOf (Child k) = k
@@ -132,52 +132,52 @@ matrixPlace text = placeOf (first text (placeOf (root text)))
 
 -- the number is that of the first of 1 to 7 that applies; where none does, the matrix is the root's only child
 pub record Opens (text lengths : List ℕ) (r : Opening) : Type 0 where
-  pub refused : (r .number ≡ 0 → ⊥) → r .number ≡ number9 text lengths
+  pub refused : (r .number ≡ 0 → ⊥) → r .number ≡ headerNumber text lengths
   pub among : r .number ≤ 7
   pub nowhere : (r .number ≡ 0 → ⊥) → r .matrix ≡ 0
   pub passed : r .number ≡ 0 → Passed text lengths (r .matrix)
   pub there-it-is : r .number ≡ 0 → r .matrix ≡ matrixPlace text
 
--- ---- The table of nine, row by row.
+-- ---- The header's conditions, row by row.
 
 first-row : (n : ℕ) (b : Bool) (l : List C.Refusal) → C.first (n when b ∷ l) ≡ cond b n (C.first l)
 unfolding C.first
 first-row n true l = refl
 first-row n false l = refl
 
-seven-rows : (a b c d f g h : Bool) (l : List C.Refusal)
+root-rows : (a b c d f g h : Bool) (l : List C.Refusal)
     → C.first (1 when a ∷ 2 when b ∷ 3 when c ∷ 4 when d ∷ 5 when f ∷ 6 when g ∷ 7 when h ∷ l)
     ≡ cond a 1 (cond b 2 (cond c 3 (cond d 4 (cond f 5 (cond g 6 (cond h 7 (C.first l)))))))
-seven-rows a b c d f g h l =
+root-rows a b c d f g h l =
     first-row 1 a _ ∙ ap (cond a 1) (first-row 2 b _ ∙ ap (cond b 2) (first-row 3 c _ ∙ ap (cond c 3) (first-row 4 d _ ∙ ap (cond d 4)
     (first-row 5 f _ ∙ ap (cond f 5) (first-row 6 g _ ∙ ap (cond g 6) (first-row 7 h l))))))
 
 -- the first of 4 to 7 that applies to a root, or what comes behind them
-abbrev pub fourToSeven : Element → ℕ → ℕ
-fourToSeven e n = cond (rootWrong e) 4 (cond (kindNotRead e) 5 (cond (shapeWrong e) 6 (cond (numberWrong e) 7 n)))
+abbrev pub rootNumber : Element → ℕ → ℕ
+rootNumber e n = cond (rootWrong e) 4 (cond (kindNotRead e) 5 (cond (shapeWrong e) 6 (cond (numberWrong e) 7 n)))
 
 module _ (text lengths : List ℕ) where
-  pub nine-lengths : lengthsWrong lengths ≡ true → number9 text lengths ≡ 1
-  unfolding conditionsTo9 C.first
-  nine-lengths h = rw h
+  pub header-lengths : lengthsWrong lengths ≡ true → headerNumber text lengths ≡ 1
+  unfolding conditionsOfHeader C.first
+  header-lengths h = rw h
 
   module _ (fine : lengthsWrong lengths ≡ false) where
-    pub nine-long : textTooLong (length text) ≡ true → number9 text lengths ≡ 2
-    unfolding conditionsTo9 C.first
-    nine-long h = rw (fine, h)
+    pub header-long : textTooLong (length text) ≡ true → headerNumber text lengths ≡ 2
+    unfolding conditionsOfHeader C.first
+    header-long h = rw (fine, h)
 
     module _ (short : textTooLong (length text) ≡ false) where
-      pub nine-unwritten : parse text ≡ Option.none → number9 text lengths ≡ 3
-      unfolding conditionsTo9 C.first noDocument isSome
-      nine-unwritten h = rw (fine, short, h)
+      pub header-unwritten : parse text ≡ Option.none → headerNumber text lengths ≡ 3
+      unfolding conditionsOfHeader C.first noDocument isSome
+      header-unwritten h = rw (fine, short, h)
 
       module _ (e : Element) (p : parse text ≡ some e) where
-        pub nine-document : number9 text lengths
-            ≡ fourToSeven e (C.first (8 when C.ofMaps (C.dimensionsWrong lengths) (some e) ∷ 9 when C.ofMaps (C.lengthWrong lengths) (some e) ∷ []))
-        unfolding conditionsTo9 noDocument isSome there
-        nine-document =
-            ap (λ d. C.first (conditionsTo9 lengths (length text) d)) p
-            ∙ seven-rows (lengthsWrong lengths) (textTooLong (length text)) false (rootWrong e) (kindNotRead e) (shapeWrong e) (numberWrong e) _
+        pub header-document : headerNumber text lengths
+            ≡ rootNumber e (C.first (8 when C.ofMaps (C.dimensionsWrong lengths) (some e) ∷ 9 when C.ofMaps (C.lengthWrong lengths) (some e) ∷ []))
+        unfolding conditionsOfHeader noDocument isSome there
+        header-document =
+            ap (λ d. C.first (conditionsOfHeader lengths (length text) d)) p
+            ∙ root-rows (lengthsWrong lengths) (textTooLong (length text)) false (rootWrong e) (kindNotRead e) (shapeWrong e) (numberWrong e) _
             ∙ rw (fine, short)
 
 -- ---- The root.
@@ -187,7 +187,7 @@ pub record Found (text : List ℕ) (r : ℕ) (o : Opening) : Type 0 where
   pub among : o .number ≤ 7
   pub nowhere : (o .number ≡ 0 → ⊥) → o .matrix ≡ 0
   pub there-it-is : o .number ≡ 0 → o .matrix ≡ placeOf (first text r)
-  pub refused : (o .number ≡ 0 → ⊥) → (n : ℕ) → fourToSeven (the text r) n ≡ o .number
+  pub refused : (o .number ≡ 0 → ⊥) → (n : ℕ) → rootNumber (the text r) n ≡ o .number
   pub right-root : o .number ≡ 0 → rootWrong (the text r) ≡ false
   pub read-kinds : o .number ≡ 0 → kindNotRead (the text r) ≡ false
   pub shape : o .number ≡ 0 → shapeWrong (the text r) ≡ false
@@ -198,7 +198,7 @@ pub record Found (text : List ℕ) (r : ℕ) (o : Opening) : Type 0 where
   pub only : o .number ≡ 0 → children "Matrix" (the text r) ≡ the text (o .matrix) ∷ []
 
 refuses : {text : List ℕ} {r : ℕ} (o : Opening) → (o .number ≡ 0 → ⊥) → o .number ≤ 7 → o .matrix ≡ 0
-    → ((n : ℕ) → fourToSeven (the text r) n ≡ o .number) → Found text r o
+    → ((n : ℕ) → rootNumber (the text r) n ≡ o .number) → Found text r o
 refuses o k a m h = record {
   among = a;
   nowhere = λ _. m;
@@ -218,12 +218,12 @@ module _ {text : List ℕ} {r n : ℕ} (j : Judged text r n) where
   pub root-stands : Stands text r
   root-stands = j .stands
 
-  pub root-four : {b : Bool} → b ≡ rootWrong (the text r) → b ≡ true → (o : Opening) → o .number ≡ 4 → o .matrix ≡ 0 → Found text r o
-  root-four p t o q m = refuses o (λ z. omega arith) (omega arith) m (λ n. rw (sym p ∙ t, q))
+  pub root-wrong : {b : Bool} → b ≡ rootWrong (the text r) → b ≡ true → (o : Opening) → o .number ≡ 4 → o .matrix ≡ 0 → Found text r o
+  root-wrong p t o q m = refuses o (λ z. omega arith) (omega arith) m (λ n. rw (sym p ∙ t, q))
 
   module _ {b : Bool} (p : b ≡ rootWrong (the text r)) (f : b ≡ false) where
-    pub root-five : {c : Bool} → c ≡ kindNotRead (the text r) → c ≡ true → (o : Opening) → o .number ≡ 5 → o .matrix ≡ 0 → Found text r o
-    root-five q t o s m = refuses o (λ z. omega arith) (omega arith) m (λ n. rw (sym p ∙ f, sym q ∙ t, s))
+    pub root-unread : {c : Bool} → c ≡ kindNotRead (the text r) → c ≡ true → (o : Opening) → o .number ≡ 5 → o .matrix ≡ 0 → Found text r o
+    root-unread q t o s m = refuses o (λ z. omega arith) (omega arith) m (λ n. rw (sym p ∙ f, sym q ∙ t, s))
 
     pub root-fault : {c : Bool} → c ≡ kindNotRead (the text r) → c ≡ false → (n ≡ 0 → ⊥) → (o : Opening) → o .number ≡ n → o .matrix ≡ 0
         → Found text r o
@@ -287,7 +287,7 @@ module _ {text : List ℕ} {r n : ℕ} (j : Judged text r n) where
           let bad : [] ≡ only .one ∷ [] = sym none ∙ kids-children (j .stands) ∙ only .alone in
           absurd (let y : _≡_ {A = ℕ} 0 1 = cc in omega arith)
 
-pub ruleset rooted = (root-stands, root-four, root-five, root-fault, root-passes, root-bare, needs)
+pub ruleset rooted = (root-stands, root-wrong, root-unread, root-fault, root-passes, root-bare, needs)
 
 -- ---- The whole.
 
@@ -317,7 +317,7 @@ module _ {text : List ℕ} {c : Checked} (w : ChecksCifti text c) where
       go (some e) p = w .written e p
 
 module _ {text : List ℕ} (lengths : List ℕ) {a : Bool} (p : a ≡ lengthsWrong lengths) where
-  refused-as : (n : ℕ) → (n ≡ 0 → ⊥) → n ≤ 7 → number9 text lengths ≡ n → (o : Opening) → o .number ≡ n → o .matrix ≡ 0
+  refused-as : (n : ℕ) → (n ≡ 0 → ⊥) → n ≤ 7 → headerNumber text lengths ≡ n → (o : Opening) → o .number ≡ n → o .matrix ≡ 0
       → Opens text lengths o
   refused-as n k u e o q m = record {
     among = rw q u;
@@ -328,17 +328,17 @@ module _ {text : List ℕ} (lengths : List ℕ) {a : Bool} (p : a ≡ lengthsWro
   }
 
   pub open-lengths : a ≡ true → (o : Opening) → o .number ≡ 1 → o .matrix ≡ 0 → Opens text lengths o
-  open-lengths t = refused-as 1 (λ z. omega arith) (omega arith) (nine-lengths text lengths (sym p ∙ t))
+  open-lengths t = refused-as 1 (λ z. omega arith) (omega arith) (header-lengths text lengths (sym p ∙ t))
 
   module _ (f : a ≡ false) where
     pub open-long : 16777216 < length text → (o : Opening) → o .number ≡ 2 → o .matrix ≡ 0 → Opens text lengths o
     unfolding textTooLong
-    open-long h = refused-as 2 (λ z. omega arith) (omega arith) (nine-long text lengths (sym p ∙ f) (lt-ltb 16777216 (length text) h))
+    open-long h = refused-as 2 (λ z. omega arith) (omega arith) (header-long text lengths (sym p ∙ f) (lt-ltb 16777216 (length text) h))
 
     module _ (short : length text ≤ 16777216) {c : Checked} (w : ChecksCifti text c) where
       pub open-unwritten : c .number ≡ 3 → (o : Opening) → o .number ≡ 3 → o .matrix ≡ 0 → Opens text lengths o
       open-unwritten g =
-          refused-as 3 (λ z. omega arith) (omega arith) (nine-unwritten text lengths (sym p ∙ f) (not-long text short) (not-written w g))
+          refused-as 3 (λ z. omega arith) (omega arith) (header-unwritten text lengths (sym p ∙ f) (not-long text short) (not-written w g))
 
       pub open-document : (c .number ≡ 3 → ⊥) → {o : Opening} → Found text (c .root) o → Opens text lengths o
       unfolding matrixPlace placeOf
@@ -349,7 +349,7 @@ module _ {text : List ℕ} (lengths : List ℕ) {a : Bool} (p : a ≡ lengthsWro
             nowhere = d .nowhere;
             there-it-is = λ z. d .there-it-is z ∙ sym (ap (λ k. placeOf (first text (placeOf k))) (j .placed));
             refused =
-                λ k. sym (nine-document text lengths (sym p ∙ f) (not-long text short) (the text (c .root)) (j .parsed) ∙ d .refused k _);
+                λ k. sym (header-document text lengths (sym p ∙ f) (not-long text short) (the text (c .root)) (j .parsed) ∙ d .refused k _);
             passed = λ z. record {
               fine = sym p ∙ f;
               short = short;

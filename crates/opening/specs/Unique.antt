@@ -7,8 +7,8 @@ use native.Mathlib.Omega.{arith}
 use native.Mathlib.Decide.{ℕ-discrete}
 use Rattle.cifti.specs.Conditions as C
 use Rattle.cifti.specs.Conditions.{_when_}
-use Rattle.opening.specs.Opening.{Opens, Passed, number9, nine-document, not-long}
-use Rattle.opening.specs.declared.seven.Opening.{Opening}
+use Rattle.opening.specs.Opening.{Opens, Passed, headerNumber, header-document, not-long}
+use Rattle.opening.specs.declared.header.Opening.{Opening}
 
 later-two : (x y : Bool) → C.first (8 when x ∷ 9 when y ∷ []) ≤ 7 → C.first (8 when x ∷ 9 when y ∷ []) ≡ 0
 unfolding C.first
@@ -17,9 +17,9 @@ later-two false true h = absurd (omega arith)
 later-two false false h = refl
 
 -- where 1 to 7 do not apply, the first of 1 to 9 is none of them
-passed-none : {text lengths : List ℕ} {m : ℕ} → Passed text lengths m → number9 text lengths ≤ 7 → number9 text lengths ≡ 0
+passed-none : {text lengths : List ℕ} {m : ℕ} → Passed text lengths m → headerNumber text lengths ≤ 7 → headerNumber text lengths ≡ 0
 passed-none {text} {lengths} p h =
-    let e = rw (p .right-root, p .read-kinds, p .shape, p .numbers) at (nine-document text lengths (p .fine) (not-long text (p .short)) (p .document) (p .parsed)) in
+    let e = rw (p .right-root, p .read-kinds, p .shape, p .numbers) at (header-document text lengths (p .fine) (not-long text (p .short)) (p .document) (p .parsed)) in
     e ∙ later-two _ _ (rw e at h)
 
 abbrev opening-of : ℕ → ℕ → Opening

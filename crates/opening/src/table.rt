@@ -1,4 +1,5 @@
-// CIFTI's table: all its rows, words and limits. Where each part begins and the watched word; kinds; attributes; children; choices; cases; words; forms.
+// CIFTI's table: all its rows, words and limits, as tools/cifti_table writes them from specs/Table.antt.
+// Where each part begins and the watched word; kinds; attributes; children; choices; cases; words; forms.
 pub(crate) const TABLE: [u32; 335] = [
     8,
     98,

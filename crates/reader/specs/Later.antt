@@ -124,18 +124,18 @@ pub ruleset looking = (look-start, look-kept, look-done, over-place, look-asks, 
 abbrev pub rulesAfter : (room work : ℕ) → List Map → List Refusal
 rulesAfter room work l = 13 when roomShort room work l ∷ 14 when locationTwice l ∷ []
 
-abbrev pub rules14 : (room work : ℕ) → List Map → List Refusal
-rules14 room work l = modelRows l ++ rulesAfter room work l
+abbrev pub tableRules : (room work : ℕ) → List Map → List Refusal
+tableRules room work l = modelRows l ++ rulesAfter room work l
 
-unfoldable pub rule14 : (room work : ℕ) → List Map → ℕ
-rule14 room work l = C.first (rules14 room work l)
+unfoldable pub tableRule : (room work : ℕ) → List Map → ℕ
+tableRule room work l = C.first (tableRules room work l)
 
 pub record Later (text : List ℕ) (maps : Maps) (room : ℕ) (before : List ℕ) (answer : ℕ) (after : List ℕ) : Type 0 where
-  pub told : answer ≡ rule14 room (length before) (mapsAt text maps)
+  pub told : answer ≡ tableRule room (length before) (mapsAt text maps)
   pub long : length after ≡ length before
 
-rule-all : (room work : ℕ) (l : List Map) → rule14 room work l ≡ cond (eqb (modelRefusal l) 0) (C.first (rulesAfter room work l)) (modelRefusal l)
-unfolding rule14 modelRefusal positive
+rule-all : (room work : ℕ) (l : List Map) → tableRule room work l ≡ cond (eqb (modelRefusal l) 0) (C.first (rulesAfter room work l)) (modelRefusal l)
+unfolding tableRule modelRefusal positive
 rule-all room work l = first-append (modelRows l) (rulesAfter room work l) refl
 
 module _ (text : List ℕ) (maps : Maps) {n : ℕ} (p : n ≡ modelRefusal (mapsAt text maps)) where

@@ -17,26 +17,26 @@ use Rattle.grammar.specs.Document.{Element}
 use Rattle.grammar.specs.Parser.{parse}
 use Rattle.cifti.specs.Maps.{Map, mapsOf, lengthOf, brainMaps}
 use Rattle.cifti.specs.Conditions as C
-use Rattle.cifti.specs.Conditions.{conditionsTo9, conditionsFrom10, refusal, ofMaps, roomShort}
+use Rattle.cifti.specs.Conditions.{conditionsOfHeader, conditionsOfTable, refusal, ofMaps, roomShort}
 use Rattle.cifti.specs.Answer.{acceptedWith, refusedWith, answerBy, recordsBy, stretches, filledWith, Reads}
 use Rattle.cifti.specs.Answer as A
 use Rattle.cifti.specs.Theorems.{reads-by, answerOf, recordsOf, numberOf}
 use Rattle.cifti.specs.declared.answer.Answer.{Answer}
 use Rattle.maps.specs.Ready.{Ready, mapsAt}
 use Rattle.stretches.specs.All.{Fillable}
-use Rattle.opening.specs.Opening.{number9}
+use Rattle.opening.specs.Opening.{headerNumber}
 use Rattle.reader.specs.Surveying.{Surveys, Readied}
-use Rattle.reader.specs.Later.{Later, rules14, rule14}
+use Rattle.reader.specs.Later.{Later, tableRules, tableRule}
 use Rattle.reader.specs.declared.surveying.Survey.{Survey}
 
 -- 1 to 9 first, then the rest
 number-by : (text lengths records work : List ℕ)
-    → numberOf text lengths records work ≡ cond (eqb (number9 text lengths) 0) (C.first (conditionsFrom10 (length records) (length work) (parse text))) (number9 text lengths)
-unfolding numberOf refusal C.conditions conditionsTo9 positive
-number-by text lengths records work = first-append (conditionsTo9 lengths (length text) (parse text)) (conditionsFrom10 (length records) (length work) (parse text)) refl
+    → numberOf text lengths records work ≡ cond (eqb (headerNumber text lengths) 0) (C.first (conditionsOfTable (length records) (length work) (parse text))) (headerNumber text lengths)
+unfolding numberOf refusal C.conditions conditionsOfHeader positive
+number-by text lengths records work = first-append (conditionsOfHeader lengths (length text) (parse text)) (conditionsOfTable (length records) (length work) (parse text)) refl
 
-later-by : (room work : ℕ) (e : Element) → C.first (conditionsFrom10 room work (some e)) ≡ rule14 room work (mapsOf e)
-unfolding conditionsFrom10 ofMaps there rule14
+later-by : (room work : ℕ) (e : Element) → C.first (conditionsOfTable room work (some e)) ≡ tableRule room work (mapsOf e)
+unfolding conditionsOfTable ofMaps there tableRule
 later-by room work e = refl
 
 -- a number of refusal, given
@@ -62,7 +62,7 @@ module _ {text lengths : List ℕ} {s : Survey} (sv : Surveys text lengths s) (r
       number-is =
           number-by text lengths records work
           ∙ rw (← sv .number-is, z, got .parsed)
-          (later-by (length records) (length work) (got .document) ∙ ap (rule14 (length records) (length work)) (sym (got .all)) ∙ sym (lt .told))
+          (later-by (length records) (length work) (got .document) ∙ ap (tableRule (length records) (length work)) (sym (got .all)) ∙ sym (lt .told))
 
       clear-is : {w : List ℕ} → w ≡ replicate (length after) 0 → w ≡ replicate (length work) 0
       clear-is c = c ∙ ap (λ n. replicate n 0) (lt .long)
@@ -72,10 +72,10 @@ module _ {text lengths : List ℕ} {s : Survey} (sv : Surveys text lengths s) (r
 
       module _ (y : v ≡ 0) where
         pub read-fillable : Fillable text (s .maps) (length records)
-        unfolding rule14 roomShort positive
+        unfolding tableRule roomShort positive
         read-fillable =
             let l = mapsAt text (s .maps) in
-            let none = given-none (rules14 (length records) (length work) l) refl (sym (lt .told) ∙ y) in
+            let none = given-none (tableRules (length records) (length work) l) refl (sym (lt .told) ∙ y) in
             record {
               ready = got .room;
               fine = record { share = row-fails none; ranges = row-fails (rows-past 1 none); inside = row-fails (rows-past 2 none) };

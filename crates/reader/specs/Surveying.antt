@@ -20,8 +20,8 @@ use Rattle.maps.specs.Survey.{MatrixAt, MapsAre}
 use Rattle.maps.specs.Ready.{mapsIn, mapsAt, Ready, maps-many, maps-ready, maps-same}
 use Rattle.maps.specs.ListedOnce.{Surveyed}
 use Rattle.maps.specs.declared.survey.Maps.{Maps}
-use Rattle.opening.specs.Opening.{Opens, Passed, number9, nine-document, lengths-three}
-use Rattle.opening.specs.declared.seven.Opening.{Opening}
+use Rattle.opening.specs.Opening.{Opens, Passed, headerNumber, header-document, lengths-three}
+use Rattle.opening.specs.declared.header.Opening.{Opening}
 use Rattle.reader.specs.declared.surveying.Survey.{Survey}
 
 -- the maps of the document of a text that passes 1 to 9
@@ -33,14 +33,14 @@ pub record Readied (text lengths : List ℕ) (maps : Maps) : Type 0 where
   pub listed : dimensionsWrong lengths (mapsAt text maps) ≡ false
 
 pub record Surveys (text lengths : List ℕ) (s : Survey) : Type 0 where
-  pub number-is : s .number ≡ number9 text lengths
+  pub number-is : s .number ≡ headerNumber text lengths
   pub readied : s .number ≡ 0 → Readied text lengths (s .maps)
 
--- the rest of the nine, where 1 to 7 do not apply
-nine-rest : {text lengths : List ℕ} {m : ℕ} → (p : Passed text lengths m) → number9 text lengths ≡ C.first (8 when dimensionsWrong lengths (mapsIn (the text m)) ∷ 9 when lengthWrong lengths (mapsIn (the text m)) ∷ [])
+-- the rest of the header's conditions, where 1 to 7 do not apply
+header-rest : {text lengths : List ℕ} {m : ℕ} → (p : Passed text lengths m) → headerNumber text lengths ≡ C.first (8 when dimensionsWrong lengths (mapsIn (the text m)) ∷ 9 when lengthWrong lengths (mapsIn (the text m)) ∷ [])
 unfolding ofMaps there textTooLong
-nine-rest {text} {lengths} {m} p =
-    nine-document text lengths (p .fine) (le-ltb 16777216 (length text) (p .short)) (p .document) (p .parsed)
+header-rest {text} {lengths} {m} p =
+    header-document text lengths (p .fine) (le-ltb 16777216 (length text) (p .short)) (p .document) (p .parsed)
     ∙ rw (p .right-root, p .read-kinds, p .shape, p .numbers, p .maps)
 
 module _ {text lengths : List ℕ} {o : Opening} (op : Opens text lengths o) where
@@ -59,9 +59,9 @@ module _ {text lengths : List ℕ} {o : Opening} (op : Opens text lengths o) whe
       survey-asks = record { are = are; good = passed .good; few = lengths-three lengths (passed .fine) }
 
       module _ {b : Bool} (p : b ≡ dimensionsWrong lengths (mapsIn (the text (o .matrix)))) where
-        pub survey-eight : b ≡ true → (s : Survey) → s .number ≡ 8 → Surveys text lengths s
+        pub survey-unlisted : b ≡ true → (s : Survey) → s .number ≡ 8 → Surveys text lengths s
         unfolding C.first
-        survey-eight t s e = record { number-is = e ∙ sym (nine-rest passed ∙ rw (sym p ∙ t)); readied = λ y. absurd (omega arith) }
+        survey-unlisted t s e = record { number-is = e ∙ sym (header-rest passed ∙ rw (sym p ∙ t)); readied = λ y. absurd (omega arith) }
 
         module _ (f : b ≡ false) where
           few : maps .count ≤ 3
@@ -78,17 +78,17 @@ module _ {text lengths : List ℕ} {o : Opening} (op : Opens text lengths o) whe
           survey-room = maps-ready are (passed .good) few
 
           module _ {c : Bool} (q : c ≡ lengthWrong lengths (mapsAt text maps)) where
-            nine : lengthWrong lengths (mapsIn (the text (o .matrix))) ≡ c
-            nine = ap (lengthWrong lengths) (sym same) ∙ sym q
+            differing : lengthWrong lengths (mapsIn (the text (o .matrix))) ≡ c
+            differing = ap (lengthWrong lengths) (sym same) ∙ sym q
 
-            pub survey-nine : c ≡ true → (s : Survey) → s .number ≡ 9 → Surveys text lengths s
+            pub survey-differs : c ≡ true → (s : Survey) → s .number ≡ 9 → Surveys text lengths s
             unfolding C.first
-            survey-nine t s e = record { number-is = e ∙ sym (nine-rest passed ∙ rw (sym p ∙ f, nine ∙ t)); readied = λ y. absurd (omega arith) }
+            survey-differs t s e = record { number-is = e ∙ sym (header-rest passed ∙ rw (sym p ∙ f, differing ∙ t)); readied = λ y. absurd (omega arith) }
 
             pub survey-passes : c ≡ false → (s : Survey) → s .number ≡ 0 → s .maps ≡ maps → Surveys text lengths s
             unfolding C.first
             survey-passes g s e h = record {
-              number-is = e ∙ sym (nine-rest passed ∙ rw (sym p ∙ f, nine ∙ g));
+              number-is = e ∙ sym (header-rest passed ∙ rw (sym p ∙ f, differing ∙ g));
               readied = λ _. rw h (record {
                 document = passed .document;
                 parsed = passed .parsed;
@@ -98,4 +98,4 @@ module _ {text lengths : List ℕ} {o : Opening} (op : Opens text lengths o) whe
               });
             }
 
-pub ruleset surveyed = (survey-refused, survey-matrix, survey-asks, survey-eight, survey-room, survey-nine, survey-passes, needs)
+pub ruleset surveyed = (survey-refused, survey-matrix, survey-asks, survey-unlisted, survey-room, survey-differs, survey-passes, needs)

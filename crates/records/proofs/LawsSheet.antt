@@ -51,10 +51,10 @@ take-five s at h =
       drop-cons s (suc (suc (suc (suc at)))) 0 (omega arith),
     )
 
-pub number-five : (s : List ℕ) (at : ℕ) → at + 5 ≤ length s
+pub unread-number : (s : List ℕ) (at : ℕ) → at + 5 ≤ length s
     → getD s at 0 * 4294967296 + getD s (at + 1) 0 * 16777216 + getD s (at + 2) 0 * 65536 + getD s (at + 3) 0 * 256 + getD s (at + 4) 0 ≡ numberOf (take 5 (drop at s))
 unfolding numberOf bits joined
-number-five s at h = sums (getD s at 0) (getD s (at + 1) 0) (getD s (at + 2) 0) (getD s (at + 3) 0) (getD s (at + 4) 0) ∙ ap numberOf (sym (take-five s at h))
+unread-number s at h = sums (getD s at 0) (getD s (at + 1) 0) (getD s (at + 2) 0) (getD s (at + 3) 0) (getD s (at + 4) 0) ∙ ap numberOf (sym (take-five s at h))
   where
     sums : (a b c d e : ℕ) → a * 4294967296 + b * 16777216 + c * 65536 + d * 256 + e ≡ numberOf (a ∷ b ∷ c ∷ d ∷ e ∷ [])
     sums a b c d e = omega arith

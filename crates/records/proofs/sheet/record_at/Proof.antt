@@ -1,5 +1,5 @@
 -- `records::sheet::record_at` meets its contract. Assumes nothing.
-use Rattle.records.proofs.LawsSheet.{number-five}
+use Rattle.records.proofs.LawsSheet.{unread-number}
 use native.Mathlib.Omega.{arith}
 use Rattle.records.proofs.sheet.record_at.Statement.{statement}
 use Rattle.records.proofs.sheet.record_at.Tie as tie
@@ -7,7 +7,7 @@ use Rattle.records.proofs.sheet.record_at.Tie as tie
 returns : tie.Need-returns
 returns c =
     let a = c .before .before .before .before .before .before .before .before .before .before .before .args in
-    omega (arith, number-five (a .sheet .now) (a .at) (c .before .before .before .before .before .before .before .before .before .before .before .pre))
+    omega (arith, unread-number (a .sheet .now) (a .at) (c .before .before .before .before .before .before .before .before .before .before .before .pre))
 
 pub record-at-spec : {M : Type 1} → statement M
 record-at-spec =

@@ -1,6 +1,6 @@
 use Rattle.opening.specs.Opening.{opening}
-use Rattle.opening.proofs.seven.opened.Statement.{statement}
-use Rattle.opening.proofs.seven.opened.Tie as tie
+use Rattle.opening.proofs.header.opened.Statement.{statement}
+use Rattle.opening.proofs.header.opened.Tie as tie
 
 pub opened-spec : {M : Type 1} → statement M
 opened-spec =

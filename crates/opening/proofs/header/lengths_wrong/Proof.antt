@@ -1,8 +1,8 @@
 use Rattle.opening.specs.Opening.{measuring, Measuring}
 use Prim.Native.Nat.{_-_}
 use lib.ListN.{length}
-use Rattle.opening.proofs.seven.lengths_wrong.Statement.{statement}
-use Rattle.opening.proofs.seven.lengths_wrong.Tie as tie
+use Rattle.opening.proofs.header.lengths_wrong.Statement.{statement}
+use Rattle.opening.proofs.header.lengths_wrong.Tie as tie
 
 abbrev Inv-loop : tie.InvT-loop
 Inv-loop lengths i₀ i = Measuring lengths i
