@@ -7,16 +7,8 @@ use native.Mathlib.Omega.{arith}
 use lib.Dec.{eqb}
 use borrow.Author.Tests.{eq-eqb}
 use Rattle.lists.specs.Lists.{any, count}
+use Rattle.lists.specs.Laws.{none-counted}
 use Rattle.maps.specs.Listed.{any-some}
-
-none-counted : (p : ℕ → Bool) (l : List ℕ) → count p l ≡ 0 → any p l ≡ false
-unfolding any count
-none-counted p [] h = refl
-none-counted p (a ∷ l) h = go (p a) h (none-counted p l)
-  where
-    go : (b : Bool) → cond b 1 0 + count p l ≡ 0 → (count p l ≡ 0 → any p l ≡ false) → (b || any p l) ≡ false
-    go true k ih = absurd (omega arith)
-    go false k ih = ih (omega arith)
 
 module _ (d : ℕ) (l : List ℕ) {c : ℕ} (p : c ≡ min 2 (count (eqb d) l)) where
   pub counted-some : (c ≡ 0 → ⊥) → count (eqb d) l ≡ 0 → ⊥

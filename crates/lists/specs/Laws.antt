@@ -109,6 +109,16 @@ unfolding count
 count-append p [] l = omega arith
 count-append p (a ∷ k) l = let h = count-append p k l in omega arith
 
+-- none is counted where none passes
+pub none-counted : {A : Type 0} (p : A → Bool) (l : List A) → count p l ≡ 0 → any p l ≡ false
+unfolding any count
+none-counted p [] h = refl
+none-counted p (a ∷ l) h = go (p a) h (none-counted p l)
+  where
+    go : (b : Bool) → cond b 1 0 + count p l ≡ 0 → (count p l ≡ 0 → any p l ≡ false) → (b || any p l) ≡ false
+    go true k ih = absurd (omega arith)
+    go false k ih = ih (omega arith)
+
 pub any-in : {A B : Type 0} (p : B → Bool) (f : A → List B) (l : List A) → any p (eachIn f l) ≡ any (λ a. any p (f a)) l
 unfolding any eachIn
 any-in p f [] = refl

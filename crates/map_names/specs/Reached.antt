@@ -12,6 +12,7 @@ use lib.Dec.{eqb, ltb}
 use lib.ListN.{length, getD, List·getD-append}
 use borrow.Author.Tests.{eqb-true, lt-ltb, le-ltb}
 use Rattle.lists.specs.Lists.{any, count, each, eachIn, those, allBelow}
+use Rattle.lists.specs.Laws.{none-counted, count-append}
 use Rattle.lists.specs.Quantifiers.{allBelow-iff}
 use Rattle.lists.specs.Booleans.{both-ways}
 use Rattle.grammar.specs.Document.{Element}
@@ -106,20 +107,6 @@ on-map i {e} g = go (in-named i (each-named g))
     go (in-one u v q) = held (holds-so g i ∙ lt-ltb i _ u) v q
 
 -- ---- Among the maps: the one that lists the dimension.
-
-count-append : (p : ℕ → Bool) (k l : List ℕ) → count p (k ++ l) ≡ count p k + count p l
-unfolding count
-count-append p [] l = omega arith
-count-append p (a ∷ k) l = let h = count-append p k l in omega arith
-
-none-counted : (p : ℕ → Bool) (l : List ℕ) → count p l ≡ 0 → any p l ≡ false
-unfolding any count
-none-counted p [] h = refl
-none-counted p (a ∷ l) h = go (p a) h (none-counted p l)
-  where
-    go : (b : Bool) → cond b 1 0 + count p l ≡ 0 → (count p l ≡ 0 → any p l ≡ false) → (b || any p l) ≡ false
-    go true k ih = absurd (omega arith)
-    go false k ih = ih (omega arith)
 
 some-counted : (p : ℕ → Bool) (l : List ℕ) → any p l ≡ true → 1 ≤ count p l
 some-counted p l h = go (ℕ-discrete (count p l) 0)

@@ -59,7 +59,7 @@ module _ (text : List ℕ) (i : ℕ) {b : Bool} (eb : b ≡ ends closing (drop i
       named : part from to text ≡ found .name .value
       named = part-is (found .name) (found .gap .inside)
 
-      keys-more : keys-at (length text) (drop i text) ≡ key (part from to text) end ∷ keys-then (value-at (drop end text)) (keys-at (length text))
+      pub keys-more : keys-at (length text) (drop i text) ≡ key (part from to text) end ∷ keys-then (value-at (drop end text)) (keys-at (length text))
       unfolding keys-by
       keys-more =
           let p : length text - length (drop end text) ≡ end = simp length-drop (omega (arith, found .equals .inside)) in
@@ -71,7 +71,7 @@ module _ (text : List ℕ) (i : ℕ) {b : Bool} (eb : b ≡ ends closing (drop i
           omega (arith, length-drop end text, length-drop i text)
 
       module _ {x : Step} (ex : x ≡ stepped (length text) (value-at (drop end text))) where
-        keys-stuck : x ≡ No → keys-at (length text) (drop i text) ≡ key (part from to text) end ∷ []
+        pub keys-stuck : x ≡ No → keys-at (length text) (drop i text) ≡ key (part from to text) end ∷ []
         unfolding keys-then
         keys-stuck w = keys-more ∙ rw (fell (length text) (value-at (drop end text)) (sym w ∙ ex))
 
@@ -79,11 +79,11 @@ module _ (text : List ℕ) (i : ℕ) {b : Bool} (eb : b ≡ ends closing (drop i
           valued : Went value-at text end j
           valued = went value-at text end j (value-tails (drop end text)) (sym w ∙ ex)
 
-          keys-go : keys-at (length text) (drop i text) ≡ key (part from to text) end ∷ keys-at (length text) (drop j text)
+          pub keys-go : keys-at (length text) (drop i text) ≡ key (part from to text) end ∷ keys-at (length text) (drop j text)
           unfolding keys-then
           keys-go = keys-more ∙ rw (valued .reads)
 
-          keys-fall : length text - j < length text - i
+          pub keys-fall : length text - j < length text - i
           keys-fall =
               let h : length (drop j text) ≤ length (drop end text) = ok-got (rw (valued .reads) at (value-keeps (drop end text))) in
               omega (arith, key-falls, length-drop j text, length-drop end text)

@@ -6,10 +6,8 @@ use native.Mathlib.Omega.{arith}
 use native.Mathlib.Numerals.{add-one}
 use native.Mathlib.Nat.{add-zero}
 use lib.ListN.{length, getD, set, take, drop, length-append, length-drop, take-append-drop}
+pub use Rattle.lists.specs.Filling.{wrote}
 use lib.Seq.{take-at, take-suc, set-split, drop-append-add, drop-drop, length-take-le, append-snoc}
-
-abbrev pub wrote : ℕ → List ℕ → List ℕ → List ℕ
-wrote at vs s = take at s ++ vs ++ drop (at + length vs) s
 
 pub wrote-none : (at : ℕ) (s : List ℕ) → wrote at [] s ≡ s
 wrote-none at s =

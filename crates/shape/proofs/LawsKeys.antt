@@ -25,77 +25,11 @@ use Rattle.tokens.specs.declared.attributes.Key as token-key
 use Rattle.tokens.specs.declared.attributes.Key.the-variants as key-is
 use Rattle.nodes.specs.Places.{Stands, the, pick}
 use Rattle.nodes.specs.Attributes.{Key, key-at, key, keys-at, keys-by, keys-then, keys-step, key-eats, value-keeps, keys, keys-in, Hold, no-key, one-key, keys-law}
-use Rattle.nodes.proofs.LawsNames.{part-is}
+use Rattle.nodes.proofs.LawsAttributes.{keys-end, keys-none, keys-more, keys-stuck, keys-go, keys-fall}
 use Rattle.schema.specs.Schema.{Form, AttributeRow, rowName, isNamed}
 use Rattle.shape.specs.Table.{wordAt, formAt, attributeBy, attributeAt, attributeCell}
 use Rattle.shape.specs.Parts.{namedOnly, nameListed, keyListed}
 use Rattle.shape.proofs.LawsValues.{count-more, count-end}
-
--- KEYS, as the program finds them
-fail-each : {A B C : Type 0} (m : Read A) (f : A → List ℕ → Read B) (g : A → List ℕ → Read C)
-    → ((a : A) (r : List ℕ) → f a r ≡ fail → g a r ≡ fail) → bind m f ≡ fail → bind m g ≡ fail
-unfolding bind
-fail-each fail f g k e = refl
-fail-each (got a r) f g k e = k a r e
-
-no-pure : {A B : Type 0} {a : A} {b : B} {r : List ℕ} → got a r ≡ fail → got b r ≡ fail
-no-pure e = let z : _≡_ {A = ℕ} 0 1 = cc in absurd (omega arith)
-
-missed : (s : List ℕ) → tokens-keys.key-at s ≡ fail → key-at s ≡ fail
-unfolding tokens-keys.key-at key-at
-missed s e =
-    fail-each (gap-at s) _ _ (λ _ r₁ e₁. fail-each (name-at r₁) _ _ (λ n r₂ e₂. fail-each (equals-at r₂) _ _ (λ _ r₃ e₃. no-pure e₃) e₂) e₁) e
-
-reads-key : (text : List ℕ) (i : ℕ) {from to end : ℕ} (k : Keyed text i from to end)
-    → key-at (drop i text) ≡ got (k .name .value) (drop end text)
-unfolding key-at bind
-reads-key text i k = rw (k .gap .reads, k .name .reads, k .equals .reads)
-
-module _ (text : List ℕ) (i : ℕ) {b : Bool} (eb : b ≡ ends closing (drop i text)) where
-  pub keys-end : b ≡ true → keys-at (length text) (drop i text) ≡ []
-  keys-end e = keys-step (length text) (drop i text) ∙ rw (sym eb ∙ e)
-
-  module _ (on : b ≡ false) {k : token-key.Key} (ek : k ≡ keyed (length text) (tokens-keys.key-at (drop i text))) where
-    pub keys-none : k ≡ key-is.No → keys-at (length text) (drop i text) ≡ []
-    unfolding keys-by
-    keys-none z = let m : key-at (drop i text) ≡ fail = missed (drop i text) (tokens-keys.key-missed text i ek z) in keys-step (length text) (drop i text) ∙ rw (sym eb ∙ on, m)
-
-    module _ {from to end : ℕ} (z : k ≡ key-is.Is from to end) where
-      found : Keyed text i from to end
-      found = tokens-keys.key-found text i ek z
-
-      named : part from to text ≡ found .name .value
-      named = part-is (found .name) (found .gap .inside)
-
-      keys-more : keys-at (length text) (drop i text)
-          ≡ key (part from to text) end ∷ keys-then (value-at (drop end text)) (keys-at (length text))
-      unfolding keys-by
-      keys-more =
-          let p : length text - length (drop end text) ≡ end = simp length-drop (omega (arith, found .equals .inside)) in
-          keys-step (length text) (drop i text) ∙ rw (sym eb ∙ on, reads-key text i found, p, named)
-
-      key-falls : length text - end < length text - i
-      key-falls =
-          let h : length (drop end text) < length (drop i text) = ok-got (rw (reads-key text i found) at (key-eats (drop i text))) in
-          omega (arith, length-drop end text, length-drop i text)
-
-      module _ {x : Step} (ex : x ≡ stepped (length text) (value-at (drop end text))) where
-        keys-stuck : x ≡ No → keys-at (length text) (drop i text) ≡ key (part from to text) end ∷ []
-        unfolding keys-then
-        keys-stuck w = keys-more ∙ rw (fell (length text) (value-at (drop end text)) (sym w ∙ ex))
-
-        module _ {j : ℕ} (w : x ≡ To j) where
-          valued : Went value-at text end j
-          valued = went value-at text end j (value-tails (drop end text)) (sym w ∙ ex)
-
-          keys-go : keys-at (length text) (drop i text) ≡ key (part from to text) end ∷ keys-at (length text) (drop j text)
-          unfolding keys-then
-          keys-go = keys-more ∙ rw (valued .reads)
-
-          keys-fall : length text - j < length text - i
-          keys-fall =
-              let h : length (drop j text) ≤ length (drop end text) = ok-got (rw (valued .reads) at (value-keeps (drop end text))) in
-              omega (arith, key-falls, length-drop j text, length-drop end text)
 
 -- A NAME AMONG THOSE OF ATTRIBUTES
 by-name : (n : ℕ) (s : String) (f : Form) → rowName (attributeBy n s f) ≡ s
