@@ -3,6 +3,7 @@ use mathlib.Core.Path.{_≡_, refl, sym, ap, _∙_}
 use mathlib.Core.List.{List}
 use Prim.Native.Nat.{ℕ}
 use native.Mathlib.Omega.{arith}
+use native.Mathlib.Decide.{ℕ-discrete}
 use lib.ListN.{length}
 use borrow.Author.Needs.{needs}
 use Rattle.lists.specs.Booleans.{clash}
@@ -49,5 +50,25 @@ module _ (text : List ℕ) {n : ℕ} (d i : ℕ) (r : NamePlace) where
           let same : k ≡ j = cc in
           record { number-is = a; start-is = b ∙ t ∙ ap (tagEnd text) same; length-is = c ∙ ap length (w ∙ ap (within text) same) };
     }
+
+-- ---- ONE ANSWER for every input.
+
+same-place : {a b : NamePlace} {n s l : ℕ} → Is a n s l → Is b n s l → a ≡ b
+same-place p q = λ k. record {
+  number = (p .number-is ∙ sym (q .number-is)) k;
+  start = (p .start-is ∙ sym (q .start-is)) k;
+  length = (p .length-is ∙ sym (q .length-is)) k;
+}
+
+pub answered-unique : {text : List ℕ} {n d i : ℕ} {a b : NamePlace} → Answered text n d i a → Answered text n d i b → a ≡ b
+answered-unique {text} {n} {d} {i} {a} {b} p q = by (ℕ-discrete n 0)
+  where
+    found-or : n ≡ 0 → (f : Found) → nameAt text d i ≡ f → a ≡ b
+    found-or z Nothing e = same-place (p .missing z e) (q .missing z e)
+    found-or z (At k) e = same-place (p .found z k e) (q .found z k e)
+
+    by : Dec (n ≡ 0) → a ≡ b
+    by (yes z) = found-or z (nameAt text d i) refl
+    by (no k) = same-place (p .refused k) (q .refused k)
 
 pub ruleset answering = (answered-refused, answered-missing, answered-found, needs)
