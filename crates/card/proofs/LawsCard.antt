@@ -8,7 +8,8 @@ use native.Mathlib.Omega.{arith}
 use native.Mathlib.Numerals.{add-one}
 use borrow.Author.Needs.{needs}
 use lib.ListN.{length, getD, drop, List·getD-append}
-use Rattle.cifti.specs.Answer.{kindNumber, unused}
+use Rattle.cifti.specs.Maps.{kindNumber}
+use Rattle.cifti.specs.Answer.{unused}
 use Rattle.cifti.specs.declared.answer.Dimension.{Dimension}
 use Rattle.cifti.specs.declared.answer.Answer.{Answer}
 use Rattle.card.specs.declared.line.Line.{Line}

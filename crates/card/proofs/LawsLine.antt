@@ -13,7 +13,8 @@ use lib.Seq.{drop-cons}
 use Rattle.records.specs.Record.{isVoxel, structureOf, payloadOf, iOf, jOf, kOf, locationOf}
 use Rattle.records.specs.declared.counters.Index.{Index}
 use Rattle.records.specs.declared.counters.Vertex.{Vertex}
-use Rattle.cifti.specs.Answer.{kindNumber, hasStretch, unused}
+use Rattle.cifti.specs.Maps.{kindNumber, isBrain}
+use Rattle.cifti.specs.Answer.{unused}
 use Rattle.cifti.specs.declared.answer.Dimension.{Dimension}
 use Rattle.cifti.specs.declared.answer.Answer.{Answer}
 use Rattle.card.specs.declared.line.Line.the-variants as lines
@@ -34,7 +35,7 @@ pub ruleset recordSteps = (voxel-line, surface-line, needs)
 
 -- ---- A dimension's lines.
 
-module _ (d : ℕ) (x : Dimension) {b : Bool} (asked : b ≡ hasStretch (x .kind)) where
+module _ (d : ℕ) (x : Dimension) {b : Bool} (asked : b ≡ isBrain (x .kind)) where
   pub line-with : b ≡ true → lines.MapAt d (x .kind) (x .length) (x .start) ≡ mapLine d x
   unfolding mapLine
   line-with e = rw (sym asked ∙ e) refl
@@ -52,7 +53,7 @@ module _ (x : Dimension) {n : ℕ} (asked : n ≡ kindNumber (x .kind)) where
   unfolding dimensionLine
   one-line h = rw (ne-eqb (kindNumber (x .kind)) 0 λ e. h (asked ∙ e)) refl
 
-pub begins : (x : Dimension) (at : ℕ) {b : Bool} → b ≡ hasStretch (x .kind) → (b && eqb (x .start .0) at) ≡ beginsAt at x
+pub begins : (x : Dimension) (at : ℕ) {b : Bool} → b ≡ isBrain (x .kind) → (b && eqb (x .start .0) at) ≡ beginsAt at x
 unfolding beginsAt
 begins x at e = rw e refl
 

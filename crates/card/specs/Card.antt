@@ -5,7 +5,8 @@ use Prim.Native.Nat.{ℕ, zero, suc, _+_}
 use lib.Dec.{eqb}
 use lib.ListN.{length, getD, take, drop}
 use Rattle.records.specs.Record.{Location, onSurface, inVolume, locationOf}
-use Rattle.cifti.specs.Answer.{kindNumber, hasStretch, unused}
+use Rattle.cifti.specs.Maps.{kindNumber, isBrain}
+use Rattle.cifti.specs.Answer.{unused}
 use Rattle.cifti.specs.declared.answer.Dimension.{Dimension}
 use Rattle.cifti.specs.declared.answer.Answer.{Answer}
 use Rattle.card.specs.declared.line.Line.{Line}
@@ -14,7 +15,7 @@ use Rattle.card.specs.declared.line.Line.the-variants.{Accepted, Refused
 -- ---- One line for each dimension that exists, in order: its kind and length, and where its stretch begins if it has one.
 
 unfoldable pub mapLine : (d : ℕ) → Dimension → Line
-mapLine d x = cond (hasStretch (x .kind)) (MapAt d (x .kind) (x .length) (x .start)) (Map d (x .kind) (x .length))
+mapLine d x = cond (isBrain (x .kind)) (MapAt d (x .kind) (x .length) (x .start)) (Map d (x .kind) (x .length))
 
 unfoldable pub dimensionLine : (d : ℕ) → Dimension → List Line
 dimensionLine d x = cond (eqb (kindNumber (x .kind)) 0) [] (mapLine d x ∷ [])
@@ -38,7 +39,7 @@ numbered n (r ∷ l) = recordLine n r ∷ numbered (suc n) l
 
 -- how long the stretch is that begins at a place; two dimensions of one map tell the same stretch
 unfoldable pub beginsAt : (at : ℕ) → Dimension → Bool
-beginsAt at x = hasStretch (x .kind) && eqb (x .start .0) at
+beginsAt at x = isBrain (x .kind) && eqb (x .start .0) at
 
 unfoldable pub lengthFrom : (at : ℕ) → List Dimension → ℕ
 lengthFrom at [] = 0

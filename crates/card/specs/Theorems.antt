@@ -6,7 +6,7 @@ use lib.Dec.{eqb}
 use Prim.Native.Nat.{ℕ, zero, suc, _+_, _≤_}
 use native.Mathlib.Omega.{arith}
 use lib.ListN.{length, take, drop, length-append, length-take, length-drop}
-use Rattle.cifti.specs.Answer.{kindNumber}
+use Rattle.cifti.specs.Maps.{kindNumber}
 use Rattle.cifti.specs.declared.answer.Dimension.{Dimension}
 use Rattle.cifti.specs.declared.answer.Answer.{Answer}
 use Rattle.card.specs.Card.{mapLine, dimensionLine, dimensionLines, numbered, lengthFrom, recordLines, cardBy, dimensionsOf, card}

@@ -2,7 +2,7 @@
 use cifti::Answer;
 use cifti::Dimension;
 use cifti::Kind;
-use cifti::has_stretch;
+use cifti::is_brain;
 use cifti::kind_number;
 use records::Index;
 use records::Place;
@@ -68,7 +68,7 @@ fn map_line(d: u64, dimension: Dimension) -> Line
 {
     let kind = dimension.kind;
     let start = dimension.start;
-    if has_stretch(kind) {
+    if is_brain(kind) {
         return Line::MapAt {
             dimension: d,
             kind: kind,
@@ -99,7 +99,7 @@ fn begins_at(dimension: Dimension, at: usize) -> bool
 {
     let kind = dimension.kind;
     let start = dimension.start;
-    has_stretch(kind) & (start.0 == at)
+    is_brain(kind) & (start.0 == at)
 }
 
 // How long the stretch is that begins at `at`; 0 where none begins.

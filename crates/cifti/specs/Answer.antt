@@ -16,7 +16,7 @@ use Rattle.cifti.specs.Maps.{Model, Map, SeriesValues, isBrain, isSeries
 use Rattle.cifti.specs.Conditions.{refusal}
 use Rattle.cifti.specs.Text.{Answers}
 use Rattle.cifti.specs.declared.answer.Kind.{Kind}
-use Rattle.cifti.specs.declared.answer.Kind.the-variants.{None, Brain, Series, Scalars}
+use Rattle.cifti.specs.declared.answer.Kind.the-variants.{None}
 use Rattle.cifti.specs.declared.answer.Series as S
 use Rattle.cifti.specs.declared.answer.Dimension.{Dimension}
 use Rattle.cifti.specs.declared.answer.Answer.{Answer}
@@ -39,19 +39,6 @@ unfoldable pub filledWith : (new old : List ℕ) → List ℕ
 filledWith new old = new ++ drop (length new) old
 
 -- ---- The answer: number 0, and per dimension kind, length, stretch start, and for series start, step, exponent and unit. What does not apply is 0.
-
--- the kinds, numbered; 0: there is no such dimension
-abbrev pub kindNumber : Kind → ℕ
-kindNumber None = 0
-kindNumber Brain = 1
-kindNumber Series = 2
-kindNumber Scalars = 3
-
-abbrev pub hasStretch : Kind → Bool
-hasStretch None = false
-hasStretch Brain = true
-hasStretch Series = false
-hasStretch Scalars = false
 
 abbrev pub noSeries : S.Series
 noSeries = record { start = noDecimal; step = noDecimal; exponent = pos 0; unit = 0 }

@@ -1,6 +1,7 @@
 pub mod Words
 pub mod Rows
 pub mod Maps
+pub mod KindLaws
 pub mod Conditions
 pub mod Text
 pub mod TextLaws

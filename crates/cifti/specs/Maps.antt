@@ -1,17 +1,22 @@
 -- WHAT A HEADER SAYS: the maps of a document, in text order, with their numbers read. It means something for documents that pass conditions 4 to 7.
 use mathlib.Core.List.{List, [], _∷_}
 use mathlib.Core.Bool.{Bool, true, false, _&&_, cond}
-use Prim.Native.Nat.{ℕ, _+_}
+use mathlib.Core.Path.{_≡_, refl, sym, ap, _∙_}
+use Prim.Native.Nat.{ℕ, _+_, _%_}
+use Prim.Native.String.{String}
+use borrow.Author.Tests.{eqb-true}
 use lib.Dec.{eqb, leb, ltb}
 use lib.IntN.{ℤ}
-use lib.ListN.{length}
+use lib.ListN.{length, getD}
 use Rattle.lists.specs.Lists.{those, total, each, eachIn}
+use Rattle.grammar.specs.Bytes.{ascii}
 use Rattle.grammar.specs.Document.{Element}
 use Rattle.grammar.specs.Look.{Word, is, attr, has, children, textOf}
 use Rattle.numbers.specs.Numbers.{value, values, commaValues, exponentValue, decimalValue}
 use Rattle.numbers.specs.declared.Decimal.{Decimal}
 use Rattle.records.specs.Record.{Location, onSurface, inVolume}
 use Rattle.schema.specs.Schema.{Case, _⇒_}
+use Rattle.cifti.specs.Rows.{ElementKind, words, brainModels, series, scalars}
 use Rattle.cifti.specs.Words.{structures, units, numberIn}
 use Rattle.cifti.specs.declared.answer.Kind.{Kind}
 use Rattle.cifti.specs.declared.answer.Kind.the-variants.{None, Brain, Series, Scalars}
@@ -43,14 +48,14 @@ pub record SeriesValues : Type 0 where
   pub exponent : ℤ
   pub unit : ℕ
 
--- A map is what it holds. A map of another kind holds no models, or no names, and its volume and series are of no meaning.
+-- A map is what it holds. A map of another kind holds no models, and its volume and series are of no meaning.
 pub record Map : Type 0 where
   pub dimensions : List ℕ
   pub kind : Kind
   pub models : List Model
   pub volume : Voxel
   pub series : SeriesValues
-  pub names : ℕ
+  pub counted : ℕ
 
 -- ---- THE KINDS: the words of IndicesMapToDataType, each beside the kind that it names. No other word names one.
 
@@ -65,23 +70,81 @@ unfoldable pub kindIn : List (Case Kind) → Word → Kind
 kindIn [] w = None
 kindIn ((s ⇒ k) ∷ l) w = cond (is s w) k (kindIn l w)
 
+unfoldable pub caseWord : Case Kind → String
+caseWord (s ⇒ k) = s
+
+unfoldable pub caseKind : Case Kind → Kind
+caseKind (s ⇒ k) = k
+
+unfoldable pub wordsOfKinds : List String
+wordsOfKinds = each caseWord kindWords
+
+unfoldable pub allKinds : List Kind
+allKinds = each caseKind kindWords
+
+-- the kinds, numbered; 0: there is no such dimension
+abbrev pub kindNumber : Kind → ℕ
+kindNumber None = 0
+kindNumber Brain = 1
+kindNumber Series = 2
+kindNumber Scalars = 3
+
+-- the place of a kind's word in the table, from 0, by its number; None stands behind the last
+abbrev pub placeOf : (number : ℕ) → ℕ
+placeOf n = (n + 3) % 4
+
+abbrev pub kindPlace : Kind → ℕ
+kindPlace k = placeOf (kindNumber k)
+
+-- the kind of element that a map of the kind is
+unfoldable pub rowFor : Kind → ElementKind
+rowFor None = words
+rowFor Brain = brainModels
+rowFor Series = series
+rowFor Scalars = scalars
+
+-- the name of the children that make up the length of a map: a model adds its IndexCount, any other child 1. No element has the empty name.
+abbrev pub countedName : Kind → String
+countedName None = ""
+countedName Brain = "BrainModel"
+countedName Series = ""
+countedName Scalars = "NamedMap"
+
+-- the same, byte by byte, as the code has it
+abbrev pub countedBytes : Kind → List ℕ
+countedBytes None = []
+countedBytes Brain = 66 ∷ 114 ∷ 97 ∷ 105 ∷ 110 ∷ 77 ∷ 111 ∷ 100 ∷ 101 ∷ 108 ∷ []
+countedBytes Series = []
+countedBytes Scalars = 78 ∷ 97 ∷ 109 ∷ 101 ∷ 100 ∷ 77 ∷ 97 ∷ 112 ∷ []
+
+pub counted-bytes : (k : Kind) → countedBytes k ≡ ascii (countedName k)
+counted-bytes None = refl
+counted-bytes Brain = refl
+counted-bytes Series = refl
+counted-bytes Scalars = refl
+
+-- such a map holds models, and fills a stretch of the records
 abbrev pub isBrain : Kind → Bool
-isBrain None = false
-isBrain Brain = true
-isBrain Series = false
-isBrain Scalars = false
+isBrain k = eqb (kindNumber k) 1
 
 abbrev pub isSeries : Kind → Bool
-isSeries None = false
-isSeries Brain = false
-isSeries Series = true
-isSeries Scalars = false
+isSeries k = eqb (kindNumber k) 2
 
 abbrev pub isScalars : Kind → Bool
-isScalars None = false
-isScalars Brain = false
-isScalars Series = false
-isScalars Scalars = true
+isScalars k = eqb (kindNumber k) 3
+
+-- no two kinds have one number
+pub kind-placed : (k : Kind) → getD allKinds (kindPlace k) None ≡ k
+unfolding allKinds each caseKind kindWords
+kind-placed None = refl
+kind-placed Brain = refl
+kind-placed Series = refl
+kind-placed Scalars = refl
+
+pub same-kind : (j k : Kind) → eqb (kindNumber j) (kindNumber k) ≡ true → j ≡ k
+same-kind j k h =
+    let e : kindNumber j ≡ kindNumber k = eqb-true _ _ h in
+    sym (kind-placed j) ∙ ap (λ n. getD allKinds (placeOf n) None) e ∙ kind-placed k
 
 -- ---- Read off the elements.
 
@@ -130,7 +193,7 @@ mapOf e = record {
   models = each modelOf (children "BrainModel" e);
   volume = sizesOf e;
   series = seriesOf e;
-  names = length (children "NamedMap" e);
+  counted = length (children (countedName (kindOfMap e)) e);
 }
 
 -- every MatrixIndicesMap in a Matrix in the root
@@ -177,12 +240,9 @@ covers n m = leb (m .offset) n && ltb n (m .offset + m .count)
 
 -- ---- Of a map.
 
--- sum of IndexCount, series points, NamedMaps
+-- sum of IndexCount, series points, or else the number of the children that the kind counts
 unfoldable pub lengthBy : Kind → Map → ℕ
-lengthBy None m = 0
-lengthBy Brain m = total (λ b. b .count) (m .models)
-lengthBy Series m = m .series .points
-lengthBy Scalars m = m .names
+lengthBy k m = cond (isBrain k) (total (λ b. b .count) (m .models)) (cond (isSeries k) (m .series .points) (m .counted))
 
 unfoldable pub lengthOf : Map → ℕ
 lengthOf m = lengthBy (m .kind) m
@@ -191,5 +251,5 @@ unfoldable pub brainMaps : List Map → List Map
 brainMaps l = those (λ m. isBrain (m .kind)) l
 
 unfoldable pub mapWords : Unit {0}
-unfolding kindWords kindIn listedBy modelOf sizesBy sizesOf seriesOf kindOfMap dimensionsOf mapOf mapElements mapsOf vertexNumbers threes voxelsOf sameVoxel voxelAt locationsBy locations covers lengthBy lengthOf brainMaps
+unfolding kindWords kindIn caseWord caseKind wordsOfKinds allKinds rowFor listedBy modelOf sizesBy sizesOf seriesOf kindOfMap dimensionsOf mapOf mapElements mapsOf vertexNumbers threes voxelsOf sameVoxel voxelAt locationsBy locations covers lengthBy lengthOf brainMaps
 mapWords = tt

@@ -16,7 +16,7 @@ use Rattle.cifti.specs.Text.{Answers}
 
 -- 18: no such dimension, it is not scalars, or the index is not below its length
 unfoldable pub holdsName : (index : ℕ) → Map → Bool
-holdsName i m = isScalars (m .kind) && ltb i (m .names)
+holdsName i m = isScalars (m .kind) && ltb i (m .counted)
 
 unfoldable pub noName : (dimension index : ℕ) → List Map → Bool
 noName d i l = not (any (λ m. any (eqb d) (m .dimensions) && holdsName i m) l)

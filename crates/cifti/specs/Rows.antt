@@ -1,5 +1,8 @@
 -- THE ELEMENTS (000, 002): the table of document 01, a row for each kind of element.
 use mathlib.Core.List.{List, [], _∷_, _++_}
+use mathlib.Core.Path.{_≡_, refl}
+use Prim.Native.Nat.{ℕ}
+use lib.ListN.{getD}
 use Rattle.numbers.specs.Numbers.{whole, volumeDimensions, dimensionList, exponent, decimal, wholes, sixteen}
 use Rattle.schema.specs.Schema.{anyValue, word, number, AttributeRow, required, anyText, numbers, once, atMostOnce, anyTimes, atLeastOnce, neededBelow, Case, _⇒_, always, chosen, child, anyOrder, Row, branch, leaf}
 use Rattle.cifti.specs.Words.{structures, units}
@@ -9,6 +12,49 @@ pub data ElementKind : Type 0 where
   cifti matrix metaData md words : ElementKind
   brainModels series scalars namedMap : ElementKind
   volume transform surface voxels vertexIndices voxelIndices : ElementKind
+
+-- all of them, each at its number
+unfoldable pub elementKinds : List ElementKind
+elementKinds =
+    cifti ∷ matrix ∷ metaData ∷ md ∷ words
+    ∷ brainModels ∷ series ∷ scalars ∷ namedMap
+    ∷ volume ∷ transform ∷ surface ∷ voxels ∷ vertexIndices ∷ voxelIndices
+    ∷ []
+
+unfoldable pub numberOf : ElementKind → ℕ
+numberOf cifti = 0
+numberOf matrix = 1
+numberOf metaData = 2
+numberOf md = 3
+numberOf words = 4
+numberOf brainModels = 5
+numberOf series = 6
+numberOf scalars = 7
+numberOf namedMap = 8
+numberOf volume = 9
+numberOf transform = 10
+numberOf surface = 11
+numberOf voxels = 12
+numberOf vertexIndices = 13
+numberOf voxelIndices = 14
+
+pub at-number : (k : ElementKind) → getD elementKinds (numberOf k) cifti ≡ k
+unfolding elementKinds numberOf
+at-number cifti = refl
+at-number matrix = refl
+at-number metaData = refl
+at-number md = refl
+at-number words = refl
+at-number brainModels = refl
+at-number series = refl
+at-number scalars = refl
+at-number namedMap = refl
+at-number volume = refl
+at-number transform = refl
+at-number surface = refl
+at-number voxels = refl
+at-number vertexIndices = refl
+at-number voxelIndices = refl
 
 unfoldable pub mapKinds : List (Case ElementKind)
 mapKinds =

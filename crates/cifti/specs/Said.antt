@@ -1,63 +1,64 @@
--- WHAT AN ANSWER SAYS, in the paper's terms, for each case of its kinds; and that it says so of the maps: where a stretch begins, and what stands in it.
+-- WHAT AN ANSWER SAYS, in the paper's terms; and that it says so of the maps: where a stretch begins, and what stands in it.
 use mathlib.Core.Path.{_≡_, refl, ap, _∙_}
 use mathlib.Core.List.{List, [], _∷_, _++_}
 use mathlib.Core.Bool.{Bool, true, false, _||_, cond, true≢false}
+use mathlib.Core.Option.{Option, some}
+use mathlib.Core.Option
 use Prim.Native.Nat.{ℕ, zero, suc, _+_, _<_}
 use native.Mathlib.Nat.{le-of-suc-le-suc, not-suc-le-zero}
 use native.Mathlib.Omega.{arith}
 use lib.Dec.{eqb}
-use lib.IntN.{ℤ}
 use lib.ListN.{length, getD, List·getD-append}
 use lib.Seq.{getD-append-add}
-use Rattle.numbers.specs.declared.Decimal.{Decimal}
 use Rattle.lists.specs.Lists.{any, total, eachIn, those, countUp, table}
 use Rattle.cifti.specs.Maps.{Map, brainMaps, lengthOf, isBrain, isSeries}
 use Rattle.cifti.specs.Answer.{recordAt, stretch, stretches, noSeries, asSeries, described, reach, dimensionAt}
 use Rattle.cifti.specs.declared.answer.Kind.{Kind}
-use Rattle.cifti.specs.declared.answer.Kind.the-variants.{None, Brain, Series, Scalars}
+use Rattle.cifti.specs.declared.answer.Series as S
 use Rattle.cifti.specs.declared.answer.Dimension.{Dimension}
 
--- kind, length, stretch start, and for series start, step, exponent and unit
-pub data Says : Type 0 where
-  no-dimension : Says
-  brain : (length start : ℕ) → Says
-  series : (length : ℕ) (start step : Decimal) (exponent : ℤ) (unit : ℕ) → Says
-  scalars : (length : ℕ) → Says
+-- kind, length, for brain maps stretch start, and for series start, step, exponent and unit
+pub record Says : Type 0 where
+  pub kind : Kind
+  pub length : ℕ
+  pub start : Option ℕ
+  pub series : Option S.Series
 
-unfoldable pub saidBy : Kind → Dimension → Says
-saidBy None d = no-dimension
-saidBy Brain d = brain (d .length) (d .start .0)
-saidBy Series d = series (d .length) (d .series .start) (d .series .step) (d .series .exponent) (d .series .unit)
-saidBy Scalars d = scalars (d .length)
+abbrev given : {A : Type 0} → Bool → A → Option A
+given b a = cond b (some a) Option.none
 
 unfoldable pub said : Dimension → Says
-said d = saidBy (d .kind) d
+said d = record {
+  kind = d .kind;
+  length = d .length;
+  start = given (isBrain (d .kind)) (d .start .0);
+  series = given (isSeries (d .kind)) (d .series);
+}
 
 -- ---- Of a map whose stretch begins at `at`.
 
-unfoldable pub saysBy : (at : ℕ) → Kind → Map → Says
-saysBy at None m = no-dimension
-saysBy at Brain m = brain (lengthOf m) at
-saysBy at Series m = series (lengthOf m) (m .series .start) (m .series .step) (m .series .exponent) (m .series .unit)
-saysBy at Scalars m = scalars (lengthOf m)
-
 unfoldable pub saysOf : (at : ℕ) → Map → Says
-saysOf at m = saysBy at (m .kind) m
+saysOf at m = record {
+  kind = m .kind;
+  length = lengthOf m;
+  start = given (isBrain (m .kind)) at;
+  series = given (isSeries (m .kind)) (asSeries (m .series));
+}
 
 pub said-of : (at : ℕ) (m : Map) → said (described at m) ≡ saysOf at m
-unfolding said saidBy described saysOf saysBy asSeries
-said-of at m = go (m .kind)
+unfolding said described saysOf
+said-of at m = go (isBrain (m .kind)) (isSeries (m .kind))
   where
-    go : (k : Kind) → saidBy k (record {
-      kind = k;
+    go : (b s : Bool) → _≡_ {A = Says} (record {
+      kind = m .kind;
       length = lengthOf m;
-      start = record { 0 = cond (isBrain k) at 0 };
-      series = cond (isSeries k) (asSeries (m .series)) noSeries;
-    }) ≡ saysBy at k m
-    go None = refl
-    go Brain = refl
-    go Series = refl
-    go Scalars = refl
+      start = given b (cond b at 0);
+      series = given s (cond s (asSeries (m .series)) noSeries);
+    }) (record { kind = m .kind; length = lengthOf m; start = given b at; series = given s (asSeries (m .series)) })
+    go true true = refl
+    go true false = refl
+    go false true = refl
+    go false false = refl
 
 -- ---- Of the first map that lists the dimension: it begins where the stretches of the maps before it end.
 

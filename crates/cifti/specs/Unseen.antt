@@ -17,7 +17,7 @@ use Rattle.numbers.specs.Numbers.{values, commaValues}
 use Rattle.schema.specs.Schema.{shaped, numbered}
 use Rattle.schema.specs.Erased.{walk-erased, shaped-erased, numbered-erased}
 use Rattle.cifti.specs.Rows.{cifti, rows}
-use Rattle.cifti.specs.Maps.{Map, listedBy, modelOf, sizesBy, sizesOf, seriesOf, kindOfMap, dimensionsOf, mapOf, mapElements, mapsOf}
+use Rattle.cifti.specs.Maps.{Map, listedBy, modelOf, sizesBy, sizesOf, seriesOf, kindOfMap, dimensionsOf, countedName, mapOf, mapElements, mapsOf}
 use Rattle.cifti.specs.Conditions.{_when_, textTooLong, noDocument, rootWrong, kindNotRead, shapeWrong, numberWrong, ofMaps, conditionsOfHeader, conditionsOfTable, conditions, first, refusal}
 use Rattle.cifti.specs.Names.{noName, nameRefusal}
 use Rattle.cifti.specs.Answer.{answerBy, recordsBy, mapsIn, answerTo, recordsAfter}
@@ -49,13 +49,13 @@ series-erased : (e : Element) → seriesOf (plain e) ≡ seriesOf e
 unfolding seriesOf
 series-erased e = rw (attr-erased "NumberOfSeriesPoints" e, attr-erased "SeriesStart" e, attr-erased "SeriesStep" e, attr-erased "SeriesExponent" e, attr-erased "SeriesUnit" e) refl
 
-names-erased : (e : Element) → length (children "NamedMap" (plain e)) ≡ length (children "NamedMap" e)
-names-erased e = ap length (children-erased "NamedMap" e) ∙ length-each plain (children "NamedMap" e)
+counted-erased : (s : String) (e : Element) → length (children s (plain e)) ≡ length (children s e)
+counted-erased s e = ap length (children-erased s e) ∙ length-each plain (children s e)
 
 map-erased : (e : Element) → mapOf (plain e) ≡ mapOf e
 unfolding mapOf dimensionsOf kindOfMap
 map-erased e =
-    rw (attr-erased "AppliesToMatrixDimension" e, attr-erased "IndicesMapToDataType" e, models-erased e, sizes-erased e, series-erased e, names-erased e) refl
+    rw (attr-erased "AppliesToMatrixDimension" e, attr-erased "IndicesMapToDataType" e, models-erased e, sizes-erased e, series-erased e, counted-erased (countedName (kindOfMap e)) e) refl
 
 elements-erased : (e : Element) → mapElements (plain e) ≡ each plain (mapElements e)
 unfolding mapElements each eachIn

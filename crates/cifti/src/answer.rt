@@ -2,7 +2,10 @@
 use numbers::Decimal;
 use records::Place;
 ghost use mathlib.Core.Path.{_≡_};
-ghost use Rattle.cifti.specs.Answer.{kindNumber, hasStretch, noSeries, dimensionBy, refusedWith};
+ghost use Rattle.cifti.specs.Maps.{kindNumber, kindPlace, isBrain, isSeries};
+ghost use Rattle.cifti.specs.declared.answer.Kind.the-variants as kinds;
+ghost use Prim.Native.Nat.{min};
+ghost use Rattle.cifti.specs.Answer.{noSeries, dimensionBy, refusedWith};
 ghost use Rattle.cifti.specs.Answer as answers;
 
 // What a matrix dimension is; None: there is no such dimension, or the answer is a refusal.
@@ -25,16 +28,33 @@ pub fn kind_number(kind: Kind) -> u64
     }
 }
 
-// Whether a map of this kind fills a stretch of the records.
-pub fn has_stretch(kind: Kind) -> bool
-    ensures { λ r. ⌜ r ≡ hasStretch kind ⌝ }
+// The kind that stands at this place of the table of words; None past its end.
+pub fn kind_at(place: u64) -> Kind
+    ensures { λ r. ⌜ kindPlace r ≡ min place (kindPlace kinds.None) ⌝ }
 {
-    match kind {
-        Kind::None => false,
-        Kind::Brain => true,
-        Kind::Series => false,
-        Kind::Scalars => false,
+    if place == 0 {
+        return Kind::Brain;
     }
+    if place == 1 {
+        return Kind::Series;
+    }
+    if place == 2 {
+        return Kind::Scalars;
+    }
+    Kind::None
+}
+
+// A map of models fills a stretch of the records.
+pub fn is_brain(kind: Kind) -> bool
+    ensures { λ r. ⌜ r ≡ isBrain kind ⌝ }
+{
+    kind_number(kind) == 1
+}
+
+pub fn is_series(kind: Kind) -> bool
+    ensures { λ r. ⌜ r ≡ isSeries kind ⌝ }
+{
+    kind_number(kind) == 2
 }
 
 // All zero where the dimension is no series. The unit: 0 second, 1 hertz, 2 meter, 3 radian.

@@ -15,7 +15,8 @@ use mir.Syntax.{w64}
 use mir.Val.{Fits, SFits, toZ, ofZ}
 use mir.ValLaws.{toZ-ofZ}
 use Rattle.records.specs.Fill.{wrote, wrote-none, wrote-on, wrote-next, length-wrote}
-use Rattle.cifti.specs.Answer.{kindNumber, filledWith, unused}
+use Rattle.cifti.specs.Maps.{kindNumber}
+use Rattle.cifti.specs.Answer.{filledWith, unused}
 use Rattle.cifti.specs.declared.answer.Dimension.{Dimension}
 use Rattle.cifti.specs.declared.answer.Answer.{Answer}
 use Rattle.flat.specs.Flat.{complement, dimensionNumbers, headNumbers, answerNumbers, told}

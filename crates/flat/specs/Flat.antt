@@ -6,7 +6,8 @@ use lib.Dec.{leb}
 use lib.IntN.{ℤ, pos, negsuc}
 use lib.ListN.{length, getD, replicate}
 use Rattle.numbers.specs.declared.Decimal.{Decimal}
-use Rattle.cifti.specs.Answer.{kindNumber, filledWith, unused}
+use Rattle.cifti.specs.Maps.{kindNumber}
+use Rattle.cifti.specs.Answer.{filledWith, unused}
 use Rattle.cifti.specs.declared.answer.Series.{Series}
 use Rattle.cifti.specs.declared.answer.Dimension.{Dimension}
 use Rattle.cifti.specs.declared.answer.Answer.{Answer}

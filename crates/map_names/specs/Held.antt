@@ -3,11 +3,11 @@ use mathlib.Core.Path.{_≡_, refl, sym, ap, _∙_, subst}
 use mathlib.Core.List.{List, [], _∷_, _++_}
 use mathlib.Core.Option.{Option, some}
 use mathlib.Core.Option
-use mathlib.Core.Bool.{Bool, true, false, cond, _&&_, false≢true}
+use mathlib.Core.Bool.{Bool, true, false, cond, _&&_}
 use Prim.Native.Nat.{ℕ, zero, suc, _+_, _≤_, _<_}
 use native.Mathlib.Omega.{arith}
 use lib.Dec.{ltb}
-use lib.ListN.{length, getD}
+use lib.ListN.{length, getD, replicate}
 use borrow.Author.Tests.{eqb-true, le-ltb}
 use Rattle.lists.specs.Lists.{all, count, each, eachIn, those}
 use Rattle.lists.specs.Booleans.{never-some, and-left}
@@ -15,14 +15,14 @@ use Rattle.grammar.specs.Document.{Element}
 use Rattle.grammar.specs.Look.{Word, is, nameOf, contentsOf, withinOf, elements, children}
 use Rattle.grammar.specs.Parser.{same}
 use Rattle.schema.specs.Schema.{branch, anyOrder, kindOf, kindBy, childShaped, standsSo}
-use Rattle.cifti.specs.Rows.{ElementKind, rows, namedMap, scalars, series, brainModels, mapAttributes, seriesAttributes}
-use Rattle.cifti.specs.Maps.{mapOf, kindOfMap, isScalars}
+use Rattle.cifti.specs.Rows.{ElementKind, rows, namedMap, mapAttributes}
+use Rattle.cifti.specs.Maps.{mapOf, kindOfMap, isScalars, kindWords, caseKind, allKinds, rowFor, countedName}
 use Rattle.cifti.specs.Names.{holdsName}
 use Rattle.cifti.specs.declared.answer.Kind.{Kind}
-use Rattle.cifti.specs.declared.answer.Kind.the-variants.{None, Brain, Series, Scalars}
-use Rattle.maps.specs.Good.{Good, GoodAs, good-as, AllGood, none-left, one-good, good-children, row-met}
-use Rattle.maps.specs.Kinds.{namedRows, scalarRows, brainRows, brain-children, scalars-children}
-use Rattle.maps.specs.MapKind.{GoodMap, rowFor, isKind, rowsName, absent}
+use Rattle.cifti.specs.declared.answer.Kind.the-variants.{Scalars}
+use Rattle.maps.specs.Good.{Good, GoodAs, good-as, AllGood, none-left, one-good, row-met}
+use Rattle.maps.specs.Kinds.{namedRows, scalarRows, scalars-children}
+use Rattle.maps.specs.MapKind.{GoodMap, of-all, rowsName, namesChild, childless, good-scalars, scalars-kind}
 
 -- the names of NamedMaps, each as it is written
 unfoldable pub namesIn : List Element → List Word
@@ -81,27 +81,34 @@ all-named (e ∷ l) (one-good h m) =
 
 -- ---- By the kind of a map.
 
-rows-series : rows series ≡ branch (mapAttributes ++ seriesAttributes) anyOrder []
-unfolding rows
-rows-series = refl
+all-without : each (λ k. cond (isScalars k) false (namesChild "NamedMap" (rows (rowFor k)))) allKinds ≡ replicate (length allKinds) false
+unfolding allKinds kindWords caseKind each rowFor rows mapAttributes namesChild rowsName is same
+all-without = refl
+
+-- only a scalars map has NamedMaps
+no-named-maps : {e : Element} → GoodMap e → isScalars (kindOfMap e) ≡ false → children "NamedMap" e ≡ []
+no-named-maps {e} g b =
+    let h = of-all (λ k. cond (isScalars k) false (namesChild "NamedMap" (rows (rowFor k)))) false allKinds all-without (g .known) in
+    childless "NamedMap" (g .good) (rw b at h)
 
 -- what the kind of a map says of its NamedMaps
 record Holds (k : Kind) (e : Element) : Type 0 where
   named : Named (children "NamedMap" e)
-  told : (i : ℕ) → (isScalars k && ltb i (length (children "NamedMap" e))) ≡ ltb i (length (children "NamedMap" e))
-
-none-held : (k : Kind) (e : Element) → children "NamedMap" e ≡ [] → isScalars k ≡ false → Holds k e
-none-held k e h s = record { named = rw h no-named; told = λ i. rw (h, s) (sym (le-ltb i 0 (omega arith))) }
-
-holds-by : (k : Kind) {e : Element} → isKind k ≡ true → Good (rowFor k) e → Holds k e
-unfolding rowFor isKind children rowsName is same
-holds-by None {e} h g = absurd (false≢true h)
-holds-by Brain {e} h g = none-held Brain e (absent "NamedMap" brainRows (elements (contentsOf e)) refl (brain-children g)) refl
-holds-by Series {e} h g = none-held Series e (absent "NamedMap" _ (elements (contentsOf e)) refl (good-children g _ _ _ rows-series)) refl
-holds-by Scalars {e} h g = record { named = all-named (elements (contentsOf e)) (scalars-children g); told = λ i. refl }
+  told : (i : ℕ) → (isScalars k && ltb i (length (children (countedName k) e))) ≡ ltb i (length (children "NamedMap" e))
 
 holds : {e : Element} → GoodMap e → Holds (kindOfMap e) e
-holds {e} g = holds-by (kindOfMap e) (g .known) (g .good)
+unfolding children
+holds {e} g = go (isScalars (kindOfMap e)) refl
+  where
+    scalar : kindOfMap e ≡ Scalars → Holds (kindOfMap e) e
+    scalar h = record { named = all-named (elements (contentsOf e)) (scalars-children (good-scalars g h)); told = λ i. rw h refl }
+
+    other : isScalars (kindOfMap e) ≡ false → children "NamedMap" e ≡ [] → Holds (kindOfMap e) e
+    other f h = record { named = rw h no-named; told = λ i. rw (f, h) (sym (le-ltb i 0 (omega arith))) }
+
+    go : (b : Bool) → isScalars (kindOfMap e) ≡ b → Holds (kindOfMap e) e
+    go true h = scalar (scalars-kind (kindOfMap e) h)
+    go false h = other h (no-named-maps g h)
 
 pub each-named : {e : Element} → GoodMap e → Named (children "NamedMap" e)
 each-named g = holds g .named

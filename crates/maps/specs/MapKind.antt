@@ -1,96 +1,109 @@
--- THE KIND OF A MAP, and its row: the words that name kinds are the words that choose rows, each beside its kind's.
+-- THE KIND OF A MAP, and its row: the words that name kinds are the words that choose rows, each beside its kind's. What holds of every kind is computed over the table of words.
 use mathlib.Core.Path.{_≡_, refl, sym, ap, _∙_}
 use mathlib.Core.List.{List, [], _∷_}
 use mathlib.Core.Option.{Option, some}
 use mathlib.Core.Option
-use mathlib.Core.Bool.{Bool, true, false, _&&_, _||_, cond, true≢false, false≢true}
+use mathlib.Core.Bool.{Bool, true, false, _||_, cond, true≢false}
+use Prim.Native.Nat.{ℕ, min}
 use Prim.Native.String.{String}
 use native.Mathlib.Omega.{arith}
+use lib.ListN.{length, replicate}
 use borrow.Author.Needs.{needs}
-use Rattle.lists.specs.Lists.{all, each, those}
-use Rattle.lists.specs.Booleans.{never-some, and-left, and-right, or-left, or-right}
+use Rattle.lists.specs.Lists.{each, those}
+use Rattle.lists.specs.Booleans.{never-some, clash, or-left, or-right}
 use Rattle.grammar.specs.Bytes.{ascii}
 use Rattle.grammar.specs.Document.{Element}
 use Rattle.grammar.specs.Look.{Word, is, nameOf, attributesOf, contentsOf, valueIn, orEmpty, attr, elements, children}
 use Rattle.grammar.specs.Parser.{same}
+use Rattle.nodes.specs.Places.{Stands, the}
+use Rattle.nodes.specs.Attributes.{place}
+use Rattle.nodes.specs.Values.{value-there}
+use Rattle.nodes.specs.declared.Found.{Found}
+use Rattle.nodes.specs.declared.Found.the-variants.{At, Nothing}
 use Rattle.numbers.specs.Numbers.{dimensionList}
-use Rattle.schema.specs.Schema.{ChildRow, child, Case, _⇒_, kindOf, kindChosen, kindAmong}
-use Rattle.cifti.specs.Rows.{ElementKind, words, brainModels, series, scalars, mapKinds, mapAttributes}
-use Rattle.cifti.specs.Maps.{kindWords, kindIn, kindOfMap, isBrain, isSeries, isScalars}
+use Rattle.schema.specs.Schema.{AttributeRow, required, number, Row, branch, leaf, ChildRow, child, Case, _⇒_, kindOf, kindChosen, kindAmong}
+use Rattle.cifti.specs.Words.{numberIn}
+use Rattle.cifti.specs.Rows.{ElementKind, brainModels, series, scalars, mapKinds, mapAttributes, rows}
+use Rattle.cifti.specs.Maps.{kindWords, kindIn, caseKind, wordsOfKinds, allKinds, kindPlace, same-kind, rowFor, kindOfMap, isBrain, isSeries, isScalars}
+use Rattle.cifti.specs.KindLaws.{kind-named, no-word}
 use Rattle.cifti.specs.declared.answer.Kind.{Kind}
 use Rattle.cifti.specs.declared.answer.Kind.the-variants.{None, Brain, Series, Scalars}
 use Rattle.maps.specs.Good.{Good, GoodAs, good-as, AllGood, none-left, one-good, good-children}
-use Rattle.maps.specs.Kinds.{is-word, matrixRows, map-word, in-form, rows-brain, rows-series, rows-scalars}
-use Rattle.maps.specs.Fields.{wordAt, word-at}
-
-unfoldable pub rowFor : Kind → ElementKind
-rowFor None = words
-rowFor Brain = brainModels
-rowFor Series = series
-rowFor Scalars = scalars
-
--- a kind that a map can have
-unfoldable pub isKind : Kind → Bool
-isKind None = false
-isKind Brain = true
-isKind Series = true
-isKind Scalars = true
+use Rattle.maps.specs.Kinds.{is-word, matrixRows, map-word, no-row, in-form}
+use Rattle.maps.specs.Fields.{word-at, found-value, found-none}
 
 unfoldable rowed : Case Kind → Case ElementKind
 rowed (s ⇒ k) = s ⇒ rowFor k
 
-unfoldable kinded : Case Kind → Bool
-kinded (s ⇒ k) = isKind k
-
--- one computed test over the table of words
+-- one computed test over the two tables of words
 same-words : mapKinds ≡ each rowed kindWords
 unfolding mapKinds kindWords each rowed rowFor
 same-words = refl
 
-all-kinded : all kinded kindWords ≡ true
-unfolding kindWords all kinded isKind
-all-kinded = refl
+-- a kind of the list
+pub data Among (k : Kind) : List Kind → Type 0 where
+  here : {l : List Kind} → Among k (k ∷ l)
+  further : {j : Kind} {l : List Kind} → Among k l → Among k (j ∷ l)
 
-record RowOf (k : Kind) (r : ElementKind) : Type 0 where
+-- what a computed equation says of all kinds holds of each
+pub of-all : {A : Type 0} (f : Kind → A) (a : A) (l : List Kind) {k : Kind} → each f l ≡ replicate (length l) a → Among k l → f k ≡ a
+unfolding each
+of-all f a (j ∷ l) h here = cc
+of-all f a (j ∷ l) h (further m) = of-all f a l (cc) m
+
+record RowOf (l : List (Case Kind)) (k : Kind) (r : ElementKind) : Type 0 where
   row : rowFor k ≡ r
-  known : isKind k ≡ true
+  known : Among k (each caseKind l)
 
-row-chosen : (l : List (Case Kind)) (v : Word) (r : ElementKind) → kindAmong (each rowed l) v ≡ some r → all kinded l ≡ true → RowOf (kindIn l v) r
-unfolding kindAmong each rowed all kinded kindIn
-row-chosen [] v r h t = never-some h
-row-chosen ((s ⇒ k) ∷ l) v r h t = go (is s v) h (λ q. row-chosen l v r q (and-right (isKind k) _ t))
+row-chosen : (l : List (Case Kind)) (v : Word) (r : ElementKind) → kindAmong (each rowed l) v ≡ some r → RowOf l (kindIn l v) r
+unfolding kindAmong each rowed caseKind kindIn
+row-chosen [] v r h = never-some h
+row-chosen ((s ⇒ k) ∷ l) v r h = go (is s v) h (row-chosen l v r)
   where
-    go : (b : Bool) → cond b (some (rowFor k)) (kindAmong (each rowed l) v) ≡ some r → (kindAmong (each rowed l) v ≡ some r → RowOf (kindIn l v) r) → RowOf (cond b k (kindIn l v)) r
-    go true q ih = record { row = cc; known = and-left _ _ t }
-    go false q ih = ih q
+    go : (b : Bool) → cond b (some (rowFor k)) (kindAmong (each rowed l) v) ≡ some r → (kindAmong (each rowed l) v ≡ some r → RowOf l (kindIn l v) r)
+        → RowOf ((s ⇒ k) ∷ l) (cond b k (kindIn l v)) r
+    go true q ih = record { row = cc; known = here }
+    go false q ih = let o = ih q in record { row = o .row; known = further (o .known) }
 
 -- every kind of map lists its dimensions
-dimensions-of : (k : Kind) {e : Element} → isKind k ≡ true → Good (rowFor k) e → dimensionList (attr "AppliesToMatrixDimension" e) ≡ true
-unfolding rowFor isKind mapAttributes
-dimensions-of None h g = absurd (false≢true h)
-dimensions-of Brain h g = in-form g _ _ _ rows-brain 0 (omega arith) "AppliesToMatrixDimension" dimensionList refl
-dimensions-of Series h g = in-form g _ _ _ rows-series 0 (omega arith) "AppliesToMatrixDimension" dimensionList refl
-dimensions-of Scalars h g = in-form g _ _ _ rows-scalars 0 (omega arith) "AppliesToMatrixDimension" dimensionList refl
+unfoldable firstOf : Row ElementKind → AttributeRow
+firstOf (branch [] o r) = no-row
+firstOf (branch (a ∷ l) o r) = a
+firstOf (leaf a t) = no-row
+
+all-list : each (λ k. firstOf (rows (rowFor k))) allKinds ≡ replicate (length allKinds) (required "AppliesToMatrixDimension" (number dimensionList))
+unfolding allKinds kindWords caseKind each rowFor rows mapAttributes firstOf
+all-list = refl
+
+lists-first : {k : ElementKind} {e : Element} → Good k e → firstOf (rows k) ≡ required "AppliesToMatrixDimension" (number dimensionList)
+    → dimensionList (attr "AppliesToMatrixDimension" e) ≡ true
+unfolding firstOf
+lists-first {k} {e} g h = go (rows k) refl h
+  where
+    go : (r : Row ElementKind) → rows k ≡ r → firstOf r ≡ required "AppliesToMatrixDimension" (number dimensionList) → dimensionList (attr "AppliesToMatrixDimension" e) ≡ true
+    go (branch [] o r) q f = clash (cc)
+    go (branch (a ∷ l) o r) q f = in-form g (a ∷ l) o r q 0 (omega arith) "AppliesToMatrixDimension" dimensionList f
+    go (leaf a t) q f = clash (cc)
 
 -- a MatrixIndicesMap that passes 6 and 7: of a kind, and good as its row
 pub record GoodMap (e : Element) : Type 0 where
   pub good : Good (rowFor (kindOfMap e)) e
-  pub known : isKind (kindOfMap e) ≡ true
+  pub known : Among (kindOfMap e) allKinds
 
 kind-by : (e : Element) (v : Word) → valueIn "IndicesMapToDataType" (attributesOf e) ≡ some v → kindOfMap e ≡ kindIn kindWords v
 unfolding kindOfMap attr orEmpty
 kind-by e v p = rw p refl
 
 pub good-map : (e : Element) → GoodAs matrixRows e → is "MatrixIndicesMap" (nameOf e) ≡ true → GoodMap e
-unfolding kindChosen
+unfolding kindChosen allKinds
 good-map e (good-as {k} q g) n =
     let w = map-word e q n in
     let c : kindAmong (each rowed kindWords) (w .word) ≡ some k = ap (λ l. kindAmong l (w .word)) (sym same-words) ∙ w .chooses in
-    let o = row-chosen kindWords (w .word) k c all-kinded in
+    let o = row-chosen kindWords (w .word) k c in
     record { good = rw (kind-by e (w .word) (w .said), o .row) g; known = rw (kind-by e (w .word) (w .said)) (o .known) }
 
 pub map-dimensions : {e : Element} → GoodMap e → dimensionList (attr "AppliesToMatrixDimension" e) ≡ true
-map-dimensions {e} g = dimensions-of (kindOfMap e) (g .known) (g .good)
+map-dimensions {e} g = lists-first (g .good) (of-all (λ k. firstOf (rows (rowFor k))) _ allKinds all-list (g .known))
 
 module _ {e : Element} (g : GoodMap e) where
   good-at : {k : Kind} → kindOfMap e ≡ k → Good (rowFor k) e
@@ -131,67 +144,47 @@ module _ (s : String) where
       go true p ih = never-some (sym (unknown r e h p) ∙ q)
       go false p ih = ih
 
-models-of : (k : Kind) {e : Element} → isKind k ≡ true → isBrain k ≡ false → Good (rowFor k) e → children "BrainModel" e ≡ []
-unfolding rowFor isKind children rowsName is same
-models-of None {e} h b g = absurd (false≢true h)
-models-of Brain {e} h b g = absurd (true≢false b)
-models-of Series {e} h b g = absent "BrainModel" _ (elements (contentsOf e)) refl (good-children g _ _ _ rows-series)
-models-of Scalars {e} h b g = absent "BrainModel" _ (elements (contentsOf e)) refl (good-children g _ _ _ rows-scalars)
+-- whether the row names such a child
+unfoldable pub namesChild : String → Row ElementKind → Bool
+namesChild s (branch a o r) = rowsName s r
+namesChild s (leaf a t) = true
+
+pub childless : (s : String) {k : ElementKind} {e : Element} → Good k e → namesChild s (rows k) ≡ false → children s e ≡ []
+unfolding namesChild children
+childless s {k} {e} g h = go (rows k) refl h
+  where
+    go : (r : Row ElementKind) → rows k ≡ r → namesChild s r ≡ false → those (λ d. is s (nameOf d)) (elements (contentsOf e)) ≡ []
+    go (branch a o r) q f = absent s r (elements (contentsOf e)) f (good-children g a o r q)
+    go (leaf a t) q f = absurd (true≢false f)
+
+all-without : each (λ k. cond (isBrain k) false (namesChild "BrainModel" (rows (rowFor k)))) allKinds ≡ replicate (length allKinds) false
+unfolding allKinds kindWords caseKind each rowFor rows mapAttributes namesChild rowsName is same
+all-without = refl
 
 -- only a brain map has models
 pub no-models : {e : Element} → GoodMap e → isBrain (kindOfMap e) ≡ false → children "BrainModel" e ≡ []
-no-models {e} g b = models-of (kindOfMap e) (g .known) b (g .good)
+no-models {e} g b =
+    let h = of-all (λ k. cond (isBrain k) false (namesChild "BrainModel" (rows (rowFor k)))) false allKinds all-without (g .known) in
+    childless "BrainModel" (g .good) (rw b at h)
 
 pub brain-kind : (k : Kind) → isBrain k ≡ true → k ≡ Brain
-brain-kind None h = absurd (false≢true h)
-brain-kind Brain h = refl
-brain-kind Series h = absurd (false≢true h)
-brain-kind Scalars h = absurd (false≢true h)
+brain-kind k h = same-kind k Brain h
 
 pub series-kind : (k : Kind) → isSeries k ≡ true → k ≡ Series
-series-kind None h = absurd (false≢true h)
-series-kind Brain h = absurd (false≢true h)
-series-kind Series h = refl
-series-kind Scalars h = absurd (false≢true h)
+series-kind k h = same-kind k Series h
 
 pub scalars-kind : (k : Kind) → isScalars k ≡ true → k ≡ Scalars
-scalars-kind None h = absurd (false≢true h)
-scalars-kind Brain h = absurd (false≢true h)
-scalars-kind Series h = absurd (false≢true h)
-scalars-kind Scalars h = refl
+scalars-kind k h = same-kind k Scalars h
 
 -- ---- As its attribute tells it.
 
--- what the code asks
-abbrev pub Asked : Bool → String → Element → Type 0
-Asked b s e = b ≡ same (wordAt (ascii "IndicesMapToDataType") e) (ascii s)
+module _ {text : List ℕ} {at : ℕ} (st : Stands text at) {f : Found} (e : f ≡ place text at (ascii "IndicesMapToDataType")) where
+  pub kind-there : {v p : ℕ} {r : Kind} → f ≡ At v → p ≡ numberIn wordsOfKinds (value-there text v) → kindPlace r ≡ min p (kindPlace None) → r ≡ kindOfMap (the text at)
+  unfolding kindOfMap
+  kind-there {v} h q z = kind-named _ q z ∙ ap (kindIn kindWords) (found-value (ascii "IndicesMapToDataType") st e h ∙ word-at "IndicesMapToDataType" (the text at))
 
-said-is : (s : String) (e : Element) {b : Bool} → Asked b s e → is s (attr "IndicesMapToDataType" e) ≡ b
-unfolding is
-said-is s e p = sym (p ∙ ap (λ x. same x (ascii s)) (word-at "IndicesMapToDataType" e))
+  pub kind-missing : f ≡ Nothing → None ≡ kindOfMap (the text at)
+  unfolding kindOfMap
+  kind-missing h = no-word ∙ ap (kindIn kindWords) (sym (sym (word-at "IndicesMapToDataType" (the text at)) ∙ found-none (ascii "IndicesMapToDataType") st e h))
 
-kind-words : (e : Element) → kindOfMap e
-    ≡ cond (is "CIFTI_INDEX_TYPE_BRAIN_MODELS" (attr "IndicesMapToDataType" e)) Brain
-    (cond (is "CIFTI_INDEX_TYPE_SERIES" (attr "IndicesMapToDataType" e)) Series
-    (cond (is "CIFTI_INDEX_TYPE_SCALARS" (attr "IndicesMapToDataType" e)) Scalars None))
-unfolding kindOfMap kindIn kindWords
-kind-words e = refl
-
-module _ (e : Element) {b : Bool} (p : Asked b "CIFTI_INDEX_TYPE_BRAIN_MODELS" e) where
-  pub asked-brain : b ≡ true → Brain ≡ kindOfMap e
-  asked-brain t = sym (kind-words e ∙ rw (said-is "CIFTI_INDEX_TYPE_BRAIN_MODELS" e p, t))
-
-  module _ (f : b ≡ false) {c : Bool} (q : Asked c "CIFTI_INDEX_TYPE_SERIES" e) where
-    pub asked-series : c ≡ true → Series ≡ kindOfMap e
-    asked-series t = sym (kind-words e ∙ rw (said-is "CIFTI_INDEX_TYPE_BRAIN_MODELS" e p, f, said-is "CIFTI_INDEX_TYPE_SERIES" e q, t))
-
-    module _ (g : c ≡ false) {d : Bool} (r : Asked d "CIFTI_INDEX_TYPE_SCALARS" e) where
-      pub asked-scalars : d ≡ true → Scalars ≡ kindOfMap e
-      asked-scalars t =
-          sym (kind-words e ∙ rw (said-is "CIFTI_INDEX_TYPE_BRAIN_MODELS" e p, f, said-is "CIFTI_INDEX_TYPE_SERIES" e q, g, said-is "CIFTI_INDEX_TYPE_SCALARS" e r, t))
-
-      pub asked-none : d ≡ false → None ≡ kindOfMap e
-      asked-none t =
-          sym (kind-words e ∙ rw (said-is "CIFTI_INDEX_TYPE_BRAIN_MODELS" e p, f, said-is "CIFTI_INDEX_TYPE_SERIES" e q, g, said-is "CIFTI_INDEX_TYPE_SCALARS" e r, t))
-
-pub ruleset asking = (asked-brain, asked-series, asked-scalars, asked-none, needs)
+pub ruleset asking = (kind-there, kind-missing, needs)

@@ -6,7 +6,7 @@ use Prim.Native.Nat.{ℕ, zero, suc, _+_, _*_, _-_, _^_, _≤_, _<_}
 use Prim.Native.String.{String}
 use native.Mathlib.Omega.{arith}
 use lib.Dec.{leb}
-use lib.ListN.{length, drop, length-drop}
+use lib.ListN.{length, take, drop, length-take, length-drop}
 use borrow.Author.Needs.{needs}
 use borrow.Author.Tests.{leb-true}
 use Rattle.lists.specs.Booleans.{clash, both-ways}
@@ -35,13 +35,12 @@ use Rattle.grammar.specs.Read.{Read, got, ok-got}
 use Rattle.nodes.specs.Names.{named, name-is-law}
 use Rattle.nodes.specs.Walk.{kids, Walk, Turn, walk-children, kids-children, walk-none, turn-at, turn-splits, turn-falls, left-fits}
 use Rattle.nodes.specs.declared.Kid.{Kid}
-use Rattle.cifti.specs.Rows.{brainModels, series, scalars}
-use Rattle.cifti.specs.Maps.{Model, Map, mapOf, modelOf, seriesOf, isBrain, kindOfMap, lengthOf, lengthBy}
+use Rattle.cifti.specs.Maps.{Model, Map, mapOf, modelOf, seriesOf, isBrain, isSeries, countedName, countedBytes, counted-bytes, kindOfMap, lengthOf, lengthBy}
 use Rattle.cifti.specs.declared.answer.Kind.{Kind}
-use Rattle.cifti.specs.declared.answer.Kind.the-variants.{None, Brain, Series, Scalars}
-use Rattle.maps.specs.MapKind.{GoodMap, good-brain, good-series}
+use Rattle.cifti.specs.declared.answer.Kind.the-variants.{Brain, Series}
+use Rattle.maps.specs.MapKind.{GoodMap, good-brain, good-series, brain-kind, series-kind}
 use Rattle.maps.specs.Good.{Good, GoodAs, AllGood, none-left, one-good}
-use Rattle.maps.specs.Kinds.{GoodModel, good-model, brainRows, scalarRows, brain-children, scalars-children, model-facts, series-facts}
+use Rattle.maps.specs.Kinds.{GoodModel, good-model, brainRows, brain-children, model-facts, series-facts}
 use Rattle.maps.specs.Fields.{wordAt, word-at, says-has, numberSeen, number-seen, orZero}
 use Rattle.numbers.specs.Answers.{wholeIn}
 use Rattle.maps.specs.declared.survey.Measure.{Measure}
@@ -49,12 +48,14 @@ use Rattle.maps.specs.declared.survey.Seen.{Seen}
 use Rattle.numbers.specs.declared.Whole.the-variants.{Is, No}
 
 -- what a child adds to the length of its map
-unfoldable pub weightOf : (brain : Bool) → Element → ℕ
-weightOf true e = cond (is "BrainModel" (nameOf e)) (numberSeen 1 1048576 (wordAt (ascii "IndexCount") e)) 0
-weightOf false e = cond (is "NamedMap" (nameOf e)) 1 0
+unfoldable pub weigh : String → (brain : Bool) → Element → ℕ
+weigh s b e = cond (is s (nameOf e)) (cond b (numberSeen 1 1048576 (wordAt (ascii "IndexCount") e)) 1) 0
 
-pub record Weighed (b : Bool) (e : Element) (n : ℕ) : Type 0 where
-  pub weighs : n ≡ weightOf b e
+unfoldable pub weightOf : Kind → Element → ℕ
+weightOf k e = weigh (countedName k) (isBrain k) e
+
+pub record Weighed (k : Kind) (e : Element) (n : ℕ) : Type 0 where
+  pub weighs : n ≡ weightOf k e
   pub most : n ≤ 1048576
 
 pub seen-most : (lo hi : ℕ) (w : Word) → numberSeen lo hi w ≤ hi
@@ -65,27 +66,40 @@ seen-most lo hi w = go (whole lo hi w) refl
     go true e = within lo hi (value w) (and-right (digits 1 7 w) (between lo hi (value w)) e) .1
     go false e = omega arith
 
-module _ {text : List ℕ} {at : ℕ} (st : Stands text at) where
-  pub weight-model : {b t : Bool} → b ≡ true → t ≡ named text at (ascii "BrainModel") → t ≡ true → {n : ℕ} → n ≡ numberSeen 1 1048576 (wordAt (ascii "IndexCount") (the text at)) → Weighed b (the text at) n
-  unfolding weightOf
-  weight-model e nm f {n} p =
-      let z : is "BrainModel" (nameOf (the text at)) ≡ true = sym (name-is-law "BrainModel" st) ∙ sym nm ∙ f in
-      let m = seen-most 1 1048576 (wordAt (ascii "IndexCount") (the text at)) in
-      record { weighs = rw (e, z) p; most = omega arith }
+-- the letters of the name that the kind counts
+pub record Spelled (k : Kind) (letters : List ℕ) (n : ℕ) : Type 0 where
+  pub spells : take n letters ≡ countedBytes k
+  pub part : n ≡ length (take n letters)
+  pub room : n ≤ length letters
 
-  pub weight-other : {b t : Bool} → b ≡ true → t ≡ named text at (ascii "BrainModel") → t ≡ false → Weighed b (the text at) 0
-  unfolding weightOf
-  weight-other e nm f = let z : is "BrainModel" (nameOf (the text at)) ≡ false = sym (name-is-law "BrainModel" st) ∙ sym nm ∙ f in record { weighs = rw (e, z); most = omega arith }
+pub spelled : (k : Kind) (l : List ℕ) (n : ℕ) → (take n l ≡ countedBytes k) × ((n ≡ length (countedBytes k)) × (n ≤ 16)) → Spelled k l n
+spelled k l n told =
+    let p : n ≡ length (take n l) = told .1 .0 ∙ ap length (sym (told .0)) in
+    record { spells = told .0; part = p; room = omega (arith, length-take n l) }
 
-  pub weight-name : {b t : Bool} → b ≡ false → t ≡ named text at (ascii "NamedMap") → t ≡ true → Weighed b (the text at) 1
-  unfolding weightOf
-  weight-name e nm f = let z : is "NamedMap" (nameOf (the text at)) ≡ true = sym (name-is-law "NamedMap" st) ∙ sym nm ∙ f in record { weighs = rw (e, z); most = omega arith }
+pub counted-told : (k : Kind) (text : List ℕ) (at : ℕ) {n : ℕ} {l : List ℕ} → Spelled k l n → {c : Bool} → c ≡ named text at (take n l) → c ≡ named text at (ascii (countedName k))
+counted-told k text at s e = e ∙ ap (named text at) (s .spells ∙ counted-bytes k)
 
-  pub weight-none : {b t : Bool} → b ≡ false → t ≡ named text at (ascii "NamedMap") → t ≡ false → Weighed b (the text at) 0
-  unfolding weightOf
-  weight-none e nm f = let z : is "NamedMap" (nameOf (the text at)) ≡ false = sym (name-is-law "NamedMap" st) ∙ sym nm ∙ f in record { weighs = rw (e, z); most = omega arith }
+counted-so : (k : Kind) {text : List ℕ} {at : ℕ} → Stands text at → {c : Bool} → c ≡ named text at (ascii (countedName k)) → is (countedName k) (nameOf (the text at)) ≡ c
+counted-so k st asked = sym (asked ∙ name-is-law (countedName k) st)
 
-pub ruleset weighing = (weight-model, weight-other, weight-name, weight-none, needs)
+module _ {text : List ℕ} {at : ℕ} (st : Stands text at) {k : Kind} {c : Bool} (asked : c ≡ named text at (ascii (countedName k))) where
+  pub weight-none : c ≡ false → Weighed k (the text at) 0
+  unfolding weightOf weigh
+  weight-none f = record { weighs = rw (counted-so k st asked ∙ f); most = omega arith }
+
+  module _ (t : c ≡ true) {b : Bool} (brain : b ≡ isBrain k) where
+    pub weight-model : b ≡ true → {n : ℕ} → n ≡ numberSeen 1 1048576 (wordAt (ascii "IndexCount") (the text at)) → Weighed k (the text at) n
+    unfolding weightOf weigh
+    weight-model y {n} p =
+        let m = seen-most 1 1048576 (wordAt (ascii "IndexCount") (the text at)) in
+        record { weighs = rw (counted-so k st asked ∙ t, sym brain ∙ y) p; most = omega arith }
+
+    pub weight-one : b ≡ false → Weighed k (the text at) 1
+    unfolding weightOf weigh
+    weight-one f = record { weighs = rw (counted-so k st asked ∙ t, sym brain ∙ f); most = omega arith }
+
+pub ruleset weighing = (weight-none, weight-model, weight-one, needs)
 
 -- ---- The Volume: the first of the children that is one.
 
@@ -100,33 +114,35 @@ pub record VolumeLeft (text : List ℕ) (all l : List Element) (s : Seen) : Type
   pub first : s .found ≡ true → those isVolume all ≡ the text (s .at) ∷ rest
 
 -- one child more, of a brain map
-abbrev pub VolumeMet : Bool → List ℕ → ℕ → Seen → Seen → Type 0
-VolumeMet b text k before after = b ≡ true → (all l : List Element) → VolumeLeft text all (the text k ∷ l) before → VolumeLeft text all l after
+pub record VolumeMet (kind : Kind) (text : List ℕ) (k : ℕ) (before after : Seen) : Type 0 where
+  pub met : isBrain kind ≡ true → (all l : List Element) → VolumeLeft text all (the text k ∷ l) before → VolumeLeft text all l after
 
 module _ {text : List ℕ} {k : ℕ} (st : Stands text k) (s : Seen) where
-  pub met-other : {b : Bool} → b ≡ false → VolumeMet b text k s s
-  met-other f t = both-ways t f
+  pub met-other : {kind : Kind} {b : Bool} → b ≡ isBrain kind → b ≡ false → VolumeMet kind text k s s
+  met-other p f = record { met = λ t. both-ways t (sym p ∙ f) }
 
-  pub met-before : {b : Bool} → s .found ≡ true → VolumeMet b text k s s
-  met-before h t all l v = record { none = λ n. both-ways h n; stands = v .stands; rest = v .rest; first = v .first }
+  pub met-before : {kind : Kind} → s .found ≡ true → VolumeMet kind text k s s
+  met-before h = record { met = λ t all l v. record { none = λ n. both-ways h n; stands = v .stands; rest = v .rest; first = v .first } }
 
   module _ (h : s .found ≡ false) {c : Bool} (nm : c ≡ named text k (ascii "Volume")) where
     is-it : isVolume (the text k) ≡ c
     unfolding isVolume
     is-it = sym (nm ∙ name-is-law "Volume" st)
 
-    pub met-here : c ≡ true → {b : Bool} (r : Seen) → r .found ≡ true → r .at ≡ k → VolumeMet b text k s r
+    pub met-here : c ≡ true → {kind : Kind} (r : Seen) → r .found ≡ true → r .at ≡ k → VolumeMet kind text k s r
     unfolding those
-    met-here y r e f t all l v = record {
-      none = λ n. both-ways e n;
-      stands = λ _. rw f st;
-      rest = those isVolume l;
-      first = λ _. rw f (v .none h ∙ rw (is-it ∙ y) refl);
+    met-here y r e f = record {
+      met = λ t all l v. record {
+        none = λ n. both-ways e n;
+        stands = λ _. rw f st;
+        rest = those isVolume l;
+        first = λ _. rw f (v .none h ∙ rw (is-it ∙ y) refl);
+      };
     }
 
-    pub met-past : c ≡ false → {b : Bool} → VolumeMet b text k s s
+    pub met-past : c ≡ false → {kind : Kind} → VolumeMet kind text k s s
     unfolding those
-    met-past y t all l v = record { none = λ n. (v .none n ∙ rw (is-it ∙ y) refl); stands = v .stands; rest = v .rest; first = v .first }
+    met-past y = record { met = λ t all l v. record { none = λ n. (v .none n ∙ rw (is-it ∙ y) refl); stands = v .stands; rest = v .rest; first = v .first } }
 
 pub ruleset meeting = (met-other, met-before, met-here, met-past, needs)
 
@@ -141,10 +157,10 @@ abbrev pub AheadBehind : List ℕ → ℕ → Ahead → Type 0
 AheadBehind text k a = (j : ℕ) → Behind text k j → a ≡ ahead-at true (length text) (drop j text)
 
 -- the sum over the children of the element at a place, and where it ends
-pub record Summed (text : List ℕ) (at : ℕ) (b : Bool) (r : Measure) : Type 0 where
-  pub sum : r .length ≡ total (weightOf b) (elements (contentsOf (the text at)))
+pub record Summed (text : List ℕ) (at : ℕ) (kind : Kind) (r : Measure) : Type 0 where
+  pub sum : r .length ≡ total (weightOf kind) (elements (contentsOf (the text at)))
   pub most : r .length ≤ 17592186044416
-  pub volume : b ≡ true → VolumeLeft text (elements (contentsOf (the text at))) [] (r .volume)
+  pub volume : isBrain kind ≡ true → VolumeLeft text (elements (contentsOf (the text at))) [] (r .volume)
   pub ends : Behind text at (r .behind)
 
 -- an element that stands ends somewhere
@@ -182,7 +198,7 @@ module _ {text : List ℕ} {k : ℕ} {x : Step} (e : x ≡ stepped (length text)
 
 pub ruleset behind-so = (behind-found, behind-missing, ahead-found, ahead-missing, needs)
 
-pub record Summing (text : List ℕ) (at : ℕ) (b : Bool) (n : ℕ) (seen : Seen) (ahead : Ahead) : Type 0 where
+pub record Summing (text : List ℕ) (at : ℕ) (kind : Kind) (n : ℕ) (seen : Seen) (ahead : Ahead) : Type 0 where
   pub stands : Stands text at
   pub short : length text ≤ 16777216
   pub kid : Kid
@@ -191,12 +207,12 @@ pub record Summing (text : List ℕ) (at : ℕ) (b : Bool) (n : ℕ) (seen : See
   pub facing : Facing text true blanks leaves kid ahead
   pub leave-so : skip-at (drop at text) ≡ leaves
   pub walk : Walk text kid
-  pub so-far : total (weightOf b) (elements (contentsOf (the text at))) ≡ n + total (weightOf b) (kids text kid)
+  pub so-far : total (weightOf kind) (elements (contentsOf (the text at))) ≡ n + total (weightOf kind) (kids text kid)
   pub room : n + 1048576 * left text kid ≤ 1048576 * length text
-  pub volumes : b ≡ true → VolumeLeft text (elements (contentsOf (the text at))) (kids text kid) seen
+  pub volumes : isBrain kind ≡ true → VolumeLeft text (elements (contentsOf (the text at))) (kids text kid) seen
 
-pub sum-start : {text : List ℕ} {at : ℕ} (b : Bool) → InShort text at → (seen : Seen) → seen .found ≡ false → {ahead : Ahead} → ahead ≡ first-ahead true text at → Summing text at b 0 seen ahead
-sum-start {text} {at} b i seen f e =
+pub sum-start : {text : List ℕ} {at : ℕ} (kind : Kind) → InShort text at → (seen : Seen) → seen .found ≡ false → {ahead : Ahead} → ahead ≡ first-ahead true text at → Summing text at kind 0 seen ahead
+sum-start {text} {at} kind i seen f e =
     rw e (record {
       stands = i .stands;
       short = i .short;
@@ -206,7 +222,7 @@ sum-start {text} {at} b i seen f e =
       facing = facing-first text true at;
       leave-so = refl;
       walk = walk-children (i .stands);
-      so-far = sym (ap (total (weightOf b)) (kids-children (i .stands))) ∙ omega arith;
+      so-far = sym (ap (total (weightOf kind)) (kids-children (i .stands))) ∙ omega arith;
       room = let f = left-fits text (first text at) in omega arith;
       volumes = λ _. record {
         none = λ _. sym (ap (those isVolume) (kids-children (i .stands)));
@@ -216,16 +232,16 @@ sum-start {text} {at} b i seen f e =
       };
     })
 
-module _ {text : List ℕ} {at : ℕ} {b : Bool} {n : ℕ} {seen : Seen} {ahead : Ahead} (go : Summing text at b n seen ahead) where
-  pub sum-done : {j : ℕ} → ahead ≡ ahead-is.End j → Summed text at b (record { length = n; volume = seen; behind = j })
+module _ {text : List ℕ} {at : ℕ} {kind : Kind} {n : ℕ} {seen : Seen} {ahead : Ahead} (go : Summing text at kind n seen ahead) where
+  pub sum-done : {j : ℕ} → ahead ≡ ahead-is.End j → Summed text at kind (record { length = n; volume = seen; behind = j })
   unfolding total
   sum-done {j} e =
       let o = facing-end (go .facing) e in
-      let z : total (weightOf b) (kids text (go .kid)) ≡ 0 = rw (walk-none (go .walk) (o .no-next)) in
+      let z : total (weightOf kind) (kids text (go .kid)) ≡ 0 = rw (walk-none (go .walk) (o .no-next)) in
       let s = go .so-far in
       record { sum = omega arith; most = (let r = go .room in let h = go .short in omega arith); volume = λ t. rw (walk-none (go .walk) (o .no-next)) at (go .volumes t); ends = record { ends = go .leave-so ∙ o .ends; inside = o .inside; after = o .after } }
 
-  pub sum-never : ahead ≡ ahead-is.Stray → (r : Measure) → Summed text at b r
+  pub sum-never : ahead ≡ ahead-is.Stray → (r : Measure) → Summed text at kind r
   sum-never e r =
       let st = go .stands in
       let (w, _) = facing-stray (go .facing) e (st .rest) (sym (go .leave-so) ∙ skip-element (drop at text) (the text at) (st .rest) (st .reads)) in
@@ -254,11 +270,11 @@ module _ {text : List ℕ} {at : ℕ} {b : Bool} {n : ℕ} {seen : Seen} {ahead 
     unfolding left-ahead left
     sum-less a = rw is-child (let f = facing-left (onward a) in let d = turn .falls in omega arith)
 
-    module _ {w : ℕ} (weighed : Weighed b (the text k) w) where
+    module _ {w : ℕ} (weighed : Weighed kind (the text k) w) where
       pub sum-fits : n + w < 2 ^ 64
       sum-fits = let f = falls in let m = weighed .most in let r = go .room in let s = go .short in let l = left-fits text (go .kid) in omega arith
 
-      pub sum-more : {seen₁ : Seen} → VolumeMet b text k seen seen₁ → {ahead₁ : Ahead} → AheadBehind text k ahead₁ → Summing text at b (n + w) seen₁ ahead₁
+      pub sum-more : {seen₁ : Seen} → VolumeMet kind text k seen seen₁ → {ahead₁ : Ahead} → AheadBehind text k ahead₁ → Summing text at kind (n + w) seen₁ ahead₁
       unfolding total
       sum-more v a =
           let f = falls in
@@ -266,7 +282,7 @@ module _ {text : List ℕ} {at : ℕ} {b : Bool} {n : ℕ} {seen : Seen} {ahead 
           let r = go .room in
           let p = weighed .weighs in
           let s = go .so-far in
-          let split : total (weightOf b) (kids text (go .kid)) ≡ weightOf b (the text k) + total (weightOf b) (kids text (next text k)) = ap (total (weightOf b)) (turn-splits (go .walk) (met .is-next)) in
+          let split : total (weightOf kind) (kids text (go .kid)) ≡ weightOf kind (the text k) + total (weightOf kind) (kids text (next text k)) = ap (total (weightOf kind)) (turn-splits (go .walk) (met .is-next)) in
           record {
             stands = go .stands;
             short = go .short;
@@ -278,7 +294,7 @@ module _ {text : List ℕ} {at : ℕ} {b : Bool} {n : ℕ} {seen : Seen} {ahead 
             walk = turn .then;
             so-far = omega arith;
             room = omega arith;
-            volumes = λ t. v t _ _ (rw (turn-splits (go .walk) (met .is-next)) at (go .volumes t));
+            volumes = λ t. v .met t _ _ (rw (turn-splits (go .walk) (met .is-next)) at (go .volumes t));
           }
 
 pub ruleset summing = (sum-start, sum-done, sum-never, sum-stands, sum-less, sum-fits, sum-more, needs)
@@ -306,24 +322,24 @@ model-count : (e : Element) → GoodModel e → numberSeen 1 1048576 (wordAt (as
 unfolding modelOf
 model-count e g = ap (numberSeen 1 1048576) (word-at "IndexCount" e) ∙ number-seen 1 1048576 (attr "IndexCount" e) (model-facts g .count)
 
-models-total : (l : List Element) → AllGood brainRows l → total (weightOf true) l ≡ total (λ (m : Model). m .count) (each modelOf (those (λ e. is "BrainModel" (nameOf e)) l))
-unfolding total each those weightOf
+models-total : (l : List Element) → AllGood brainRows l → total (weightOf Brain) l ≡ total (λ (m : Model). m .count) (each modelOf (those (λ e. is "BrainModel" (nameOf e)) l))
+unfolding total each those weightOf weigh
 models-total [] none-left = refl
 models-total (e ∷ l) (one-good g r) = go (is "BrainModel" (nameOf e)) refl (models-total l r)
   where
-    go : (b : Bool) → is "BrainModel" (nameOf e) ≡ b → total (weightOf true) l ≡ total (λ (m : Model). m .count) (each modelOf (those (λ e. is "BrainModel" (nameOf e)) l))
-        → cond b (numberSeen 1 1048576 (wordAt (ascii "IndexCount") e)) 0 + total (weightOf true) l
+    go : (b : Bool) → is "BrainModel" (nameOf e) ≡ b → total (weightOf Brain) l ≡ total (λ (m : Model). m .count) (each modelOf (those (λ e. is "BrainModel" (nameOf e)) l))
+        → cond b (numberSeen 1 1048576 (wordAt (ascii "IndexCount") e)) 0 + total (weightOf Brain) l
         ≡ total (λ (m : Model). m .count) (each modelOf (cond b (e ∷ those (λ e. is "BrainModel" (nameOf e)) l) (those (λ e. is "BrainModel" (nameOf e)) l)))
     go true q ih = let s = model-count e (good-model e g q) in omega arith
     go false q ih = omega arith
 
-names-total : (l : List Element) → total (weightOf false) l ≡ length (those (λ e. is "NamedMap" (nameOf e)) l)
-unfolding total those weightOf
-names-total [] = refl
-names-total (e ∷ l) = go (is "NamedMap" (nameOf e)) (names-total l)
+named-total : (s : String) (l : List Element) → total (weigh s false) l ≡ length (those (λ e. is s (nameOf e)) l)
+unfolding total those weigh
+named-total s [] = refl
+named-total s (e ∷ l) = go (is s (nameOf e)) (named-total s l)
   where
-    go : (b : Bool) → total (weightOf false) l ≡ length (those (λ e. is "NamedMap" (nameOf e)) l)
-        → cond b 1 0 + total (weightOf false) l ≡ length (cond b (e ∷ those (λ e. is "NamedMap" (nameOf e)) l) (those (λ e. is "NamedMap" (nameOf e)) l))
+    go : (b : Bool) → total (weigh s false) l ≡ length (those (λ e. is s (nameOf e)) l)
+        → cond b 1 0 + total (weigh s false) l ≡ length (cond b (e ∷ those (λ e. is s (nameOf e)) l) (those (λ e. is s (nameOf e)) l))
     go true ih = omega arith
     go false ih = omega arith
 
@@ -337,31 +353,37 @@ module _ {text : List ℕ} {at : ℕ} {kind : Kind} (k : KindAt text at kind) wh
   is-kind : {j : Kind} → kind ≡ j → kindOfMap (the text at) ≡ j
   is-kind h = sym (k .kind-is) ∙ h
 
-  pub span-none : kind ≡ None → {j : ℕ} → Behind text at j → (s : Seen) → Spanned text at kind (record { length = 0; volume = s; behind = j })
-  unfolding lengthOf lengthBy mapOf
-  span-none h b s = record { long = rw (is-kind h); volume = λ t. both-ways t (ap isBrain h); most = omega arith; ends = b }
-
-  pub span-brain : kind ≡ Brain → {r : Measure} → Summed text at true r → Spanned text at kind r
-  unfolding lengthOf lengthBy mapOf children
-  span-brain h s = record {
-    long = rw (is-kind h) (s .sum ∙ models-total (elements (contentsOf (the text at))) (brain-children (good-brain (k .map .good) (is-kind h))));
-    volume = λ _. s .volume refl;
-    most = s .most;
-    ends = s .ends;
-  }
-
-  pub span-series : kind ≡ Series → {n : ℕ} → n ≡ numberSeen 1 1048576 (wordAt (ascii "NumberOfSeriesPoints") (the text at)) → {j : ℕ} → Behind text at j → (s : Seen) → Spanned text at kind (record { length = n; volume = s; behind = j })
+  pub span-series : {b : Bool} → b ≡ isSeries kind → b ≡ true → {n : ℕ} → n ≡ numberSeen 1 1048576 (wordAt (ascii "NumberOfSeriesPoints") (the text at)) → {j : ℕ} → Behind text at j → (s : Seen)
+      → Spanned text at kind (record { length = n; volume = s; behind = j })
   unfolding lengthOf lengthBy mapOf seriesOf
-  span-series h e b s = record {
-    volume = λ t. both-ways t (ap isBrain h);
-    long = rw (is-kind h) (e ∙ ap (numberSeen 1 1048576) (word-at "NumberOfSeriesPoints" (the text at))
-        ∙ number-seen 1 1048576 (attr "NumberOfSeriesPoints" (the text at)) (series-facts (good-series (k .map .good) (is-kind h)) .points));
-    most = let m = seen-most 1 1048576 (wordAt (ascii "NumberOfSeriesPoints") (the text at)) in omega arith;
-    ends = b;
-  }
+  span-series p t e b s =
+      let h : kind ≡ Series = series-kind kind (sym p ∙ t) in
+      record {
+        volume = λ t. both-ways t (ap isBrain h);
+        long = rw (is-kind h) (e ∙ ap (numberSeen 1 1048576) (word-at "NumberOfSeriesPoints" (the text at))
+            ∙ number-seen 1 1048576 (attr "NumberOfSeriesPoints" (the text at)) (series-facts (good-series (k .map .good) (is-kind h)) .points));
+        most = let m = seen-most 1 1048576 (wordAt (ascii "NumberOfSeriesPoints") (the text at)) in omega arith;
+        ends = b;
+      }
 
-  pub span-scalars : kind ≡ Scalars → {r : Measure} → Summed text at false r → Spanned text at kind r
+  brain-long : kind ≡ Brain → total (weightOf kind) (elements (contentsOf (the text at))) ≡ lengthOf (mapOf (the text at))
   unfolding lengthOf lengthBy mapOf children
-  span-scalars h s = record { long = rw (is-kind h) (s .sum ∙ names-total (elements (contentsOf (the text at)))); volume = λ t. both-ways t (ap isBrain h); most = s .most; ends = s .ends }
+  brain-long h = rw (h, is-kind h) (models-total (elements (contentsOf (the text at))) (brain-children (good-brain (k .map .good) (is-kind h))))
 
-pub ruleset measuring = (in-short, span-stands, span-none, span-brain, span-series, span-scalars, needs)
+  counted-is : isBrain kind ≡ false → isSeries kind ≡ false → length (children (countedName kind) (the text at)) ≡ lengthOf (mapOf (the text at))
+  unfolding lengthOf lengthBy mapOf
+  counted-is f g = rw (← k .kind-is, f, g) refl
+
+  counted-long : isBrain kind ≡ false → isSeries kind ≡ false → total (weightOf kind) (elements (contentsOf (the text at))) ≡ lengthOf (mapOf (the text at))
+  unfolding weightOf children
+  counted-long f g =
+      ap (λ b. total (weigh (countedName kind) b) (elements (contentsOf (the text at)))) f ∙ named-total (countedName kind) (elements (contentsOf (the text at))) ∙ counted-is f g
+
+  pub span-sum : {b : Bool} → b ≡ isSeries kind → b ≡ false → {r : Measure} → Summed text at kind r → Spanned text at kind r
+  span-sum p f s = record { long = s .sum ∙ go (isBrain kind) refl; volume = s .volume; most = s .most; ends = s .ends }
+    where
+      go : (b : Bool) → isBrain kind ≡ b → total (weightOf kind) (elements (contentsOf (the text at))) ≡ lengthOf (mapOf (the text at))
+      go true q = brain-long (brain-kind kind q)
+      go false q = counted-long q (sym p ∙ f)
+
+pub ruleset measuring = (in-short, span-stands, span-series, span-sum, needs)

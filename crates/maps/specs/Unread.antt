@@ -26,11 +26,11 @@ use Rattle.nodes.specs.declared.Kid.{Kid}
 use Rattle.nodes.specs.declared.Kid.the-variants.{Child, Done}
 use Rattle.cifti.specs.Maps.{mapElements}
 use Rattle.cifti.specs.Conditions.{rootWrong, kindNotRead}
-use Rattle.schema.specs.Schema.{kindOf, kindBy, kindChosen, kindAmong}
-use Rattle.cifti.specs.Rows.{ElementKind, cifti, brainModels, series, scalars, mapKinds}
+use Rattle.schema.specs.Schema.{Case, _⇒_, kindChosen, kindAmong}
+use Rattle.cifti.specs.Rows.{ElementKind, cifti, mapKinds}
 use Rattle.maps.specs.Good.{Good, GoodAs, good-as, AllGood, none-left, one-good}
-use Rattle.maps.specs.Kinds.{not-both, matrixRows, matrix-children, root-child, has-value, map-word}
-use Rattle.lists.specs.Booleans.{never-some}
+use Rattle.maps.specs.Kinds.{is-word, matrixRows, matrix-children, root-child, has-value, map-word}
+use Rattle.lists.specs.Booleans.{never-some, or-left, or-right}
 
 -- ---- Condition 4.
 
@@ -152,20 +152,28 @@ root-is e h = h ∙ sym (not-read-by e)
 
 -- ---- A root that passes 6 and 7 has no such map: no kind is chosen by their words.
 
-unread-apart : (v : Word) (s : String) → is s v ≡ true → is "CIFTI_INDEX_TYPE_PARCELS" (ascii s) ≡ false → is "CIFTI_INDEX_TYPE_LABELS" (ascii s) ≡ false
-    → (is "CIFTI_INDEX_TYPE_PARCELS" v || is "CIFTI_INDEX_TYPE_LABELS" v) ≡ false
-unread-apart v s h p l = rw (not-both s "CIFTI_INDEX_TYPE_PARCELS" v h p, not-both s "CIFTI_INDEX_TYPE_LABELS" v h l)
+unfoldable isUnread : Word → Bool
+isUnread w = is "CIFTI_INDEX_TYPE_PARCELS" w || is "CIFTI_INDEX_TYPE_LABELS" w
+
+unfoldable caseUnread : Case ElementKind → Bool
+caseUnread (s ⇒ k) = isUnread (ascii s)
+
+none-unread : any caseUnread mapKinds ≡ false
+unfolding any caseUnread isUnread mapKinds is same
+none-unread = refl
+
+chosen-in : (l : List (Case ElementKind)) (v : Word) {k : ElementKind} → kindAmong l v ≡ some k → any caseUnread l ≡ false → isUnread v ≡ false
+unfolding kindAmong any caseUnread
+chosen-in [] v h n = never-some h
+chosen-in ((s ⇒ j) ∷ l) v {k} h n = go (is s v) refl h (λ q. chosen-in l v q (or-right (isUnread (ascii s)) _ n))
+  where
+    go : (b : Bool) → is s v ≡ b → cond b (some j) (kindAmong l v) ≡ some k → (kindAmong l v ≡ some k → isUnread v ≡ false) → isUnread v ≡ false
+    go true x q ih = rw (is-word s v x) (or-left _ _ n)
+    go false x q ih = ih q
 
 chosen-read : (v : Word) {k : ElementKind} → kindChosen mapKinds (some v) ≡ some k → (is "CIFTI_INDEX_TYPE_PARCELS" v || is "CIFTI_INDEX_TYPE_LABELS" v) ≡ false
-unfolding kindChosen kindAmong mapKinds is same
-chosen-read v {k} h = go (is "CIFTI_INDEX_TYPE_BRAIN_MODELS" v) (is "CIFTI_INDEX_TYPE_SERIES" v) (is "CIFTI_INDEX_TYPE_SCALARS" v) refl refl refl h
-  where
-    go : (a b c : Bool) → is "CIFTI_INDEX_TYPE_BRAIN_MODELS" v ≡ a → is "CIFTI_INDEX_TYPE_SERIES" v ≡ b → is "CIFTI_INDEX_TYPE_SCALARS" v ≡ c
-        → cond a (some brainModels) (cond b (some series) (cond c (some scalars) Option.none)) ≡ some k → (is "CIFTI_INDEX_TYPE_PARCELS" v || is "CIFTI_INDEX_TYPE_LABELS" v) ≡ false
-    go true b c x y z r = unread-apart v "CIFTI_INDEX_TYPE_BRAIN_MODELS" x refl refl
-    go false true c x y z r = unread-apart v "CIFTI_INDEX_TYPE_SERIES" y refl refl
-    go false false true x y z r = unread-apart v "CIFTI_INDEX_TYPE_SCALARS" z refl refl
-    go false false false x y z r = never-some r
+unfolding kindChosen isUnread
+chosen-read v h = chosen-in mapKinds v h none-unread
 
 map-read : (e : Element) → GoodAs matrixRows e → is "MatrixIndicesMap" (nameOf e) ≡ true → notRead e ≡ false
 unfolding notRead

@@ -4,7 +4,8 @@ use mathlib.Core.List.{List, [], _∷_}
 use mathlib.Core.Option.{Option, some}
 use mathlib.Core.Option
 use mathlib.Core.Bool.{Bool, true, false, not, cond}
-use Prim.Native.Nat.{ℕ}
+use Prim.Native.Nat.{ℕ, zero, suc}
+use lib.ListN.{getD}
 use Rattle.lists.specs.Lists.{countUp, each}
 use Rattle.grammar.specs.Document.{Element}
 use Rattle.grammar.specs.Look.{Word}
@@ -15,7 +16,8 @@ use Rattle.nodes.specs.Places.{Stands, the}
 use Rattle.nodes.specs.Root.{root}
 use Rattle.nodes.specs.declared.Kid.the-variants.{Child}
 use Rattle.schema.specs.Schema.{everywhere, shaped, numbered, Row}
-use Rattle.cifti.specs.Rows.{ElementKind, cifti, matrix, metaData, md, words, brainModels, series, scalars, namedMap, volume, transform, surface, voxels, vertexIndices, voxelIndices, rows, rowTable}
+use Rattle.cifti.specs.Rows.{ElementKind, cifti, rows, rowTable, elementKinds, numberOf, at-number}
+use Rattle.cifti.specs.Maps.{kindWords, caseWord, wordsOfKinds}
 use Rattle.cifti.specs.Words.{structures, units, numberIn}
 use Rattle.cifti.specs.Conditions.{shapeWrong, numberWrong}
 use Rattle.shape.specs.Letters.{lettering}
@@ -26,41 +28,33 @@ use Rattle.shape.specs.declared.Checked.{Checked}
 use Rattle.opening.specs.Table.{table, letters}
 use Rattle.schema.specs.Renamed.{rowNamed, renaming, shaped-named, numbered-named, walk-named}
 
-unfoldable pub numberOf : ElementKind → ℕ
-numberOf cifti = 0
-numberOf matrix = 1
-numberOf metaData = 2
-numberOf md = 3
-numberOf words = 4
-numberOf brainModels = 5
-numberOf series = 6
-numberOf scalars = 7
-numberOf namedMap = 8
-numberOf volume = 9
-numberOf transform = 10
-numberOf surface = 11
-numberOf voxels = 12
-numberOf vertexIndices = 13
-numberOf voxelIndices = 14
+-- one computed equation over all kinds
+all-rows-are : each (λ k. rowsOf table letters (numberOf k)) elementKinds ≡ each (λ k. rowNamed numberOf (rows k)) elementKinds
+unfolding rowTable elementKinds numberOf renaming each countUp table letters lettering tableWords
+all-rows-are = refl
+
+each-at : {A B : Type 0} (f : A → B) (l : List A) (i : ℕ) (a : A) → getD (each f l) i (f a) ≡ f (getD l i a)
+unfolding each
+each-at f [] i a = refl
+each-at f (x ∷ l) zero a = refl
+each-at f (x ∷ l) (suc i) a = each-at f l i a
+
+first-row-is : rowsOf table letters (numberOf cifti) ≡ rowNamed numberOf (rows cifti)
+unfolding rowTable numberOf renaming each countUp table letters lettering tableWords
+first-row-is = refl
 
 -- THE LAW: the table stands for the rows of the paper
 pub rows-are : (k : ElementKind) → rowsOf table letters (numberOf k) ≡ rowNamed numberOf (rows k)
-unfolding rowTable numberOf renaming each countUp table letters lettering tableWords
-rows-are cifti = refl
-rows-are matrix = refl
-rows-are metaData = refl
-rows-are md = refl
-rows-are words = refl
-rows-are brainModels = refl
-rows-are series = refl
-rows-are scalars = refl
-rows-are namedMap = refl
-rows-are volume = refl
-rows-are transform = refl
-rows-are surface = refl
-rows-are voxels = refl
-rows-are vertexIndices = refl
-rows-are voxelIndices = refl
+rows-are k =
+    ap tabled (sym (at-number k)) ∙ sym (each-at tabled elementKinds (numberOf k) cifti)
+    ∙ ap₂ (λ l r. getD l (numberOf k) r) all-rows-are first-row-is
+    ∙ each-at named elementKinds (numberOf k) cifti ∙ ap named (at-number k)
+  where
+    tabled : ElementKind → Row ℕ
+    tabled j = rowsOf table letters (numberOf j)
+
+    named : ElementKind → Row ℕ
+    named j = rowNamed numberOf (rows j)
 
 -- and its lists of words are the paper's
 structures-are : wordsAt table letters 8 ≡ structures
@@ -71,11 +65,18 @@ units-are : wordsAt table letters 7 ≡ units
 unfolding rowTable countUp table letters lettering tableWords
 units-are = refl
 
+kinds-are : wordsAt table letters 12 ≡ wordsOfKinds
+unfolding kindWords caseWord wordsOfKinds each countUp table letters lettering tableWords
+kinds-are = refl
+
 pub structure-is : (x : Word) {r : ℕ} → r ≡ numberIn (wordsAt table letters 8) x → r ≡ numberIn structures x
 structure-is x e = e ∙ ap (λ l. numberIn l x) structures-are
 
 pub unit-is : (x : Word) {r : ℕ} → r ≡ numberIn (wordsAt table letters 7) x → r ≡ numberIn units x
 unit-is x e = e ∙ ap (λ l. numberIn l x) units-are
+
+pub kind-is : (x : Word) {r : ℕ} → r ≡ numberIn (wordsAt table letters 12) x → r ≡ numberIn wordsOfKinds x
+kind-is x e = e ∙ ap (λ l. numberIn l x) kinds-are
 
 pub shape-is : (e : Element) → everywhere (rowsOf table letters) shaped (numberOf cifti) e ≡ everywhere rows shaped cifti e
 shape-is e = walk-named numberOf rows (rowsOf table letters) rows-are shaped shaped (shaped-named numberOf) e cifti

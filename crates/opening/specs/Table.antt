@@ -98,6 +98,7 @@ forms =
     ∷ 1 ∷ 0 ∷ 0 ∷ 0  -- text: the sixteen
     ∷ 2 ∷ 1048575 ∷ 0 ∷ 0  -- text: vertices
     ∷ 2 ∷ 4095 ∷ 0 ∷ 0  -- text: voxels
+    ∷ 1 ∷ 28 ∷ 31 ∷ 0  -- a kind of map
     ∷ []
 
 -- the words, from 0

@@ -7,5 +7,6 @@ mod vocabulary;
 
 pub use header::Opening;
 pub use header::opened;
+pub use vocabulary::kind_named;
 pub use vocabulary::structure_named;
 pub use vocabulary::unit_named;

@@ -1,6 +1,6 @@
 // CIFTI's table: all its rows, words and limits, as tools/cifti_table writes them from specs/Table.antt.
 // Where each part begins and the watched word; kinds; attributes; children; choices; cases; words; forms.
-pub(crate) const TABLE: [u32; 335] = [
+pub(crate) const TABLE: [u32; 339] = [
     8,
     98,
     143,
@@ -335,6 +335,10 @@ pub(crate) const TABLE: [u32; 335] = [
     2,
     4095,
     0,
+    0,
+    1,
+    28,
+    31,
     0,
 ];
 

@@ -5,6 +5,7 @@ use shape::Checked;
 ghost use mathlib.Core.Path.{_≡_};
 ghost use Rattle.nodes.specs.Values.{value-there};
 ghost use Rattle.cifti.specs.Words.{structures, units, numberIn};
+ghost use Rattle.cifti.specs.Maps.{wordsOfKinds};
 ghost use Rattle.opening.specs.Agree.{ChecksCifti};
 
 // Conditions 3, 6 and 7.
@@ -32,4 +33,13 @@ pub fn unit_named(text: &[u8], v: usize) -> u64
     let table = TABLE;
     let letters = LETTERS;
     shape::word_number(text, v, &table, &letters, 7)
+}
+
+// The place of the value at `v` among the words of the kinds of maps; their number where it is none of them.
+pub fn kind_named(text: &[u8], v: usize) -> u64
+    ensures { λ r. ⌜ r ≡ numberIn wordsOfKinds (value-there (now (text .entry)) v) ⌝ }
+{
+    let table = TABLE;
+    let letters = LETTERS;
+    shape::word_number(text, v, &table, &letters, 12)
 }

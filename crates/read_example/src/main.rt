@@ -1,6 +1,7 @@
 // The reader on case A of the paper, and on the dense examples of the CIFTI-2 document: for each text the answer, and the records.
 use cifti::Answer;
 use cifti::Kind;
+use cifti::kind_number;
 use libc::STDOUT_FILENO;
 
 // The largest power of ten that is not above the number; 1 for 0.
@@ -25,18 +26,21 @@ fn show_number(n: u64) {
 }
 
 fn show_kind(kind: Kind) {
-    match kind {
-        Kind::None => {
+    match kind_number(kind) {
+        0 => {
             io::write_all(STDOUT_FILENO, b"none ");
         }
-        Kind::Brain => {
+        1 => {
             io::write_all(STDOUT_FILENO, b"brain ");
         }
-        Kind::Series => {
+        2 => {
             io::write_all(STDOUT_FILENO, b"series ");
         }
-        Kind::Scalars => {
+        3 => {
             io::write_all(STDOUT_FILENO, b"scalars ");
+        }
+        _ => {
+            io::write_all(STDOUT_FILENO, b"other ");
         }
     }
 }

@@ -1,8 +1,8 @@
 // Conditions 10, 11 and 12 over all maps: each map's lists are read once.
 use super::gather::models_of;
-use super::kind::is_brain;
 use super::survey::nth;
 use super::verdict::lists_verdict;
+use cifti::is_brain;
 use maps::survey::MapNote;
 use maps::survey::Maps;
 ghost use mathlib.Core.Path.{_≡_};

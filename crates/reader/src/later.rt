@@ -1,9 +1,9 @@
 // Conditions 10 to 14, where 1 to 9 do not apply.
 use super::judge::judged;
-use super::kind::is_brain;
 use super::stretch::room_short;
 use super::survey::nth;
 use super::twice::location_twice;
+use cifti::is_brain;
 use maps::survey::MapNote;
 use maps::survey::Maps;
 ghost use lib.ListN.{length};

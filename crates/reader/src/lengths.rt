@@ -1,6 +1,9 @@
 // The length of a map, and where it ends: one walk over its children.
 use super::fields::attribute_number;
+use super::kind::counts;
 use cifti::Kind;
+use cifti::is_brain;
+use cifti::is_series;
 use maps::survey::Measure;
 use maps::survey::Seen;
 use nodes::ahead::Ahead;
@@ -12,29 +15,26 @@ ghost use Rattle.nodes.specs.Places.{Stands, the};
 ghost use Rattle.nodes.specs.Leaving.{Behind};
 ghost use Rattle.maps.specs.Sums.{Weighed, InShort, AheadBehind, Summed, KindAt, Spanned, VolumeMet};
 
-// What a child adds to the length of its map: in a brain map the count of a model, else 1 for a name.
-fn weight(text: &[u8], at: usize, brain: bool) -> u64
+// What a child adds to the length of a map of this kind: a model its count, any other that counts 1.
+fn weight(text: &[u8], at: usize, kind: Kind) -> u64
     requires { ⌜ Stands (now text) at ⌝ }
-    ensures { λ r. ⌜ Weighed brain (the (now (text .entry)) at) r ⌝ }
+    ensures { λ r. ⌜ Weighed kind (the (now (text .entry)) at) r ⌝ }
 {
-    if brain {
-        if nodes::names::name_is(text, at, b"BrainModel") {
+    if counts(text, at, kind) {
+        if is_brain(kind) {
             return attribute_number(text, at, b"IndexCount", 1, 1_048_576);
         }
-        return 0;
-    }
-    if nodes::names::name_is(text, at, b"NamedMap") {
         return 1;
     }
     0
 }
 
 // What is seen of a brain map's Volume, with the child at `at`; the first is kept.
-fn volume_met(text: &[u8], at: usize, brain: bool, seen: Seen) -> Seen
+fn volume_met(text: &[u8], at: usize, kind: Kind, seen: Seen) -> Seen
     requires { ⌜ Stands (now text) at ⌝ }
-    ensures { λ r. ⌜ VolumeMet brain (now (text .entry)) at seen r ⌝ }
+    ensures { λ r. ⌜ VolumeMet kind (now (text .entry)) at seen r ⌝ }
 {
-    if brain {
+    if is_brain(kind) {
         if seen.found {
             return seen;
         }
@@ -71,9 +71,9 @@ pub(crate) fn place_behind(text: &[u8], at: usize) -> usize
 }
 
 // What the children add, and where the element ends, which the last of them tells.
-fn children_sum(text: &[u8], at: usize, brain: bool) -> Measure
+fn children_sum(text: &[u8], at: usize, kind: Kind) -> Measure
     requires { ⌜ InShort (now text) at ⌝ }
-    ensures { λ r. ⌜ Summed (now (text .entry)) at brain r ⌝ }
+    ensures { λ r. ⌜ Summed (now (text .entry)) at kind r ⌝ }
 {
     let mut n = 0;
     let mut seen = Seen {
@@ -84,8 +84,8 @@ fn children_sum(text: &[u8], at: usize, brain: bool) -> Measure
     loop {
         match next {
             Ahead::Child(k) => {
-                n += weight(text, k, brain);
-                seen = volume_met(text, k, brain, seen);
+                n += weight(text, k, kind);
+                seen = volume_met(text, k, kind, seen);
                 next = ahead_behind(text, k);
             }
             Ahead::End(behind) => {
@@ -111,22 +111,16 @@ pub(crate) fn map_measure(text: &[u8], at: usize, kind: Kind) -> Measure
     requires { ⌜ KindAt (now text) at kind ⌝ }
     ensures { λ r. ⌜ Spanned (now (text .entry)) at kind r ⌝ }
 {
-    let none = Seen {
-        found: false,
-        at: 0,
-    };
-    match kind {
-        Kind::None => Measure {
-            length: 0,
-            volume: none,
-            behind: place_behind(text, at),
-        },
-        Kind::Brain => children_sum(text, at, true),
-        Kind::Series => Measure {
+    if is_series(kind) {
+        let none = Seen {
+            found: false,
+            at: 0,
+        };
+        return Measure {
             length: attribute_number(text, at, b"NumberOfSeriesPoints", 1, 1_048_576),
             volume: none,
             behind: place_behind(text, at),
-        },
-        Kind::Scalars => children_sum(text, at, false),
+        };
     }
+    children_sum(text, at, kind)
 }

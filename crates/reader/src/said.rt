@@ -1,6 +1,4 @@
 // What the answer says of the maps.
-use super::kind::is_brain;
-use super::kind::is_series;
 use super::series::series_at;
 use super::stretch::reach_of;
 use super::survey::nth;
@@ -8,6 +6,8 @@ use cifti::Answer;
 use cifti::Dimension;
 use cifti::Series;
 use cifti::dimension_by;
+use cifti::is_brain;
+use cifti::is_series;
 use cifti::no_series;
 use cifti::unused;
 use maps::survey::MapNote;

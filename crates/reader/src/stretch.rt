@@ -1,6 +1,6 @@
 // How many records a map takes, and condition 13: records lent are fewer than all stretches, or work space than the longest.
-use super::kind::is_brain;
 use super::survey::nth;
+use cifti::is_brain;
 use maps::survey::MapNote;
 use maps::survey::Maps;
 ghost use mathlib.Core.Path.{_≡_};

@@ -1,7 +1,7 @@
 // Each brain map fills one stretch of the records, in text order of maps.
-use super::kind::is_brain;
 use super::map::fill_map;
 use super::survey::nth;
+use cifti::is_brain;
 use maps::survey::MapNote;
 use maps::survey::Maps;
 ghost use mathlib.Core.Path.{_≡_};

@@ -7,15 +7,10 @@ kind-of-spec =
     tie.close
     (tie.spec
     (λ c. search asking)
-    (λ c. search asking)
     (λ c κs. search asking)
     (λ c. search asking)
-    (λ c. search asking)
-    (λ c. search asking)
+    (λ c κs. search asking)
     (λ c κs. search asking)
     (λ c. search asking)
-    (λ c. search asking)
-    (λ c. search asking)
-    (λ c κs. search asking)
     (λ c. search asking)
     (λ c. search asking))

@@ -6,17 +6,10 @@ pub map-measure-spec : {M : Type 1} → statement M
 map-measure-spec =
     tie.close
     (tie.spec
-    (λ c. search measuring)
     (λ c κs. search measuring)
-    (λ c. search measuring)
-    (λ c κs. search measuring)
-    (λ c. search measuring)
     (λ c. search measuring)
     (λ c κs. search measuring)
     (λ c κs. search measuring)
     (λ c. search measuring)
     (λ c κs. search measuring)
-    (λ c. search measuring)
-    (λ c. search measuring)
-    (λ c. search measuring)
     (λ c. search measuring))

@@ -6,6 +6,7 @@ pub volume-met-spec : {M : Type 1} → statement M
 volume-met-spec =
     tie.close
     (tie.spec
+    (λ c κs. search meeting)
     (λ c. search meeting)
     (λ c. search meeting)
     (λ c κs. search meeting)

@@ -6,13 +6,10 @@ pub weight-spec : {M : Type 1} → statement M
 weight-spec =
     tie.close
     (tie.spec
-    (λ c. search weighing)
+    (λ c κs. search weighing)
     (λ c κs. search weighing)
     (λ c. search weighing)
     (λ c κs. search weighing)
     (λ c. search weighing)
-    (λ c. search weighing)
-    (λ c. search weighing)
-    (λ c κs. search weighing)
     (λ c. search weighing)
     (λ c. search weighing))
