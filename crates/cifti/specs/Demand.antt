@@ -8,6 +8,7 @@ use Prim.Native.Nat.{ℕ, zero, suc, _+_, _-_, _<_, _≤_}
 use native.Mathlib.Omega.{arith}
 use lib.Dec.{eqb}
 use lib.ListN.{length, getD, length-append, List·getD-append}
+use Rattle.lists.specs.Booleans.{or-left, or-right}
 use Rattle.lists.specs.Lists.{any, total, those, eachIn, there}
 use Rattle.lists.specs.Quantifiers.{OnePlace}
 use Rattle.lists.specs.RefusalLaws.{row-fails, rows-past}
@@ -33,20 +34,12 @@ ranges-right lengths size room work e h = row-fails (rows-past 10 (refusal-none 
 
 even-in : (k : List Map) (m : Map) (l : List Map) → isBrain (m .kind) ≡ true → any uneven (brainMaps (k ++ (m ∷ l))) ≡ false → uneven m ≡ false
 unfolding brainMaps those any
-even-in [] m l h f = let g : any uneven (m ∷ brainMaps l) ≡ false = rw h at f in left (uneven m) (any uneven (brainMaps l)) g
-  where
-    left : (a b : Bool) → (a || b) ≡ false → a ≡ false
-    left false b q = refl
-    left true b q = absurd (true≢false q)
+even-in [] m l h f = let g : any uneven (m ∷ brainMaps l) ≡ false = rw h at f in or-left (uneven m) (any uneven (brainMaps l)) g
 even-in (x ∷ k) m l h f = even-in k m l h (go (isBrain (x .kind)) f)
   where
     go : (b : Bool) → any uneven (cond b (x ∷ brainMaps (k ++ (m ∷ l))) (brainMaps (k ++ (m ∷ l)))) ≡ false → any uneven (brainMaps (k ++ (m ∷ l))) ≡ false
     go false q = q
-    go true q = right (uneven x) (any uneven (brainMaps (k ++ (m ∷ l)))) q
-      where
-        right : (a b : Bool) → (a || b) ≡ false → b ≡ false
-        right false b q = q
-        right true b q = absurd (true≢false q)
+    go true q = or-right (uneven x) (any uneven (brainMaps (k ++ (m ∷ l)))) q
 
 -- ---- How far the stretches reach.
 

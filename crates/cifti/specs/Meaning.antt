@@ -9,33 +9,13 @@ use native.Mathlib.Omega.{arith}
 use lib.Dec.{eqb, leb, ltb}
 use lib.ListN.{length, getD}
 use borrow.Author.Tests.{eqb-true, eq-eqb, leb-true, le-leb, ltb-true, lt-ltb}
+use Rattle.lists.specs.Booleans.{and-halves, and-both, or-elim, or-first, or-second}
 use Rattle.lists.specs.Lists.{any, count, twoOf, allBelow, each, eachIn}
 use Rattle.lists.specs.Quantifiers.{EveryPlace, OnePlace, any-iff, twoOf-iff, count-one-iff, allBelow-iff}
 use Rattle.records.specs.Record.{Location, onSurface, recordOf, recordWords}
 use Rattle.cifti.specs.Maps.{Voxel, voxel, Listed, vertices, voxels, Model, Map, brainMaps, lengthOf, covers, locations, vertexNumbers, voxelsOf, sameVoxel}
 use Rattle.cifti.specs.Conditions.{listedDimensions, dimensionsWrong, sameType, alike, modelsShare, listsCount, uneven, rangesWrong, repeats, locationTwice, beyond, numbersOutside}
 use Rattle.cifti.specs.Answer.{recordAt}
-
--- ---- Small steps on Bools.
-
-both : (a b : Bool) → (a && b) ≡ true → (a ≡ true) × (b ≡ true)
-both true b h = (refl, h)
-both false b h = absurd (false≢true h)
-
-and-true : {a b : Bool} → a ≡ true → b ≡ true → (a && b) ≡ true
-and-true h k = rw (h, k) refl
-
-or-cases : (a b : Bool) → (a || b) ≡ true → (P : Type 0) → (a ≡ true → P) → (b ≡ true → P) → P
-or-cases true b h P f g = f refl
-or-cases false b h P f g = g h
-
-or-left : (a b : Bool) → a ≡ true → (a || b) ≡ true
-or-left true b h = refl
-or-left false b h = absurd (false≢true h)
-
-or-right : (a b : Bool) → b ≡ true → (a || b) ≡ true
-or-right true b h = refl
-or-right false b h = h
 
 -- no place fails: every place passes
 module _ {A : Type 0} (z : A) (p : A → Bool) (l : List A) where
@@ -57,8 +37,8 @@ module _ {A : Type 0} (z : A) (p : A → Bool) (l : List A) where
 pub covers-iff : (n : ℕ) (m : Model) → (covers n m ≡ true) ↔ ((m .offset ≤ n) × (n < m .offset + m .count))
 unfolding covers
 covers-iff n m = (
-  λ h. let (p, q) = both (leb (m .offset) n) (ltb n (m .offset + m .count)) h in (leb-true (m .offset) n p, ltb-true n (m .offset + m .count) q),
-  λ (p, q). and-true (le-leb (m .offset) n p) (lt-ltb n (m .offset + m .count) q),
+  λ h. let (p, q) = and-halves (leb (m .offset) n) (ltb n (m .offset + m .count)) h in (leb-true (m .offset) n p, ltb-true n (m .offset + m .count) q),
+  λ (p, q). and-both (le-leb (m .offset) n p) (lt-ltb n (m .offset + m .count) q),
 )
 
 -- ---- CONDITION 8 does not apply: every dimension is listed at exactly one place of all the lists, and every listed one exists.
@@ -115,8 +95,8 @@ type-from both-voxels = refl
 pub alike-iff : (a b : Model) → (alike a b ≡ true) ↔ (OneType (a .listed) (b .listed) × (a .structure ≡ b .structure))
 unfolding alike
 alike-iff a b = (
-  λ h. let (p, q) = both (sameType (a .listed) (b .listed)) (eqb (a .structure) (b .structure)) h in (type-to (a .listed) (b .listed) p, eqb-true (a .structure) (b .structure) q),
-  λ (p, q). and-true (type-from p) (eq-eqb (a .structure) (b .structure) q),
+  λ h. let (p, q) = and-halves (sameType (a .listed) (b .listed)) (eqb (a .structure) (b .structure)) h in (type-to (a .listed) (b .listed) p, eqb-true (a .structure) (b .structure) q),
+  λ (p, q). and-both (type-from p) (eq-eqb (a .structure) (b .structure) q),
 )
 
 module _ (m₀ : Map) (b₀ : Model) where
@@ -281,12 +261,12 @@ voxel-iff v w = (to, from)
 
     to : sameVoxel v w ≡ true → v ≡ w
     to h =
-        let (p, q) = both (eqb (v .i) (w .i)) (eqb (v .j) (w .j) && eqb (v .k) (w .k)) h in
-        let (s, t) = both (eqb (v .j) (w .j)) (eqb (v .k) (w .k)) q in
+        let (p, q) = and-halves (eqb (v .i) (w .i)) (eqb (v .j) (w .j) && eqb (v .k) (w .k)) h in
+        let (s, t) = and-halves (eqb (v .j) (w .j)) (eqb (v .k) (w .k)) q in
         build (eqb-true (v .i) (w .i) p) (eqb-true (v .j) (w .j) s) (eqb-true (v .k) (w .k) t)
 
     from : v ≡ w → sameVoxel v w ≡ true
-    from e = and-true (eq-eqb (v .i) (w .i) (ap (λ (x : Voxel). x .i) e)) (and-true (eq-eqb (v .j) (w .j) (ap (λ (x : Voxel). x .j) e)) (eq-eqb (v .k) (w .k) (ap (λ (x : Voxel). x .k) e)))
+    from e = and-both (eq-eqb (v .i) (w .i) (ap (λ (x : Voxel). x .i) e)) (and-both (eq-eqb (v .j) (w .j) (ap (λ (x : Voxel). x .j) e)) (eq-eqb (v .k) (w .k) (ap (λ (x : Voxel). x .k) e)))
 
 -- one thing at two different places of a list
 module _ {A : Type 0} (z : A) where
@@ -322,13 +302,13 @@ module _ (b₀ : Model) where
       all-voxels = eachIn (λ b. voxelsOf (b .listed)) l
 
       to : (any vertex l || twoOf sameVoxel all-voxels) ≡ true → Repeated l
-      to h = or-cases (any vertex l) (twoOf sameVoxel all-voxels) h (Repeated l)
+      to h = or-elim (Repeated l) (any vertex l) (twoOf sameVoxel all-voxels) h
           (λ k. let (a, u, v) = any-iff b₀ vertex l .0 k in vertex-twice a u (two-iff 0 eqb number-iff (vertexNumbers ((getD l a b₀) .listed)) .0 v))
           (λ k. voxel-twice (two-iff (voxel 0 0 0) sameVoxel voxel-iff all-voxels .0 k))
 
       from : Repeated l → (any vertex l || twoOf sameVoxel all-voxels) ≡ true
-      from (vertex-twice a u t) = or-left (any vertex l) (twoOf sameVoxel all-voxels) (any-iff b₀ vertex l .1 (a, u, two-iff 0 eqb number-iff (vertexNumbers ((getD l a b₀) .listed)) .1 t))
-      from (voxel-twice t) = or-right (any vertex l) (twoOf sameVoxel all-voxels) (two-iff (voxel 0 0 0) sameVoxel voxel-iff all-voxels .1 t)
+      from (vertex-twice a u t) = or-first (any vertex l) (twoOf sameVoxel all-voxels) (any-iff b₀ vertex l .1 (a, u, two-iff 0 eqb number-iff (vertexNumbers ((getD l a b₀) .listed)) .1 t))
+      from (voxel-twice t) = or-second (any vertex l) (two-iff (voxel 0 0 0) sameVoxel voxel-iff all-voxels .1 t)
 
   -- of all maps
   pub twice-iff : (m₀ : Map) (l : List Map) → (locationTwice l ≡ true) ↔ ((i : ℕ) × (i < length l) × Repeated ((getD l i m₀) .models))

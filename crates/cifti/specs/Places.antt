@@ -10,22 +10,12 @@ use native.Mathlib.Omega.{arith}
 use lib.Dec.{leb, ltb}
 use lib.ListN.{length, getD}
 use borrow.Author.Tests.{leb-true, ltb-true, le-leb, lt-ltb}
+use Rattle.lists.specs.Booleans.{or-elim, or-first, or-second}
 use Rattle.lists.specs.Lists.{any, twoOf, eachIn}
 use Rattle.lists.specs.Laws.{any-in, two-append}
 use Rattle.lists.specs.Quantifiers.{any-iff, twoOf-iff, OnePlace}
 use Rattle.cifti.specs.Maps.{Model, covers}
-
-or-cases : (a b : Bool) → (a || b) ≡ true → (P : Type 0) → (a ≡ true → P) → (b ≡ true → P) → P
-or-cases true b h P f g = f refl
-or-cases false b h P f g = g h
-
-or-left : (a b : Bool) → a ≡ true → (a || b) ≡ true
-or-left true b h = refl
-or-left false b h = absurd (false≢true h)
-
-or-right : (a b : Bool) → b ≡ true → (a || b) ≡ true
-or-right true b h = refl
-or-right false b h = h
+use Rattle.cifti.specs.Cover.{covers-yes, covers-is}
 
 -- an entry stands before another: in an earlier model, or earlier in the same
 pub data Before (a p b q : ℕ) : Type 0 where
@@ -65,8 +55,8 @@ module _ {A : Type 0} (z : A) (r : A → A → Bool) (f : Model → List A) (m�
   met-to [] h = absurd (false≢true h)
   met-to (m ∷ l) h =
       let k = sym (two-append r (f m) (eachIn f l)) ∙ h in
-      or-cases (twoOf r (f m) || any (λ x. any (r x) (eachIn f l)) (f m)) (twoOf r (eachIn f l)) k (Met (m ∷ l))
-      (λ g. or-cases (twoOf r (f m)) (any (λ x. any (r x) (eachIn f l)) (f m)) g (Met (m ∷ l))
+      or-elim (Met (m ∷ l)) (twoOf r (f m) || any (λ x. any (r x) (eachIn f l)) (f m)) (twoOf r (eachIn f l)) k
+      (λ g. or-elim (Met (m ∷ l)) (twoOf r (f m)) (any (λ x. any (r x) (eachIn f l)) (f m)) g
       (λ e. let (p, q, t, u, v) = twoOf-iff z r (f m) .0 e in
       record { a = 0; p = p; b = 0; q = q; a-is = omega arith; b-is = omega arith; p-is = omega arith; q-is = u; order = same refl t; related = v })
       (λ e. let (p, u, v) = any-iff z (λ x. any (r x) (eachIn f l)) (f m) .0 e in
@@ -80,14 +70,14 @@ module _ {A : Type 0} (z : A) (r : A → A → Bool) (f : Model → List A) (m�
   unfolding eachIn block entry
   met-from [] a p b q u v s t o e = absurd (not-suc-le-zero u)
   met-from (m ∷ l) zero p zero q u v s t o e =
-      two-append r (f m) (eachIn f l) ∙ or-left _ _ (or-left _ _ (twoOf-iff z r (f m) .1 (p, q, inner o, t, e)))
+      two-append r (f m) (eachIn f l) ∙ or-first _ _ (or-first _ _ (twoOf-iff z r (f m) .1 (p, q, inner o, t, e)))
     where
       inner : Before 0 p 0 q → p < q
       inner (other h) = absurd (not-suc-le-zero h)
       inner (same h k) = k
   met-from (m ∷ l) zero p (suc b) q u v s t o e =
       two-append r (f m) (eachIn f l)
-      ∙ or-left _ _ (or-right (twoOf r (f m)) _ (any-iff z (λ x. any (r x) (eachIn f l)) (f m) .1 (
+      ∙ or-first _ _ (or-second (twoOf r (f m)) (any-iff z (λ x. any (r x) (eachIn f l)) (f m) .1 (
         p,
         s,
         any-in (r (getD (f m) p z)) f l ∙ any-iff m₀ (λ n. any (r (getD (f m) p z)) (f n)) l .1 (b, le-of-suc-le-suc v, any-iff z (r (getD (f m) p z)) (f (getD l b m₀)) .1 (q, t, e)),
@@ -99,7 +89,7 @@ module _ {A : Type 0} (z : A) (r : A → A → Bool) (f : Model → List A) (m�
       wrong (same h k) = omega arith
   met-from (m ∷ l) (suc a) p (suc b) q u v s t o e =
       two-append r (f m) (eachIn f l)
-      ∙ or-right (twoOf r (f m) || any (λ x. any (r x) (eachIn f l)) (f m)) _ (met-from l a p b q (le-of-suc-le-suc u) (le-of-suc-le-suc v) s t (down o) e)
+      ∙ or-second (twoOf r (f m) || any (λ x. any (r x) (eachIn f l)) (f m)) (met-from l a p b q (le-of-suc-le-suc u) (le-of-suc-le-suc v) s t (down o) e)
     where
       down : Before (suc a) p (suc b) q → Before a p b q
       down (other h) = other (le-of-suc-le-suc h)
@@ -124,18 +114,6 @@ module _ {A : Type 0} (z : A) (r : A → A → Bool) (f : Model → List A) (m�
       go true e k = absurd (let x : _≡_ {A = ℕ} 0 (suc a) = w 0 (omega arith) e in omega arith)
       go false e k = k
 
-covers-true : (n : ℕ) (m : Model) → m .offset ≤ n → n < m .offset + m .count → covers n m ≡ true
-unfolding covers
-covers-true n m h k = rw (le-leb (m .offset) n h, lt-ltb n (m .offset + m .count) k) refl
-
-covers-is : (n : ℕ) (m : Model) → covers n m ≡ true → (m .offset ≤ n) × (n < m .offset + m .count)
-unfolding covers
-covers-is n m h = go (leb (m .offset) n) refl h
-  where
-    go : (b : Bool) → leb (m .offset) n ≡ b → (b && ltb n (m .offset + m .count)) ≡ true → (m .offset ≤ n) × (n < m .offset + m .count)
-    go true e k = (leb-true (m .offset) n e, ltb-true n (m .offset + m .count) k)
-    go false e k = absurd (false≢true k)
-
 -- a map whose every index lies in one range, whose ranges lie in the map, and whose models list as many as they count
 pub record Covered {A : Type 0} (f : Model → List A) (m₀ : Model) (l : List Model) (size : ℕ) : Type 0 where
   pub one : (n : ℕ) → n < size → OnePlace m₀ (covers n) l
@@ -159,7 +137,7 @@ module _ {A : Type 0} (z : A) (r : A → A → Bool) (turned : (x y : A) → r x
   covered a p u v =
       let h = c .lists a u in
       let k = c .fits a u in
-      (covers-true (off a + p) (getD l a m₀) (omega arith) (omega arith), omega arith)
+      (covers-yes (off a + p) (getD l a m₀) (omega arith) (omega arith), omega arith)
 
   -- two ranges that hold one index are one model's
   alone : (n a b : ℕ) → n < size → a < length l → b < length l → covers n (getD l a m₀) ≡ true → covers n (getD l b m₀) ≡ true → a ≡ b

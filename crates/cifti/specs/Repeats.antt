@@ -8,6 +8,7 @@ use native.Mathlib.Omega.{arith}
 use lib.Dec.{eqb}
 use lib.ListN.{length, getD}
 use borrow.Author.Tests.{eq-eqb, eqb-true}
+use Rattle.lists.specs.Booleans.{and-halves, or-false}
 use Rattle.lists.specs.Lists.{any, twoOf, eachIn, total}
 use Rattle.lists.specs.Quantifiers.{EveryPlace, OnePlace, count-one-iff}
 use Rattle.cifti.specs.Cover.{ranges-within}
@@ -27,18 +28,14 @@ sameSpot (onSurface s v) (inVolume t x y z) = false
 sameSpot (inVolume s i j k) (onSurface t w) = false
 sameSpot (inVolume s i j k) (inVolume t x y z) = eqb i x && (eqb j y && eqb k z)
 
-both : (a b : Bool) → (a && b) ≡ true → (a ≡ true) × (b ≡ true)
-both true b h = (refl, h)
-both false b h = absurd (false≢true h)
-
 pub spot-to : (x y : Location) → sameSpot x y ≡ true → SamePlace x y
 unfolding sameSpot
-spot-to (onSurface s v) (onSurface t w) h = let (p, q) = both (eqb s t) (eqb v w) h in rw (eqb-true s t p, eqb-true v w q) sameVertex
+spot-to (onSurface s v) (onSurface t w) h = let (p, q) = and-halves (eqb s t) (eqb v w) h in rw (eqb-true s t p, eqb-true v w q) sameVertex
 spot-to (onSurface s v) (inVolume t x y z) h = absurd (false≢true h)
 spot-to (inVolume s i j k) (onSurface t w) h = absurd (false≢true h)
 spot-to (inVolume s i j k) (inVolume t x y z) h =
-    let (p, q) = both (eqb i x) (eqb j y && eqb k z) h in
-    let (u, v) = both (eqb j y) (eqb k z) q in
+    let (p, q) = and-halves (eqb i x) (eqb j y && eqb k z) h in
+    let (u, v) = and-halves (eqb j y) (eqb k z) q in
     rw (eqb-true i x p, eqb-true j y u, eqb-true k z v) Record.sameVoxel
 
 pub spot-from : {x y : Location} → SamePlace x y → sameSpot x y ≡ true
@@ -49,11 +46,7 @@ spot-from (Record.sameVoxel {i} {j} {k}) = rw (eq-eqb i i refl, eq-eqb j j refl,
 -- within one model
 spots-in : (s : ℕ) (t : Listed) → twoOf sameSpot (locationsBy s t) ≡ (twoOf eqb (vertexNumbers t) || twoOf sameVoxel (voxelsOf t))
 unfolding locationsBy vertexNumbers voxelsOf sameSpot sameVoxel voxelAt twoOf
-spots-in s (vertices n l) = two-each (onSurface s) sameSpot l ∙ two-same (λ v w. rw (eq-eqb s s refl) refl) l ∙ sym (or-none (twoOf eqb l))
-  where
-    or-none : (b : Bool) → (b || false) ≡ b
-    or-none true = refl
-    or-none false = refl
+spots-in s (vertices n l) = two-each (onSurface s) sameSpot l ∙ two-same (λ v w. rw (eq-eqb s s refl) refl) l ∙ sym (or-false (twoOf eqb l))
 spots-in s (voxels l) = two-each (voxelAt s) sameSpot (threes l)
 
 -- a voxel against the models behind it
@@ -126,12 +119,12 @@ eqb-turned m n h = eq-eqb n m (sym (eqb-true m n h))
 
 pub turned : (x y : Location) → sameSpot x y ≡ true → sameSpot y x ≡ true
 unfolding sameSpot
-turned (onSurface s v) (onSurface t w) h = let (p, q) = both (eqb s t) (eqb v w) h in rw (eqb-turned s t p, eqb-turned v w q) refl
+turned (onSurface s v) (onSurface t w) h = let (p, q) = and-halves (eqb s t) (eqb v w) h in rw (eqb-turned s t p, eqb-turned v w q) refl
 turned (onSurface s v) (inVolume t x y z) h = absurd (false≢true h)
 turned (inVolume s i j k) (onSurface t w) h = absurd (false≢true h)
 turned (inVolume s i j k) (inVolume t x y z) h =
-    let (p, q) = both (eqb i x) (eqb j y && eqb k z) h in
-    let (u, v) = both (eqb j y) (eqb k z) q in
+    let (p, q) = and-halves (eqb i x) (eqb j y && eqb k z) h in
+    let (u, v) = and-halves (eqb j y) (eqb k z) q in
     rw (eqb-turned i x p, eqb-turned j y u, eqb-turned k z v) refl
 
 length-threes : (l : List ℕ) (n : ℕ) → length l ≡ 3 * n → length (threes l) ≡ n

@@ -9,7 +9,7 @@ use lib.Dec.{eqb}
 use lib.ListN.{length, getD, List·getD-eq-default}
 use borrow.Author.Needs.{needs}
 use borrow.Author.Tests.{eqb-true, eq-eqb, ne-eqb, not-true}
-use Rattle.lists.specs.Booleans.{and-left, and-right}
+use Rattle.lists.specs.Booleans.{and-left, and-right, and-true}
 use Rattle.lists.specs.Lists.{any, count}
 use Rattle.grammar.specs.Look.{attr}
 use Rattle.nodes.specs.Places.{the}
@@ -31,10 +31,6 @@ differs size lengths l = any (λ d. not (eqb size (getD lengths d 0))) l
 -- the dimension is listed, and has not this length
 unfoldable pub differsAt : (size : ℕ) (lengths : List ℕ) → List ℕ → ℕ → Bool
 differsAt size lengths l d = not (eqb size (getD lengths d 0)) && not (eqb (count (eqb d) l) 0)
-
-and-one : (b : Bool) → (b && true) ≡ false → b ≡ false
-and-one true h = absurd (true≢false h)
-and-one false h = refl
 
 pub length-past : (l : List ℕ) (d : ℕ) → length l ≤ d → 0 ≡ getD l d 0
 length-past l d h = sym (List·getD-eq-default l 0 h)
@@ -98,7 +94,7 @@ module _ {text : List ℕ} {n : MapNote} {lengths : List ℕ} where
         here k =
             let z : eqb (count (eqb d) (dimensionsOf (the text (n .at)))) 0 ≡ false = ne-eqb _ 0 k in
             let h : (not (eqb (n .length) (getD lengths d 0)) && not (eqb (count (eqb d) (dimensionsOf (the text (n .at)))) 0)) ≡ false = sym p ∙ f in
-            and-one _ (rw z at h)
+            sym (and-true _) ∙ rw z at h
 
         by : (e : ℕ) → e < d + 1 → (count (eqb e) (dimensionsOf (the text (n .at))) ≡ 0 → ⊥) → Dec (e < d) → not (eqb (n .length) (getD lengths e 0)) ≡ false
         by e u k (yes v) = go .fine e v k

@@ -9,6 +9,7 @@ use native.Mathlib.Nat.{le-of-suc-le-suc, not-suc-le-zero}
 use lib.Dec.{eqb, ltb}
 use lib.ListN.{length, getD}
 use borrow.Author.Tests.{eqb-true, eq-eqb, ne-eqb, lt-ltb, le-ltb, ltb-true, ltb-false}
+use Rattle.lists.specs.Booleans.{or-true}
 use Rattle.lists.specs.Lists.{all, any, count, eachIn, allBelow}
 use Rattle.lists.specs.Quantifiers.{allBelow-iff}
 use Rattle.cifti.specs.Maps.{Map}
@@ -27,10 +28,6 @@ unfolding any count
 any-some p d [] h k = absurd (k refl)
 any-some p d (e ∷ l) h k = go (eqb d e) refl (p e) refl k (any-some p d l h)
   where
-    or-true : (b : Bool) → (b || true) ≡ true
-    or-true true = refl
-    or-true false = refl
-
     go : (b : Bool) → eqb d e ≡ b → (t : Bool) → p e ≡ t → (cond b 1 0 + count (eqb d) l ≡ 0 → ⊥) → ((count (eqb d) l ≡ 0 → ⊥) → any p l ≡ true) → (t || any p l) ≡ true
     go true q t r k ih = let z : d ≡ e = eqb-true d e q in let y : t ≡ true = sym r ∙ ap p (sym z) ∙ h in rw y
     go false q t r k ih = rw (ih (λ z. k (omega arith))) (or-true t)
@@ -59,10 +56,6 @@ module _ (lengths : List ℕ) (l : List Map) (small : Small (listedDimensions l)
       all-once h v =
           let e = eqb-true (count (eqb d) (listedDimensions l)) 1 (allBelow-iff (length lengths) once .0 h d v) in
           k (rw (lt-ltb d (length lengths) v) (omega arith))
-
-      or-true : (b : Bool) → (b || true) ≡ true
-      or-true true = refl
-      or-true false = refl
 
       go : Dec (d < length lengths) → (not (allBelow (length lengths) once) || any (λ e. not (ltb e (length lengths))) (listedDimensions l)) ≡ true
       go (yes v) = by (allBelow (length lengths) once) refl

@@ -12,6 +12,7 @@ use lib.ListN.{length, getD, take, set, length-set}
 use lib.Seq.{getD-set-same, getD-set-other, take-suc}
 use borrow.Author.Needs.{needs}
 use borrow.Author.Tests.{eq-eqb, ne-eqb}
+use Rattle.lists.specs.Booleans.{or-second}
 use Rattle.lists.specs.Lists.{any, count, each, those, twoOf}
 use Rattle.lists.specs.Laws.{any-append, two-append}
 use Rattle.grammar.specs.Bytes.{ascii}
@@ -79,11 +80,7 @@ any-wider (m ∷ l) x r h = go (alike m x) h (any-wider l x r)
   where
     go : (b : Bool) → ((b || false) || any (λ a. alike a x || false) l) ≡ true → (any (λ a. alike a x || false) l ≡ true → any (λ a. alike a x || any (alike a) r) l ≡ true) → ((b || any (alike m) r) || any (λ a. alike a x || any (alike a) r) l) ≡ true
     go true k f = refl
-    go false k f = or-true (any (alike m) r) (f k)
-      where
-        or-true : (b : Bool) {c : Bool} → c ≡ true → (b || c) ≡ true
-        or-true true e = refl
-        or-true false e = e
+    go false k f = or-second (any (alike m) r) (f k)
 
 each-append : {A B : Type 0} (f : A → B) (k l : List A) → each f (k ++ l) ≡ each f k ++ each f l
 unfolding each

@@ -7,6 +7,7 @@ use native.Mathlib.Omega.{arith}
 use lib.Dec.{eqb}
 use lib.ListN.{getD}
 use borrow.Author.Needs.{needs}
+use Rattle.lists.specs.Booleans.{or-assoc, or-false, or-true}
 use Rattle.lists.specs.Ranges.{tiling}
 use Rattle.lists.specs.Lists.{countUp, all, any, count, allBelow}
 use Rattle.nodes.specs.Places.{the}
@@ -20,7 +21,6 @@ use Rattle.models.specs.Tables.{up-one, up-done, up-all}
 use Rattle.models.specs.Ranges.{rangesOf, Ranged}
 use Rattle.models.specs.Held.{Holding, holding, BrainHeld, modelAt, modelsAt, held-models, held-ranged, held-tiling}
 use Rattle.models.specs.Listings.{Known}
-use Rattle.models.specs.LawsVerdicts.{or-on, or-none}
 use Rattle.models.specs.Verdicts.{verdictBy, listVerdict, listsVerdict, listsRule, volumeFrom}
 use Rattle.models.specs.declared.gather.Models.{Models}
 use Rattle.models.specs.declared.volume.Sizes.{Sizes}
@@ -104,7 +104,7 @@ module _ {text : List ℕ} {m : Models} {volume : Voxel} {out : Bool} {i : ℕ} 
     done =
         let n = ahead-none text m i u in
         verdicts-are volume (modelsAt text m)
-        ∙ ap₂ verdictBy (go .even ∙ ap (all evenIn) n ∙ all-nil) (go .past ∙ ap (λ l. out || any (pastIn volume) l) n ∙ ap (λ b. out || b) (any-nil volume) ∙ or-none out)
+        ∙ ap₂ verdictBy (go .even ∙ ap (all evenIn) n ∙ all-nil) (go .past ∙ ap (λ l. out || any (pastIn volume) l) n ∙ ap (λ b. out || b) (any-nil volume) ∙ or-false out)
 
     pub judging-out : out ≡ true → 12 ≡ listsVerdict volume (modelsAt text m)
     unfolding verdictBy
@@ -148,7 +148,7 @@ module _ {text : List ℕ} {m : Models} {volume : Voxel} {out : Bool} {i : ℕ} 
             within = omega arith;
             even = evens ∙ rw x;
             past = go .past ∙ ap (λ l. out || any (pastIn volume) l) one ∙ ap (λ b. out || b) (any-one volume (modelAt text m i) (ahead text m (i + 1)))
-                ∙ ap (λ b. out || (b || any (pastIn volume) (ahead text m (i + 1)))) p ∙ or-on out (eqb v 12) (any (pastIn volume) (ahead text m (i + 1)));
+                ∙ ap (λ b. out || (b || any (pastIn volume) (ahead text m (i + 1)))) p ∙ or-assoc out (eqb v 12) (any (pastIn volume) (ahead text m (i + 1)));
           }
 
 pub ruleset judgingAll = (judging-start, judging-out, judging-fine, judging-place, judging-known, judging-uneven, judging-on, needs)
@@ -167,10 +167,6 @@ not-all (b ∷ l) = go (evenIn b) (not-all l)
 uneven-is : (m : Map) → uneven m ≡ (not (all evenIn (m .models)) || not (allBelow (lengthOf m) (λ n. eqb (count (covers n) (m .models)) 1)))
 unfolding uneven evenIn
 uneven-is m = ap (λ t. t || not (allBelow (lengthOf m) (λ n. eqb (count (covers n) (m .models)) 1))) (not-all (m .models))
-
-or-true : (a : Bool) → (a || true) ≡ true
-or-true true = refl
-or-true false = refl
 
 -- the models are gathered, and the Volume is noted
 pub record Listable (text : List ℕ) (map : ℕ) (m : Models) (s : Seen) : Type 0 where
@@ -203,7 +199,7 @@ module _ {text : List ℕ} {map : ℕ} {m : Models} {seen : Seen} (ask : Listabl
     pub rule-lists : not t ≡ false → {s : Sizes} → volumeFrom s ≡ (mapOf (the text map)) .volume → {r : ℕ} → r ≡ listsVerdict (volumeFrom s) (modelsAt text m) → r ≡ listsRule (mapOf (the text map))
     unfolding listsRule verdictBy pastIn
     rule-lists n {s} v {r} x =
-        let u : uneven (mapOf (the text map)) ≡ not (all evenIn ((mapOf (the text map)) .models)) = uneven-is (mapOf (the text map)) ∙ rw (tiled, n) (or-none (not (all evenIn ((mapOf (the text map)) .models)))) in
+        let u : uneven (mapOf (the text map)) ≡ not (all evenIn ((mapOf (the text map)) .models)) = uneven-is (mapOf (the text map)) ∙ rw (tiled, n) (or-false (not (all evenIn ((mapOf (the text map)) .models)))) in
         x ∙ ap₂ listsVerdict v (sym (held-models h)) ∙ verdicts-are ((mapOf (the text map)) .volume) ((mapOf (the text map)) .models)
         ∙ sym (rw u (turned (all evenIn ((mapOf (the text map)) .models)) (any (pastIn ((mapOf (the text map)) .volume)) ((mapOf (the text map)) .models))))
       where

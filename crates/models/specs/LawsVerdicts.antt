@@ -8,6 +8,7 @@ use lib.Dec.{eqb, ltb}
 use lib.ListN.{length}
 use borrow.Author.Needs.{needs}
 use borrow.Author.Tests.{eqb-true, eq-eqb, ne-eqb, eqb-false, not-true, not-false}
+use Rattle.lists.specs.Booleans.{or-assoc, or-false}
 use Rattle.lists.specs.Lists.{any}
 use Rattle.numbers.specs.Answers.{nextNumber}
 use Rattle.cifti.specs.Maps.{Voxel, voxel, threes}
@@ -18,14 +19,6 @@ use Rattle.numbers.specs.declared.Next.the-variants.{Number, End, Bad}
 use Rattle.models.specs.declared.listing.Triple.{Triple}
 use Rattle.models.specs.declared.listing.Triple.the-variants as triple
 use Rattle.models.specs.Verdicts.{verdictBy, verticesVerdict, voxelsVerdict}
-
-pub or-on : (a b c : Bool) → (a || (b || c)) ≡ ((a || b) || c)
-or-on true b c = refl
-or-on false b c = refl
-
-pub or-none : (a : Bool) → (a || false) ≡ a
-or-none true = refl
-or-none false = refl
 
 -- ---- Vertices, one by one.
 
@@ -52,7 +45,7 @@ module _ {text : List ℕ} {start surface n i : ℕ} {out : Bool} (go : Vertices
   vertices-done q size x =
       let none = number-ends (go .form) e q in
       let l : length (valuesAt text start) ≡ n = omega (arith, go .counted, ap length none) in
-      let p = go .past ∙ ap (λ k. out || any (λ v. not (ltb v surface)) k) none ∙ ap (λ b. out || b) (any-nil (λ v. not (ltb v surface))) ∙ or-none out in
+      let p = go .past ∙ ap (λ k. out || any (λ v. not (ltb v surface)) k) none ∙ ap (λ b. out || b) (any-nil (λ v. not (ltb v surface))) ∙ or-false out in
       x ∙ sym (ap₂ verdictBy (ap (λ k. eqb k size) l) p)
 
   pub vertices-bad : r ≡ Bad → (size : ℕ) → 0 ≡ verticesVerdict size surface (valuesAt text start)
@@ -73,7 +66,7 @@ module _ {text : List ℕ} {start surface n i : ℕ} {out : Bool} (go : Vertices
       form = here .form;
       fewer = omega (arith, go .fewer, here .ahead);
       counted = omega (arith, go .counted, ap length (here .splits));
-      past = go .past ∙ ap (λ l. out || any (λ v. not (ltb v surface)) l) (here .splits) ∙ ap (λ b. out || b) (any-one (λ v. not (ltb v surface)) v (valuesAt text j)) ∙ or-on out (not (ltb v surface)) _;
+      past = go .past ∙ ap (λ l. out || any (λ v. not (ltb v surface)) l) (here .splits) ∙ ap (λ b. out || b) (any-one (λ v. not (ltb v surface)) v (valuesAt text j)) ∙ or-assoc out (not (ltb v surface)) _;
     }
 
 pub ruleset overVertices = (vertices-start, vertices-done, vertices-bad, vertices-less, vertices-on, needs)
@@ -118,7 +111,7 @@ module _ {text : List ℕ} {start n at : ℕ} {volume : Voxel} {out : Bool} (go 
   voxels-done q size x =
       let none = voxels-end e q in
       let l : length (valuesAt text start) ≡ 3 * n = omega (arith, go .counted, ap length none) in
-      let p = go .past ∙ ap (λ k. out || any (outside volume) (threes k)) none ∙ ap (λ k. out || any (outside volume) k) threes-none ∙ ap (λ b. out || b) (out-nil volume) ∙ or-none out in
+      let p = go .past ∙ ap (λ k. out || any (outside volume) (threes k)) none ∙ ap (λ k. out || any (outside volume) k) threes-none ∙ ap (λ b. out || b) (out-nil volume) ∙ or-false out in
       x ∙ sym (ap₂ verdictBy (ap (λ k. eqb k (3 * size)) l ∙ by-three n size) p)
 
   pub voxels-short : r ≡ triple.Cut → (size : ℕ) → 11 ≡ voxelsVerdict size volume (valuesAt text start)
@@ -147,7 +140,7 @@ module _ {text : List ℕ} {start n at : ℕ} {volume : Voxel} {out : Bool} (go 
       fewer = omega (arith, go .fewer, passed .ahead);
       counted = omega (arith, go .counted, ap length (passed .splits));
       past = go .past ∙ ap (λ l. out || any (outside volume) (threes l)) (passed .splits) ∙ ap (λ l. out || any (outside volume) l) (threes-one i j k (valuesAt text behind))
-          ∙ ap (λ t. out || t) (out-one volume (voxel i j k) (threes (valuesAt text behind)) ∙ ap (λ t. t || any (outside volume) (threes (valuesAt text behind))) (sym x)) ∙ or-on out b _;
+          ∙ ap (λ t. out || t) (out-one volume (voxel i j k) (threes (valuesAt text behind)) ∙ ap (λ t. t || any (outside volume) (threes (valuesAt text behind))) (sym x)) ∙ or-assoc out b _;
     }
 
 pub ruleset overVoxels = (voxels-start, voxels-done, voxels-short, voxels-less, voxels-on, needs)
