@@ -84,39 +84,6 @@ pub ruleset decimalSteps = (decimal-is, decimal-no, decimal-none, needs)
 
 pub ruleset exponentSteps = (exponent-is, exponent-no, exponent-none, needs)
 
--- ---- The unit.
-
-module _ (e : Element) where
-  unit-told : (s : String) {b : Bool} → b ≡ same (wordAt (ascii "SeriesUnit") e) (ascii s) → b ≡ is s (attr "SeriesUnit" e)
-  unfolding is
-  unit-told s p = p ∙ ap (λ x. same x (ascii s)) (word-at "SeriesUnit" e)
-
-  module _ {a : Bool} (p : a ≡ same (wordAt (ascii "SeriesUnit") e) (ascii "SECOND")) where
-    pub unit-second : a ≡ true → 0 ≡ numberIn units (attr "SeriesUnit" e)
-    unfolding numberIn units
-    unit-second t = rw (sym (unit-told "SECOND" p) ∙ t)
-
-    module _ (f : a ≡ false) {b : Bool} (q : b ≡ same (wordAt (ascii "SeriesUnit") e) (ascii "HERTZ")) where
-      pub unit-hertz : b ≡ true → 1 ≡ numberIn units (attr "SeriesUnit" e)
-      unfolding numberIn units
-      unit-hertz t = rw (sym (unit-told "SECOND" p) ∙ f, sym (unit-told "HERTZ" q) ∙ t)
-
-      module _ (g : b ≡ false) {c : Bool} (r : c ≡ same (wordAt (ascii "SeriesUnit") e) (ascii "METER")) where
-        pub unit-meter : c ≡ true → 2 ≡ numberIn units (attr "SeriesUnit" e)
-        unfolding numberIn units
-        unit-meter t = rw (sym (unit-told "SECOND" p) ∙ f, sym (unit-told "HERTZ" q) ∙ g, sym (unit-told "METER" r) ∙ t)
-
-        module _ (h : c ≡ false) {d : Bool} (s : d ≡ same (wordAt (ascii "SeriesUnit") e) (ascii "RADIAN")) where
-          pub unit-radian : d ≡ true → 3 ≡ numberIn units (attr "SeriesUnit" e)
-          unfolding numberIn units
-          unit-radian t = rw (sym (unit-told "SECOND" p) ∙ f, sym (unit-told "HERTZ" q) ∙ g, sym (unit-told "METER" r) ∙ h, sym (unit-told "RADIAN" s) ∙ t)
-
-          pub unit-none : d ≡ false → 4 ≡ numberIn units (attr "SeriesUnit" e)
-          unfolding numberIn units
-          unit-none t = rw (sym (unit-told "SECOND" p) ∙ f, sym (unit-told "HERTZ" q) ∙ g, sym (unit-told "METER" r) ∙ h, sym (unit-told "RADIAN" s) ∙ t)
-
-pub ruleset unitSteps = (unit-second, unit-hertz, unit-meter, unit-radian, unit-none, needs)
-
 -- ---- All of it.
 
 pub record SeriesAt (text : List ℕ) (at : ℕ) : Type 0 where
