@@ -1,4 +1,4 @@
-/* markup_well_formed against libexpat with empty handlers, on the same text in one run. Prints a line for each text:
+/* bench_well_formed against libexpat with empty handlers, on the same text in one run. Prints a line for each text:
    name, bytes, answer of each, best milliseconds of CPU time of each, MB/s of each, ratio (above 1: ours is faster). */
 #include <expat.h>
 #include <stdbool.h>
@@ -8,7 +8,7 @@
 #include <string.h>
 #include <time.h>
 
-bool markup_well_formed(const uint8_t *text, size_t length);
+bool bench_well_formed(const uint8_t *text, size_t length);
 
 static double now(void) {
     struct timespec t;
@@ -34,7 +34,7 @@ static void measure(const char *name, const char *text, size_t length, int round
     bool a = false, b = false;
     for (int i = 0; i < rounds; i++) {
         double t = now();
-        a = markup_well_formed((const uint8_t *)text, length);
+        a = bench_well_formed((const uint8_t *)text, length);
         double u = now();
         b = expat(text, length);
         double v = now();

@@ -5,7 +5,7 @@
 #include <time.h>
 
 struct slice { const uint8_t *at; size_t length; };
-uint64_t numbers_sum(const uint8_t *at, size_t length, size_t from);
+uint64_t bench_sum(const uint8_t *at, size_t length, size_t from);
 
 __attribute__((noinline)) static uint64_t plain_sum(const uint8_t *s, size_t n, size_t i)
 {
@@ -49,8 +49,8 @@ int main(void)
         double t[4];
         uint64_t x, y, z;
         t[0] = now();
-        if (round % 2) { y = numbers_sum(text, n, 0); t[1] = now(); x = plain_sum(text, n, 0); }
-        else { x = plain_sum(text, n, 0); t[1] = now(); y = numbers_sum(text, n, 0); }
+        if (round % 2) { y = bench_sum(text, n, 0); t[1] = now(); x = plain_sum(text, n, 0); }
+        else { x = plain_sum(text, n, 0); t[1] = now(); y = bench_sum(text, n, 0); }
         t[2] = now();
         z = bounded_sum(text, n, 0);
         t[3] = now();

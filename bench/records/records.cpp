@@ -10,7 +10,6 @@
 extern "C" {
 uint64_t bench_pack(const uint64_t *records, size_t count, uint8_t *sheet, size_t room);
 uint64_t bench_unpack(const uint8_t *sheet, size_t size, uint64_t *records, size_t room);
-uint64_t bench_twice(const uint64_t *records, size_t count, uint64_t *work, size_t room);
 uint64_t bench_repeats(uint64_t *work, size_t room, size_t count);
 }
 

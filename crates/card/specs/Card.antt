@@ -38,14 +38,15 @@ numbered n [] = []
 numbered n (r ∷ l) = recordLine n r ∷ numbered (suc n) l
 
 -- how long the stretch is that begins at a place; two dimensions of one map tell the same stretch
-unfoldable pub beginsAt : (at : ℕ) → Dimension → Bool
-beginsAt at x = isBrain (x .kind) && eqb (x .start .0) at
+unfoldable pub stretchBegins : (at : ℕ) → Dimension → Bool
+stretchBegins at x = isBrain (x .kind) && eqb (x .start .0) at
 
 unfoldable pub lengthFrom : (at : ℕ) → List Dimension → ℕ
 lengthFrom at [] = 0
-lengthFrom at (x ∷ l) = cond (beginsAt at x) (x .length) (lengthFrom at l)
+lengthFrom at (x ∷ l) = cond (stretchBegins at x) (x .length) (lengthFrom at l)
 
--- The stretches stand one behind the other: the first begins at place 0, the next where the one before ends. `records` are those from the place `at` on.
+-- The stretches stand one behind the other: the first begins at place 0, the next where the one before ends. `records` are those from the
+-- place `at` on.
 unfoldable pub recordLines : (stretches at : ℕ) → List Dimension → (records : List ℕ) → List Line
 recordLines zero at l records = []
 recordLines (suc n) at l records =
@@ -58,12 +59,13 @@ unfoldable pub cardBy : (number : ℕ) → List Dimension → (records : List �
 cardBy zero l records = Accepted ∷ (dimensionLines 0 l ++ recordLines 3 0 l records)
 cardBy (suc n) l records = Refused (suc n) ∷ []
 
-unfoldable pub dimensionsOf : Answer → List Dimension
-dimensionsOf a = getD (a .dimensions) 0 unused ∷ getD (a .dimensions) 1 unused ∷ getD (a .dimensions) 2 unused ∷ []
+unfoldable pub answerDimensions : Answer → List Dimension
+answerDimensions a = getD (a .dimensions) 0 unused ∷ getD (a .dimensions) 1 unused ∷ getD (a .dimensions) 2 unused ∷ []
 
 unfoldable pub card : Answer → (records : List ℕ) → List Line
-card a records = cardBy (a .number) (dimensionsOf a) records
+card a records = cardBy (a .number) (answerDimensions a) records
 
 unfoldable pub cardWords : Unit {0}
-unfolding mapLine dimensionLine dimensionLines locationLine recordLine numbered beginsAt lengthFrom recordLines cardBy dimensionsOf card
+unfolding mapLine dimensionLine dimensionLines locationLine recordLine numbered stretchBegins lengthFrom recordLines cardBy
+    answerDimensions card
 cardWords = tt

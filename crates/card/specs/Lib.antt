@@ -1,2 +1,2 @@
 pub mod Card
-pub mod Theorems
+pub mod Laws

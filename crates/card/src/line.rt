@@ -1,9 +1,9 @@
 // The lines of the card, each by its number.
+use answers::is_brain;
+use answers::kind_number;
 use cifti::Answer;
 use cifti::Dimension;
 use cifti::Kind;
-use cifti::is_brain;
-use cifti::kind_number;
 use records::Index;
 use records::Place;
 use records::Vertex;
@@ -11,7 +11,8 @@ ghost use mathlib.Core.Path.{_≡_};
 ghost use mathlib.Core.List.{_++_};
 ghost use Prim.Native.Nat.{min};
 ghost use lib.ListN.{length, getD};
-ghost use Rattle.card.specs.Card.{recordLine, mapLine, dimensionLine, dimensionLines, beginsAt, lengthFrom, recordLines, dimensionsOf, card};
+ghost use Rattle.card.specs.Card.{recordLine, mapLine, dimensionLine, dimensionLines, stretchBegins, lengthFrom, recordLines};
+ghost use Rattle.card.specs.Card.{answerDimensions, card};
 
 pub enum Line {
     Accepted,
@@ -47,19 +48,19 @@ pub enum Line {
 fn record_line(index: Index, r: u64) -> Line
     ensures { λ l. ⌜ l ≡ recordLine (index .0) r ⌝ }
 {
-    if records::is_voxel(r) {
+    if record_fields::is_voxel(r) {
         return Line::Voxel {
             index: index,
-            structure: records::structure_of(r),
-            i: records::i_of(r),
-            j: records::j_of(r),
-            k: records::k_of(r),
+            structure: record_fields::structure_of(r),
+            i: record_fields::i_of(r),
+            j: record_fields::j_of(r),
+            k: record_fields::k_of(r),
         };
     }
     Line::Surface {
         index: index,
-        structure: records::structure_of(r),
-        vertex: records::vertex_of(r),
+        structure: record_fields::structure_of(r),
+        vertex: record_fields::vertex_of(r),
     }
 }
 
@@ -95,7 +96,7 @@ fn lines_of(dimension: Dimension) -> usize
 }
 
 fn begins_at(dimension: Dimension, at: usize) -> bool
-    ensures { λ b. ⌜ b ≡ beginsAt at dimension ⌝ }
+    ensures { λ b. ⌜ b ≡ stretchBegins at dimension ⌝ }
 {
     let kind = dimension.kind;
     let start = dimension.start;
@@ -104,7 +105,7 @@ fn begins_at(dimension: Dimension, at: usize) -> bool
 
 // How long the stretch is that begins at `at`; 0 where none begins.
 fn length_from(answer: Answer, at: usize) -> u64
-    ensures { λ n. ⌜ n ≡ lengthFrom at (dimensionsOf answer) ⌝ }
+    ensures { λ n. ⌜ n ≡ lengthFrom at (answerDimensions answer) ⌝ }
 {
     let mut d = 0;
     while d < 3 {
@@ -125,7 +126,7 @@ fn least(a: usize, b: usize) -> usize
 
 // The n-th of the lines of records: stretches are passed over whole.
 fn record_line_at(answer: Answer, records: &[u64], n: usize) -> Line
-    ensures { λ l. ⌜ l ≡ getD (recordLines 3 0 (dimensionsOf answer) (now (records .entry))) n Line.End ⌝ }
+    ensures { λ l. ⌜ l ≡ getD (recordLines 3 0 (answerDimensions answer) (now (records .entry))) n Line.End ⌝ }
 {
     let mut left = n;
     let mut at = 0;
@@ -144,7 +145,8 @@ fn record_line_at(answer: Answer, records: &[u64], n: usize) -> Line
 
 // The n-th of the lines of dimensions and then of records.
 fn accepted_line(answer: Answer, records: &[u64], n: usize) -> Line
-    ensures { λ l. ⌜ l ≡ getD (dimensionLines 0 (dimensionsOf answer) ++ recordLines 3 0 (dimensionsOf answer) (now (records .entry))) n Line.End ⌝ }
+    ensures { λ l. ⌜ l ≡ getD (dimensionLines 0 (answerDimensions answer)
+        ++ recordLines 3 0 (answerDimensions answer) (now (records .entry))) n Line.End ⌝ }
 {
     let mut left = n;
     let mut d = 0;

@@ -1,4 +1,3 @@
 pub mod Written
-pub mod Unique
-pub mod Theorems
-pub mod CaseA
+pub mod Laws
+pub mod Tests

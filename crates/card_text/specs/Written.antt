@@ -17,13 +17,13 @@ use Rattle.card.specs.declared.line.Line.{Line}
 use Rattle.card.specs.declared.line.Line.the-variants.{Accepted, Refused, Map, MapAt, Surface, Voxel, End}
 
 -- a number of at most so many digits, without leading zeros
-unfoldable pub decimalIn : (most : ℕ) → ℕ → Word
-decimalIn zero n = []
-decimalIn (suc m) n = cond (ltb n 10) ((48 + n) ∷ []) (decimalIn m (n / 10) ++ ((48 + n % 10) ∷ []))
+unfoldable pub inTensUpTo : (most : ℕ) → ℕ → Word
+inTensUpTo zero n = []
+inTensUpTo (suc m) n = cond (ltb n 10) ((48 + n) ∷ []) (inTensUpTo m (n / 10) ++ ((48 + n % 10) ∷ []))
 
 -- twenty digits hold every number of 64 bits
-unfoldable pub decimal : ℕ → Word
-decimal n = decimalIn 20 n
+unfoldable pub inTens : ℕ → Word
+inTens n = inTensUpTo 20 n
 
 unfoldable pub spaced : List Word → List ℕ
 spaced [] = []
@@ -52,11 +52,11 @@ kind-bytes Scalars = refl
 
 unfoldable pub wordsOf : Line → List Word
 wordsOf Accepted = ascii "ok" ∷ []
-wordsOf (Refused number) = ascii "refused" ∷ decimal number ∷ []
-wordsOf (Map d kind length) = decimal d ∷ kindWord kind ∷ decimal length ∷ []
-wordsOf (MapAt d kind length start) = decimal d ∷ kindWord kind ∷ decimal length ∷ decimal (start .0) ∷ []
-wordsOf (Surface index structure vertex) = decimal (index .0) ∷ ascii "S" ∷ decimal structure ∷ decimal (vertex .0) ∷ []
-wordsOf (Voxel index structure i j k) = decimal (index .0) ∷ ascii "V" ∷ decimal structure ∷ decimal i ∷ decimal j ∷ decimal k ∷ []
+wordsOf (Refused number) = ascii "refused" ∷ inTens number ∷ []
+wordsOf (Map d kind length) = inTens d ∷ kindWord kind ∷ inTens length ∷ []
+wordsOf (MapAt d kind length start) = inTens d ∷ kindWord kind ∷ inTens length ∷ inTens (start .0) ∷ []
+wordsOf (Surface index structure vertex) = inTens (index .0) ∷ ascii "S" ∷ inTens structure ∷ inTens (vertex .0) ∷ []
+wordsOf (Voxel index structure i j k) = inTens (index .0) ∷ ascii "V" ∷ inTens structure ∷ inTens i ∷ inTens j ∷ inTens k ∷ []
 wordsOf End = []
 
 unfoldable pub lineBytes : Line → List ℕ
@@ -85,5 +85,5 @@ pub record Spells (bytes : List ℕ) (count : ℕ) (outAfter : List ℕ) : Type 
   pub are : take count outAfter ≡ bytes
 
 unfoldable pub writtenWords : Unit {0}
-unfolding decimalIn decimal spaced wordsOf lineBytes cardBytes
+unfolding inTensUpTo inTens spaced wordsOf lineBytes cardBytes
 writtenWords = tt

@@ -7,7 +7,7 @@ ghost use Prim.Native.Nat.{_+_, _≤_};
 ghost use lib.ListN.{length, take};
 ghost use Rattle.io.specs.Counts.{Counts};
 ghost use Rattle.grammar.specs.Bytes.{ascii};
-ghost use Rattle.card_text.specs.Written.{decimal, spaced, kindWord, kindBytes, lineBytes, Puts, Spells, Writes};
+ghost use Rattle.card_text.specs.Written.{inTens, spaced, kindWord, kindBytes, lineBytes, Puts, Spells, Writes};
 
 // The first `count` letters are a word.
 struct Letters {
@@ -28,7 +28,7 @@ fn put_word(out: &mut [u8], at: usize, word: &[u8], then: u8) -> usize
 
 fn put_number(out: &mut [u8], at: usize, n: u64, then: u8) -> usize
     requires { ⌜ at + 21 ≤ length (now out) ⌝ }
-    ensures { λ r. ⌜ Puts (decimal n) then at (now (out .entry)) r (now (out .exit)) ⌝ }
+    ensures { λ r. ⌜ Puts (inTens n) then at (now (out .entry)) r (now (out .exit)) ⌝ }
 {
     let mut digits = [0u8; 20];
     let k = io::decimal(n, &mut digits);
@@ -37,7 +37,7 @@ fn put_number(out: &mut [u8], at: usize, n: u64, then: u8) -> usize
 
 fn refused_row(out: &mut [u8], number: u64) -> usize
     requires { ⌜ 128 ≤ length (now out) ⌝ }
-    ensures { λ r. ⌜ Spells (spaced (ascii "refused" ∷ decimal number ∷ [])) r (now (out .exit)) ⌝ }
+    ensures { λ r. ⌜ Spells (spaced (ascii "refused" ∷ inTens number ∷ [])) r (now (out .exit)) ⌝ }
 {
     let at = put_word(out, 0, b"refused", b' ');
     put_number(out, at, number, b'\n')
@@ -78,7 +78,7 @@ fn put_kind(out: &mut [u8], at: usize, kind: Kind) -> usize
 
 fn map_row(out: &mut [u8], dimension: u64, kind: Kind, size: u64) -> usize
     requires { ⌜ 128 ≤ length (now out) ⌝ }
-    ensures { λ r. ⌜ Spells (spaced (decimal dimension ∷ kindWord kind ∷ decimal size ∷ [])) r (now (out .exit)) ⌝ }
+    ensures { λ r. ⌜ Spells (spaced (inTens dimension ∷ kindWord kind ∷ inTens size ∷ [])) r (now (out .exit)) ⌝ }
 {
     let second = put_number(out, 0, dimension, b' ');
     let third = put_kind(out, second, kind);
@@ -87,7 +87,7 @@ fn map_row(out: &mut [u8], dimension: u64, kind: Kind, size: u64) -> usize
 
 fn map_at_row(out: &mut [u8], dimension: u64, kind: Kind, size: u64, start: u64) -> usize
     requires { ⌜ 128 ≤ length (now out) ⌝ }
-    ensures { λ r. ⌜ Spells (spaced (decimal dimension ∷ kindWord kind ∷ decimal size ∷ decimal start ∷ [])) r (now (out .exit)) ⌝ }
+    ensures { λ r. ⌜ Spells (spaced (inTens dimension ∷ kindWord kind ∷ inTens size ∷ inTens start ∷ [])) r (now (out .exit)) ⌝ }
 {
     let second = put_number(out, 0, dimension, b' ');
     let third = put_kind(out, second, kind);
@@ -97,7 +97,7 @@ fn map_at_row(out: &mut [u8], dimension: u64, kind: Kind, size: u64, start: u64)
 
 fn surface_row(out: &mut [u8], index: u64, structure: u64, vertex: u64) -> usize
     requires { ⌜ 128 ≤ length (now out) ⌝ }
-    ensures { λ r. ⌜ Spells (spaced (decimal index ∷ ascii "S" ∷ decimal structure ∷ decimal vertex ∷ [])) r (now (out .exit)) ⌝ }
+    ensures { λ r. ⌜ Spells (spaced (inTens index ∷ ascii "S" ∷ inTens structure ∷ inTens vertex ∷ [])) r (now (out .exit)) ⌝ }
 {
     let second = put_number(out, 0, index, b' ');
     let third = put_word(out, second, b"S", b' ');
@@ -107,7 +107,8 @@ fn surface_row(out: &mut [u8], index: u64, structure: u64, vertex: u64) -> usize
 
 fn voxel_row(out: &mut [u8], index: u64, structure: u64, i: u64, j: u64, k: u64) -> usize
     requires { ⌜ 128 ≤ length (now out) ⌝ }
-    ensures { λ r. ⌜ Spells (spaced (decimal index ∷ ascii "V" ∷ decimal structure ∷ decimal i ∷ decimal j ∷ decimal k ∷ [])) r (now (out .exit)) ⌝ }
+    ensures { λ r. ⌜ Spells (spaced (inTens index ∷ ascii "V" ∷ inTens structure ∷ inTens i ∷ inTens j ∷ inTens k ∷ [])) r
+        (now (out .exit)) ⌝ }
 {
     let second = put_number(out, 0, index, b' ');
     let third = put_word(out, second, b"V", b' ');

@@ -38,7 +38,8 @@ stretches l = eachIn stretch (brainMaps l)
 unfoldable pub filledWith : (new old : List ℕ) → List ℕ
 filledWith new old = new ++ drop (length new) old
 
--- ---- The answer: number 0, and per dimension kind, length, stretch start, and for series start, step, exponent and unit. What does not apply is 0.
+-- ---- The answer: number 0, and per dimension kind, length, stretch start, and for series start, step, exponent and unit. What does not
+-- apply is 0.
 
 abbrev pub noSeries : S.Series
 noSeries = record { start = noDecimal; step = noDecimal; exponent = pos 0; unit = 0 }
@@ -54,7 +55,8 @@ asSeries s = record { start = s .start; step = s .step; exponent = s .exponent; 
 
 -- what the answer says of a map whose stretch begins at `at`, if it has one
 unfoldable pub described : (at : ℕ) → Map → Dimension
-described at m = dimensionBy (m .kind) (lengthOf m) (cond (isBrain (m .kind)) at 0) (cond (isSeries (m .kind)) (asSeries (m .series)) noSeries)
+described at m = dimensionBy (m .kind) (lengthOf m) (cond (isBrain (m .kind)) at 0)
+    (cond (isSeries (m .kind)) (asSeries (m .series)) noSeries)
 
 -- how many places a map's stretch takes
 unfoldable pub reach : Map → ℕ
@@ -102,5 +104,6 @@ pub record Reads (text lengths records work : List ℕ) (answer : Answer) (after
   pub cleared : workAfter ≡ replicate (length work) 0
 
 unfoldable pub answerWords : Unit {0}
-unfolding recordAt stretch stretches filledWith asSeries described reach dimensionAt acceptedWith mapsIn answerBy recordsBy answerTo recordsAfter
+unfolding recordAt stretch stretches filledWith asSeries described reach dimensionAt acceptedWith mapsIn answerBy recordsBy answerTo
+    recordsAfter
 answerWords = tt

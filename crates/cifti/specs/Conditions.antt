@@ -13,7 +13,8 @@ use Rattle.grammar.specs.Document.{Element}
 use Rattle.grammar.specs.Look.{is, nameOf, has}
 use Rattle.schema.specs.Schema.{everywhere, shaped, numbered}
 use Rattle.cifti.specs.Rows.{cifti, rows}
-use Rattle.cifti.specs.Maps.{Voxel, Listed, vertices, voxels, Model, Map, mapElements, mapsOf, brainMaps, lengthOf, vertexNumbers, voxelsOf, sameVoxel, covers}
+use Rattle.cifti.specs.Maps.{Voxel, Listed, vertices, voxels, Model, Map, mapElements, mapsOf, brainMaps, lengthOf, vertexNumbers}
+use Rattle.cifti.specs.Maps.{voxelsOf, sameVoxel, covers}
 
 -- 1: lengths are not 2 or 3, or one is 0 or above 1,048,576
 unfoldable pub lengthsWrong : List ℕ → Bool
@@ -33,7 +34,8 @@ rootWrong e = not (is "CIFTI" (nameOf e) && has "Version" "2" e)
 
 -- 5: a MatrixIndicesMap in a Matrix in the root is of kind PARCELS or LABELS
 unfoldable pub kindNotRead : Element → Bool
-kindNotRead e = any (λ m. has "IndicesMapToDataType" "CIFTI_INDEX_TYPE_PARCELS" m || has "IndicesMapToDataType" "CIFTI_INDEX_TYPE_LABELS" m) (mapElements e)
+kindNotRead e = any (λ m. has "IndicesMapToDataType" "CIFTI_INDEX_TYPE_PARCELS" m
+    || has "IndicesMapToDataType" "CIFTI_INDEX_TYPE_LABELS" m) (mapElements e)
 
 -- 6: an element, attribute, child, named word or non-blank text is not as above
 unfoldable pub shapeWrong : Element → Bool
@@ -106,7 +108,8 @@ repeats l =
 unfoldable pub locationTwice : List Map → Bool
 locationTwice l = any (λ m. repeats (m .models)) l
 
--- ---- THE ORDER OF REFUSALS: rows of a number and whether its condition applies. Where there is no document, the conditions on one do not arise.
+-- ---- THE ORDER OF REFUSALS: rows of a number and whether its condition applies. Where there is no document, the conditions on one do
+-- not arise.
 
 unfoldable pub ofMaps : (List Map → Bool) → Option Element → Bool
 ofMaps p d = there (λ e. p (mapsOf e)) d
@@ -142,5 +145,7 @@ unfoldable pub refusal : (lengths : List ℕ) (size room work : ℕ) → Option 
 refusal lengths size room work d = first (conditions lengths size room work d)
 
 unfoldable pub conditionWords : Unit {0}
-unfolding lengthsWrong textTooLong noDocument rootWrong kindNotRead shapeWrong numberWrong listedDimensions dimensionsWrong lengthWrong sameType alike modelsShare listsCount uneven rangesWrong outside beyond numbersOutside roomShort repeats locationTwice ofMaps conditionsOfHeader conditionsOfTable conditions first refusal
+unfolding lengthsWrong textTooLong noDocument rootWrong kindNotRead shapeWrong numberWrong listedDimensions dimensionsWrong lengthWrong
+    sameType alike modelsShare listsCount uneven rangesWrong outside beyond numbersOutside roomShort repeats locationTwice ofMaps
+    conditionsOfHeader conditionsOfTable conditions first refusal
 conditionWords = tt

@@ -1,4 +1,5 @@
--- WHAT A HEADER SAYS: the maps of a document, in text order, with their numbers read. It means something for documents that pass conditions 4 to 7.
+-- WHAT A HEADER SAYS: the maps of a document, in text order, with their numbers read. It means something for documents that pass
+-- conditions 4 to 7.
 use mathlib.Core.List.{List, [], _∷_}
 use mathlib.Core.Bool.{Bool, true, false, _&&_, cond}
 use mathlib.Core.Path.{_≡_, refl, sym, ap, _∙_}
@@ -251,5 +252,7 @@ unfoldable pub brainMaps : List Map → List Map
 brainMaps l = those (λ m. isBrain (m .kind)) l
 
 unfoldable pub mapWords : Unit {0}
-unfolding kindWords kindIn caseWord caseKind wordsOfKinds allKinds rowFor listedBy modelOf sizesBy sizesOf seriesOf kindOfMap dimensionsOf mapOf mapElements mapsOf vertexNumbers threes voxelsOf sameVoxel voxelAt locationsBy locations covers lengthBy lengthOf brainMaps
+unfolding kindWords kindIn caseWord caseKind wordsOfKinds allKinds rowFor listedBy modelOf sizesBy sizesOf seriesOf kindOfMap
+    dimensionsOf mapOf mapElements mapsOf vertexNumbers threes voxelsOf sameVoxel voxelAt locationsBy locations covers lengthBy lengthOf
+    brainMaps
 mapWords = tt

@@ -1,4 +1,5 @@
--- THE MAP NAME (index n: n-th NamedMap, from 0): it checks 1 to 9, then 18, and answers with the part of the text between the MapName tags, undecoded.
+-- THE MAP NAME (index n: n-th NamedMap, from 0): it checks 1 to 9, then 18, and answers with the part of the text between the MapName
+-- tags, undecoded.
 use mathlib.Core.Path.{_≡_}
 use mathlib.Core.List.{List, [], _∷_, _++_}
 use mathlib.Core.Option.{Option, some}
@@ -26,7 +27,8 @@ nameRefusal lengths size d i e = first (conditionsOfHeader lengths size e ++ (18
 
 -- the names of the map that the dimension has, in order, each as it is written (`<MapName/>`: empty)
 unfoldable pub namesOn : (dimension : ℕ) → Element → List Word
-namesOn d e = eachIn (λ m. each withinOf (eachIn (children "MapName") (children "NamedMap" m))) (those (λ m. any (eqb d) (dimensionsOf m)) (mapElements e))
+namesOn d e = eachIn (λ m. each withinOf (eachIn (children "MapName") (children "NamedMap" m)))
+    (those (λ m. any (eqb d) (dimensionsOf m)) (mapElements e))
 
 -- a refused answer's part is empty
 unfoldable pub partBy : (number dimension index : ℕ) → Option Element → Word

@@ -4,7 +4,8 @@ use mathlib.Core.Path.{_≡_, refl}
 use Prim.Native.Nat.{ℕ}
 use lib.ListN.{getD}
 use Rattle.numbers.specs.Numbers.{whole, volumeDimensions, dimensionList, exponent, decimal, wholes, sixteen}
-use Rattle.schema.specs.Schema.{anyValue, word, number, AttributeRow, required, anyText, numbers, once, atMostOnce, anyTimes, atLeastOnce, neededBelow, Case, _⇒_, always, chosen, child, anyOrder, Row, branch, leaf}
+use Rattle.schema.specs.Schema.{anyValue, word, number, AttributeRow, required, anyText, numbers, once, atMostOnce, anyTimes, atLeastOnce}
+use Rattle.schema.specs.Schema.{neededBelow, Case, _⇒_, always, chosen, child, anyOrder, Row, branch, leaf}
 use Rattle.cifti.specs.Words.{structures, units}
 
 -- the kinds of elements; `words` are those with any text, and nothing else: Name, Value, MapName
@@ -21,25 +22,25 @@ elementKinds =
     ∷ volume ∷ transform ∷ surface ∷ voxels ∷ vertexIndices ∷ voxelIndices
     ∷ []
 
-unfoldable pub numberOf : ElementKind → ℕ
-numberOf cifti = 0
-numberOf matrix = 1
-numberOf metaData = 2
-numberOf md = 3
-numberOf words = 4
-numberOf brainModels = 5
-numberOf series = 6
-numberOf scalars = 7
-numberOf namedMap = 8
-numberOf volume = 9
-numberOf transform = 10
-numberOf surface = 11
-numberOf voxels = 12
-numberOf vertexIndices = 13
-numberOf voxelIndices = 14
+unfoldable pub elementNumber : ElementKind → ℕ
+elementNumber cifti = 0
+elementNumber matrix = 1
+elementNumber metaData = 2
+elementNumber md = 3
+elementNumber words = 4
+elementNumber brainModels = 5
+elementNumber series = 6
+elementNumber scalars = 7
+elementNumber namedMap = 8
+elementNumber volume = 9
+elementNumber transform = 10
+elementNumber surface = 11
+elementNumber voxels = 12
+elementNumber vertexIndices = 13
+elementNumber voxelIndices = 14
 
-pub at-number : (k : ElementKind) → getD elementKinds (numberOf k) cifti ≡ k
-unfolding elementKinds numberOf
+pub at-number : (k : ElementKind) → getD elementKinds (elementNumber k) cifti ≡ k
+unfolding elementKinds elementNumber
 at-number cifti = refl
 at-number matrix = refl
 at-number metaData = refl
@@ -69,7 +70,8 @@ modelTypes =
     ∷ "CIFTI_MODEL_TYPE_VOXELS" ⇒ voxels
     ∷ []
 
--- IndicesMapToDataType and ModelType may be any value here: they choose the row, and an element whose word chooses none has no kind, so that 6 applies.
+-- IndicesMapToDataType and ModelType may be any value here: they choose the row, and an element whose word chooses none has no kind, so
+-- that 6 applies.
 unfoldable pub mapAttributes : List AttributeRow
 mapAttributes =
     required "AppliesToMatrixDimension" (number dimensionList)

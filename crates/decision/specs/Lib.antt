@@ -1,5 +1,3 @@
-pub mod Lengths
-pub mod Parted
 pub mod Decision
-pub mod Unique
-pub mod Theorems
+pub mod Laws
+pub mod Tests

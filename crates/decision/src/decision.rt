@@ -1,10 +1,10 @@
-// What the lister answers to the first line and the text.
-use super::lengths::FirstLine;
-use super::lengths::first_line;
+// A text that is too long, lengths that are wrong, and what `read` answers.
+use answers::refused;
 use cifti::Answer;
-use cifti::refused;
+use first_line::FirstLine;
+use first_line::first_line;
 use reader::read;
-use records::clear;
+use repeats::clear;
 ghost use Rattle.decision.specs.Decision.{Decides, Chooses};
 
 // With the lengths in good form. A text that is too long is told only where the lengths are right.
@@ -15,7 +15,8 @@ fn answered(
     records: &mut [u64],
     work: &mut [u64],
 ) -> Answer
-    ensures { λ r. ⌜ Chooses (now (lengths .entry)) (now (text .entry)) more (now (records .entry)) (now (work .entry)) r (now (records .exit)) (now (work .exit)) ⌝ }
+    ensures { λ r. ⌜ Chooses (now (lengths .entry)) (now (text .entry)) more (now (records .entry)) (now (work .entry)) r
+        (now (records .exit)) (now (work .exit)) ⌝ }
 {
     if more {
         let bare = read(&text[0..0], lengths, records, work);
@@ -28,7 +29,8 @@ fn answered(
 }
 
 pub fn decide(line: &[u8], text: &[u8], more: bool, records: &mut [u64], work: &mut [u64]) -> Answer
-    ensures { λ r. ⌜ Decides (now (line .entry)) (now (text .entry)) more (now (records .entry)) (now (work .entry)) r (now (records .exit)) (now (work .exit)) ⌝ }
+    ensures { λ r. ⌜ Decides (now (line .entry)) (now (text .entry)) more (now (records .entry)) (now (work .entry)) r
+        (now (records .exit)) (now (work .exit)) ⌝ }
 {
     match first_line(line) {
         FirstLine::Two(a, b) => {

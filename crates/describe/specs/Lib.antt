@@ -1,4 +1,4 @@
 pub mod Room
 pub mod Series
-pub mod Listing
 pub mod Said
+pub mod Laws

@@ -9,7 +9,7 @@ use lib.Dec.{ltb}
 use lib.ListN.{length, getD}
 use borrow.Author.Needs.{needs}
 use borrow.Author.Tests.{lt-ltb, le-ltb}
-use Rattle.lists.specs.Booleans.{or-true}
+use Rattle.lists.specs.Laws.Booleans.{or-true}
 use Rattle.lists.specs.Lists.{total, greatest, those}
 use Rattle.nodes.specs.Places.{the}
 use Rattle.cifti.specs.Maps.{Map, mapOf, lengthOf, isBrain, brainMaps}
@@ -26,7 +26,8 @@ unfolding brainMaps those total reach
 brain-total [] = refl
 brain-total (m ∷ l) = go (isBrain (m .kind)) (brain-total l)
   where
-    go : (b : Bool) → total lengthOf (brainMaps l) ≡ total reach l → total lengthOf (cond b (m ∷ brainMaps l) (brainMaps l)) ≡ cond b (lengthOf m) 0 + total reach l
+    go : (b : Bool) → total lengthOf (brainMaps l) ≡ total reach l
+        → total lengthOf (cond b (m ∷ brainMaps l) (brainMaps l)) ≡ cond b (lengthOf m) 0 + total reach l
     go true h = ap (λ n. lengthOf m + n) h
     go false h = omega arith
 
@@ -35,7 +36,8 @@ unfolding brainMaps those greatest reach
 brain-greatest [] = refl
 brain-greatest (m ∷ l) = go (isBrain (m .kind)) (brain-greatest l)
   where
-    go : (b : Bool) → greatest lengthOf (brainMaps l) ≡ greatest reach l → greatest lengthOf (cond b (m ∷ brainMaps l) (brainMaps l)) ≡ max (cond b (lengthOf m) 0) (greatest reach l)
+    go : (b : Bool) → greatest lengthOf (brainMaps l) ≡ greatest reach l
+        → greatest lengthOf (cond b (m ∷ brainMaps l) (brainMaps l)) ≡ max (cond b (lengthOf m) 0) (greatest reach l)
     go true h = ap (max (lengthOf m)) h
     go false h = omega arith
 
@@ -103,11 +105,13 @@ module _ {text : List ℕ} {maps : Maps} where
     house-done h = sym (over-done go h .so-far ∙ rw (le-ltb left 0 (omega arith), le-ltb work 0 (omega arith)))
 
     module _ (u : i < maps .count) {n : MapNote} (e : n ≡ noteAt maps i) {size : ℕ} (p : size ≡ reachIn n) where
-      split : (l : List Map) → short left work (mapOf (the text (n .at)) ∷ l) ≡ (ltb left (size + total reach l) || ltb work (max size (greatest reach l)))
+      split : (l : List Map) → short left work (mapOf (the text (n .at)) ∷ l)
+          ≡ (ltb left (size + total reach l) || ltb work (max size (greatest reach l)))
       unfolding total greatest
       split l = ap (λ k. ltb left (k + total reach l) || ltb work (max k (greatest reach l))) (sym (p ∙ noted-reach (over-note go u e)))
 
-      here : roomShort room work (mapsAt text maps) ≡ (ltb left (size + total reach (from text maps (i + 1))) || ltb work (max size (greatest reach (from text maps (i + 1)))))
+      here : roomShort room work (mapsAt text maps)
+          ≡ (ltb left (size + total reach (from text maps (i + 1))) || ltb work (max size (greatest reach (from text maps (i + 1)))))
       here = over-here go u e .so-far ∙ split (from text maps (i + 1))
 
       pub house-work : work < size → true ≡ roomShort room work (mapsAt text maps)
@@ -125,8 +129,10 @@ module _ {text : List ℕ} {maps : Maps} where
         where
           rest : (l : List Map) → (ltb left (size + total reach l) || ltb work (max size (greatest reach l))) ≡ short (left - size) work l
           rest l =
-              let t : ltb left (size + total reach l) ≡ ltb (left - size) (total reach l) = ltb-same left (size + total reach l) (left - size) (total reach l) (λ x. omega arith) (λ x. omega arith) in
-              let w : ltb work (max size (greatest reach l)) ≡ ltb work (greatest reach l) = ltb-same work (max size (greatest reach l)) work (greatest reach l) (λ x. omega arith) (λ x. omega arith) in
+              let t : ltb left (size + total reach l) ≡ ltb (left - size) (total reach l) =
+              ltb-same left (size + total reach l) (left - size) (total reach l) (λ x. omega arith) (λ x. omega arith) in
+              let w : ltb work (max size (greatest reach l)) ≡ ltb work (greatest reach l) =
+              ltb-same work (max size (greatest reach l)) work (greatest reach l) (λ x. omega arith) (λ x. omega arith) in
               rw (t, w) refl
 
 pub ruleset housing = (house-start, house-done, over-place, house-work, house-left, house-more, needs)

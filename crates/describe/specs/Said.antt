@@ -15,7 +15,7 @@ use Rattle.cifti.specs.declared.answer.Kind.{Kind}
 use Rattle.cifti.specs.declared.answer.Series as S
 use Rattle.cifti.specs.declared.answer.Dimension.{Dimension}
 use Rattle.cifti.specs.declared.answer.Answer.{Answer}
-use Rattle.maps.specs.MapKind.{good-series, series-kind}
+use Rattle.maps.specs.Laws.MapKind.{good-series, series-kind}
 use Rattle.maps.specs.Survey.{Noted, noted-kind-of}
 use Rattle.maps.specs.Ready.{Ready, mapsAt}
 use Rattle.maps.specs.Over.{Over, over-start, over-done, over-place, over-note, over-here, over-next, noteAt, from, mapOn}
@@ -24,7 +24,7 @@ use Rattle.maps.specs.declared.survey.MapNote.{MapNote}
 use Rattle.maps.specs.declared.survey.Maps.{Maps}
 use Rattle.describe.specs.Room.{reachIn, noted-reach, reach-low}
 use Rattle.describe.specs.Series.{SeriesAt, seriesSaid}
-use Rattle.describe.specs.Listing.{listed-some, listed-none}
+use Rattle.describe.specs.Laws.Listing.{listed-some, listed-none}
 
 -- ---- One map, as it is noted.
 
@@ -37,7 +37,10 @@ startIn n start = cond (isBrain (n .kind)) start 0
 
 module _ {text : List ℕ} {n : MapNote} (m : Noted text n) {b : Bool} (p : b ≡ isSeries (n .kind)) where
   pub series-here : b ≡ true → SeriesAt text (n .at)
-  series-here t = record { stands = m .map .stands; good = good-series (m .map .good) (sym (m .kind-is) ∙ series-kind (n .kind) (sym p ∙ t)) }
+  series-here t = record {
+    stands = m .map .stands;
+    good = good-series (m .map .good) (sym (m .kind-is) ∙ series-kind (n .kind) (sym p ∙ t));
+  }
 
   pub series-yes : b ≡ true → {s : S.Series} → s ≡ seriesSaid (the text (n .at)) → s ≡ seriesIn text n
   unfolding seriesIn seriesSaid asSeries seriesOf
@@ -60,7 +63,8 @@ module _ (n : MapNote) (start : ℕ) {b : Bool} (p : b ≡ isBrain (n .kind)) wh
 
 pub ruleset start-told = (start-yes, start-no, needs)
 
-pub described-by : {text : List ℕ} {n : MapNote} → Noted text n → (start : ℕ) → {s : S.Series} → s ≡ seriesIn text n → {p : ℕ} → p ≡ startIn n start
+pub described-by : {text : List ℕ} {n : MapNote} → Noted text n → (start : ℕ) → {s : S.Series} → s ≡ seriesIn text n → {p : ℕ}
+    → p ≡ startIn n start
     → {r : Dimension} → r ≡ dimensionBy (n .kind) (n .length) p s → r ≡ described start (mapOn text n)
 unfolding described seriesIn startIn mapOf
 described-by {text} {n} m start h k q = q ∙ rw (h, k, m .long, m .kind-is) refl
@@ -97,11 +101,14 @@ module _ {text : List ℕ} {maps : Maps} {d : ℕ} where
         pub picking-note : Noted text n
         picking-note = over-note (go .over-maps) u e
 
-        split : (l : List Map) → dimensionAt start (mapOn text n ∷ l) d ≡ cond (any (eqb d) (dimensionsOf (the text (n .at)))) (described start (mapOn text n)) (dimensionAt (start + reach (mapOn text n)) l d)
+        split : (l : List Map) → dimensionAt start (mapOn text n ∷ l) d
+            ≡ cond (any (eqb d) (dimensionsOf (the text (n .at)))) (described start (mapOn text n))
+            (dimensionAt (start + reach (mapOn text n)) l d)
         unfolding dimensionAt mapOf
         split l = refl
 
-        pub picking-here : (getD (n .lists .has) d 0 ≡ 0 → ⊥) → {r : Dimension} → r ≡ described start (mapOn text n) → r ≡ dimensionAt 0 (mapsAt text maps) d
+        pub picking-here : (getD (n .lists .has) d 0 ≡ 0 → ⊥) → {r : Dimension} → r ≡ described start (mapOn text n)
+            → r ≡ dimensionAt 0 (mapsAt text maps) d
         picking-here k h =
             h ∙ sym (over-here (go .over-maps) u e .so-far ∙ split (from text maps (i + 1))
             ∙ rw (listed-some d (dimensionsOf (the text (n .at))) (picking-note .lists .tells d (go .digit)) k))
@@ -113,13 +120,28 @@ module _ {text : List ℕ} {maps : Maps} {d : ℕ} where
           pub picking-more : getD (n .lists .has) d 0 ≡ 0 → Picking text maps d (start + size) (i + 1)
           picking-more z = record {
             over-maps = over-next (go .over-maps) u e (λ l s. record {
-              so-far = s .so-far ∙ split l ∙ rw (listed-none d (dimensionsOf (the text (n .at))) (picking-note .lists .tells d (go .digit)) z, p, noted-reach picking-note) refl;
+              so-far = s .so-far ∙ split l
+                  ∙ rw (
+                    listed-none d (dimensionsOf (the text (n .at))) (picking-note .lists .tells d (go .digit)) z,
+                    p,
+                    noted-reach picking-note,
+                  ) refl;
             });
             digit = go .digit;
             low = let m = reach-low picking-note in let l = go .low in omega arith;
           }
 
-pub ruleset picking = (picking-start, picking-done, picking-place, picking-note, picking-digit, picking-here, picking-fits, picking-more, needs)
+pub ruleset picking = (
+  picking-start,
+  picking-done,
+  picking-place,
+  picking-note,
+  picking-digit,
+  picking-here,
+  picking-fits,
+  picking-more,
+  needs,
+)
 
 -- ---- The answer.
 

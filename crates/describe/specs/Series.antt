@@ -26,9 +26,9 @@ use Rattle.numbers.specs.declared.Exponent.the-variants as exponents
 use Rattle.cifti.specs.Words.{units, numberIn}
 use Rattle.cifti.specs.Rows as kinds
 use Rattle.cifti.specs.declared.answer.Series as S
-use Rattle.maps.specs.Good.{Good}
-use Rattle.maps.specs.Kinds.{SeriesFacts, series-facts}
-use Rattle.maps.specs.Fields.{wordAt, word-at, found-value, found-none}
+use Rattle.maps.specs.Laws.Good.{Good}
+use Rattle.maps.specs.Laws.Kinds.{SeriesFacts, series-facts}
+use Rattle.maps.specs.Fields.{attributeWord, word-at, found-value, found-none}
 
 unfoldable pub orNoDecimal : Decimals → Decimal
 orNoDecimal (decimals.Is d) = d
@@ -56,27 +56,31 @@ exponent-seen w h = rw h refl
 -- ---- The attributes.
 
 module _ {text : List ℕ} {at : ℕ} (w : List ℕ) (st : Stands text at) {f : Found} (e : f ≡ place text at w) where
-  pub decimal-is : {v : ℕ} {a : Decimals} {d : Decimal} → f ≡ At v → a ≡ decimalIn (value-there text v) → a ≡ decimals.Is d → d ≡ decimalSeen (wordAt w (the text at))
+  pub decimal-is : {v : ℕ} {a : Decimals} {d : Decimal} → f ≡ At v → a ≡ decimalIn (value-there text v) → a ≡ decimals.Is d
+      → d ≡ decimalSeen (attributeWord w (the text at))
   unfolding decimalSeen orNoDecimal
   decimal-is h p q = sym (ap (λ x. orNoDecimal (decimalIn x)) (sym (found-value w st e h)) ∙ ap orNoDecimal (sym p ∙ q))
 
-  pub decimal-no : {v : ℕ} {a : Decimals} {r : Decimal} → f ≡ At v → a ≡ decimalIn (value-there text v) → a ≡ decimals.No → r ≡ noDecimal → r ≡ decimalSeen (wordAt w (the text at))
+  pub decimal-no : {v : ℕ} {a : Decimals} {r : Decimal} → f ≡ At v → a ≡ decimalIn (value-there text v) → a ≡ decimals.No → r ≡ noDecimal
+      → r ≡ decimalSeen (attributeWord w (the text at))
   unfolding decimalSeen orNoDecimal
   decimal-no h p q k = k ∙ sym (ap (λ x. orNoDecimal (decimalIn x)) (sym (found-value w st e h)) ∙ ap orNoDecimal (sym p ∙ q))
 
-  pub decimal-none : {r : Decimal} → f ≡ Nothing → r ≡ noDecimal → r ≡ decimalSeen (wordAt w (the text at))
+  pub decimal-none : {r : Decimal} → f ≡ Nothing → r ≡ noDecimal → r ≡ decimalSeen (attributeWord w (the text at))
   unfolding decimalSeen orNoDecimal decimalIn numbers all
   decimal-none h k = k ∙ rw (found-none w st e h) refl
 
-  pub exponent-is : {v : ℕ} {a : Exponent} {n : ℤ} → f ≡ At v → a ≡ exponentIn 30 (value-there text v) → a ≡ exponents.Is n → n ≡ exponentSeen (wordAt w (the text at))
+  pub exponent-is : {v : ℕ} {a : Exponent} {n : ℤ} → f ≡ At v → a ≡ exponentIn 30 (value-there text v) → a ≡ exponents.Is n
+      → n ≡ exponentSeen (attributeWord w (the text at))
   unfolding exponentSeen orNoExponent
   exponent-is h p q = sym (ap (λ x. orNoExponent (exponentIn 30 x)) (sym (found-value w st e h)) ∙ ap orNoExponent (sym p ∙ q))
 
-  pub exponent-no : {v : ℕ} {a : Exponent} → f ≡ At v → a ≡ exponentIn 30 (value-there text v) → a ≡ exponents.No → pos 0 ≡ exponentSeen (wordAt w (the text at))
+  pub exponent-no : {v : ℕ} {a : Exponent} → f ≡ At v → a ≡ exponentIn 30 (value-there text v) → a ≡ exponents.No
+      → pos 0 ≡ exponentSeen (attributeWord w (the text at))
   unfolding exponentSeen orNoExponent
   exponent-no h p q = sym (ap (λ x. orNoExponent (exponentIn 30 x)) (sym (found-value w st e h)) ∙ ap orNoExponent (sym p ∙ q))
 
-  pub exponent-none : f ≡ Nothing → pos 0 ≡ exponentSeen (wordAt w (the text at))
+  pub exponent-none : f ≡ Nothing → pos 0 ≡ exponentSeen (attributeWord w (the text at))
   unfolding exponentSeen orNoExponent exponentIn numbers all
   exponent-none h = rw (found-none w st e h) refl
 
@@ -102,8 +106,9 @@ seriesSaid e = record {
 }
 
 pub series-read : {text : List ℕ} {at : ℕ} → SeriesAt text at → {a b : Decimal} {x : ℤ} {u : ℕ}
-    → a ≡ decimalSeen (wordAt (ascii "SeriesStart") (the text at)) → b ≡ decimalSeen (wordAt (ascii "SeriesStep") (the text at))
-    → x ≡ exponentSeen (wordAt (ascii "SeriesExponent") (the text at)) → u ≡ numberIn units (attr "SeriesUnit" (the text at))
+    → a ≡ decimalSeen (attributeWord (ascii "SeriesStart") (the text at))
+    → b ≡ decimalSeen (attributeWord (ascii "SeriesStep") (the text at))
+    → x ≡ exponentSeen (attributeWord (ascii "SeriesExponent") (the text at)) → u ≡ numberIn units (attr "SeriesUnit" (the text at))
     → _≡_ {A = S.Series} (record { start = a; step = b; exponent = x; unit = u }) (seriesSaid (the text at))
 unfolding seriesSaid
 series-read {text} {at} s p q r t = build
@@ -116,7 +121,8 @@ series-read {text} {at} s p q r t = build
     f = series-facts (s .good)
 
     build : {a b c d : Decimal} {x y : ℤ} {u v : ℕ} → a ≡ c → b ≡ d → x ≡ y → u ≡ v
-        → _≡_ {A = S.Series} (record { start = a; step = b; exponent = x; unit = u }) (record { start = c; step = d; exponent = y; unit = v })
+        → _≡_ {A = S.Series} (record { start = a; step = b; exponent = x; unit = u })
+        (record { start = c; step = d; exponent = y; unit = v })
     build p q r t = rw (p, q, r, t) refl
 
 pub ruleset seriesSteps = (series-stands, series-read, needs)

@@ -1,1 +1,1 @@
-// Laws: what the answer says of each dimension, the room that the records take, and the names of maps.
+// Laws: what the answer says of each dimension, and the room that the records take.

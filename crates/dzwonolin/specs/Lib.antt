@@ -1,2 +1,2 @@
 pub mod Promises
-pub mod Unique
+pub mod Laws

@@ -11,34 +11,34 @@ use Rattle.cifti.specs.Answer.{Reads}
 use Rattle.cifti.specs.declared.answer.Answer.{Answer}
 use Rattle.map_names.specs.Placed.{NamePlaced}
 use Rattle.map_names.specs.declared.NamePlace.{NamePlace}
-use Rattle.flat.specs.Flat.{answerNumbers, told}
+use Rattle.flat.specs.Flat.{answerNumbers, laidOver}
 
 pub record ReadsFlat (text lengths records work slice : List ℕ) (number : ℕ) (recordsAfter workAfter sliceAfter : List ℕ) : Type 0 where
   pub answer : Answer
   pub reads : Reads text lengths records work answer recordsAfter workAfter
   pub numbered : number ≡ answer .number
-  pub flat : sliceAfter ≡ told (answerNumbers answer) slice
+  pub flat : sliceAfter ≡ laidOver (answerNumbers answer) slice
 
 pub record NamesFlat (text lengths : List ℕ) (dimension index : ℕ) (slice : List ℕ) (number : ℕ) (sliceAfter : List ℕ) : Type 0 where
   pub answer : NamePlace
   pub places : NamePlaced text lengths dimension index answer
   pub numbered : number ≡ answer .number
-  pub flat : sliceAfter ≡ told (answer .start ∷ answer .length ∷ []) slice
+  pub flat : sliceAfter ≡ laidOver (answer .start ∷ answer .length ∷ []) slice
 
 pub record FindsFlat (records : List ℕ) (x : ℕ) (slice : List ℕ) (number : ℕ) (sliceAfter : List ℕ) : Type 0 where
   pub answer : Found
   pub finds : Finds records x answer
   pub numbered : number ≡ answer .number
-  pub flat : sliceAfter ≡ told (answer .place .0 ∷ []) slice
+  pub flat : sliceAfter ≡ laidOver (answer .place .0 ∷ []) slice
 
 pub record PacksFlat (records sheet slice : List ℕ) (number : ℕ) (sheetAfter sliceAfter : List ℕ) : Type 0 where
   pub answer : Outcome
   pub packs : Packs records sheet answer sheetAfter
   pub numbered : number ≡ answer .number
-  pub flat : sliceAfter ≡ told (answer .value ∷ []) slice
+  pub flat : sliceAfter ≡ laidOver (answer .value ∷ []) slice
 
 pub record UnpacksFlat (sheet records slice : List ℕ) (number : ℕ) (recordsAfter sliceAfter : List ℕ) : Type 0 where
   pub answer : Outcome
   pub unpacks : Unpacks sheet records answer recordsAfter
   pub numbered : number ≡ answer .number
-  pub flat : sliceAfter ≡ told (answer .value ∷ []) slice
+  pub flat : sliceAfter ≡ laidOver (answer .value ∷ []) slice

@@ -14,7 +14,8 @@ pub extern "C" fn dz_read(
     work: &mut [u64],
     answer: &mut [u64],
 ) -> u64
-    ensures { λ r. ⌜ ReadsFlat (now (text .entry)) (now (lengths .entry)) (now (records .entry)) (now (work .entry)) (now (answer .entry)) r (now (records .exit)) (now (work .exit)) (now (answer .exit)) ⌝ }
+    ensures { λ r. ⌜ ReadsFlat (now (text .entry)) (now (lengths .entry)) (now (records .entry)) (now (work .entry))
+        (now (answer .entry)) r (now (records .exit)) (now (work .exit)) (now (answer .exit)) ⌝ }
 {
     let said = reader::read(text, lengths, records, work);
     tell_answer(answer, said);
@@ -40,25 +41,27 @@ pub extern "C" fn dz_map_name(
 pub extern "C" fn dz_find(records: &[u64], number: u64, place: &mut [u64]) -> u64
     ensures { λ r. ⌜ FindsFlat (now (records .entry)) number (now (place .entry)) r (now (place .exit)) ⌝ }
 {
-    let said = records::find(records, number);
+    let said = record_fields::find(records, number);
     tell_one(place, said.place.0 as u64);
     said.number
 }
 
 #[no_mangle]
 pub extern "C" fn dz_pack(records: &[u64], sheet: &mut [u8], count: &mut [u64]) -> u64
-    ensures { λ r. ⌜ PacksFlat (now (records .entry)) (now (sheet .entry)) (now (count .entry)) r (now (sheet .exit)) (now (count .exit)) ⌝ }
+    ensures { λ r. ⌜ PacksFlat (now (records .entry)) (now (sheet .entry)) (now (count .entry)) r (now (sheet .exit))
+        (now (count .exit)) ⌝ }
 {
-    let said = records::pack(records, sheet);
+    let said = sheets::pack(records, sheet);
     tell_one(count, said.value);
     said.number
 }
 
 #[no_mangle]
 pub extern "C" fn dz_unpack(sheet: &[u8], records: &mut [u64], count: &mut [u64]) -> u64
-    ensures { λ r. ⌜ UnpacksFlat (now (sheet .entry)) (now (records .entry)) (now (count .entry)) r (now (records .exit)) (now (count .exit)) ⌝ }
+    ensures { λ r. ⌜ UnpacksFlat (now (sheet .entry)) (now (records .entry)) (now (count .entry)) r (now (records .exit))
+        (now (count .exit)) ⌝ }
 {
-    let said = records::unpack(sheet, records);
+    let said = sheets::unpack(sheet, records);
     tell_one(count, said.value);
     said.number
 }

@@ -41,5 +41,5 @@ answerNumbers a =
     ++ dimensionNumbers (getD (a .dimensions) 2 unused)))
 
 -- what a lent slice holds after: the numbers at its start and the rest as it was, or all as it was where they do not fit
-unfoldable pub told : (numbers slice : List ℕ) → List ℕ
-told v s = cond (leb (length v) (length s)) (filledWith v s) s
+unfoldable pub laidOver : (numbers slice : List ℕ) → List ℕ
+laidOver v s = cond (leb (length v) (length s)) (filledWith v s) s

@@ -1,7 +1,7 @@
 // Answers as numbers at the start of a lent slice; one that is too short is left as it was.
+use answers::kind_number;
 use cifti::Answer;
 use cifti::Dimension;
-use cifti::kind_number;
 ghost use mathlib.Core.Path.{_≡_};
 ghost use mathlib.Core.List.{[], _∷_};
 ghost use Prim.Native.Nat.{_+_, _≤_};
@@ -80,7 +80,7 @@ fn put(slice: &mut [u64], at: usize, row: &[u64])
 }
 
 pub fn tell_answer(slice: &mut [u64], answer: Answer)
-    ensures { λ _. ⌜ now (slice .exit) ≡ flat.told (flat.answerNumbers answer) (now (slice .entry)) ⌝ }
+    ensures { λ _. ⌜ now (slice .exit) ≡ flat.laidOver (flat.answerNumbers answer) (now (slice .entry)) ⌝ }
 {
     if slice.len() < ANSWER {
         return;
@@ -98,7 +98,7 @@ pub fn tell_answer(slice: &mut [u64], answer: Answer)
 }
 
 pub fn tell_one(slice: &mut [u64], value: u64)
-    ensures { λ _. ⌜ now (slice .exit) ≡ flat.told (value ∷ []) (now (slice .entry)) ⌝ }
+    ensures { λ _. ⌜ now (slice .exit) ≡ flat.laidOver (value ∷ []) (now (slice .entry)) ⌝ }
 {
     if 0 < slice.len() {
         slice[0] = value;
@@ -106,7 +106,7 @@ pub fn tell_one(slice: &mut [u64], value: u64)
 }
 
 pub fn tell_two(slice: &mut [u64], first: u64, second: u64)
-    ensures { λ _. ⌜ now (slice .exit) ≡ flat.told (first ∷ second ∷ []) (now (slice .entry)) ⌝ }
+    ensures { λ _. ⌜ now (slice .exit) ≡ flat.laidOver (first ∷ second ∷ []) (now (slice .entry)) ⌝ }
 {
     if slice.len() < 2 {
         return;

@@ -1,5 +1,5 @@
--- One legal character, in UTF-8: `Character a w` says that the byte `a` and the bytes `w` behind it write one. The four forms and their ranges are
--- the syntax of RFC 3629, section 4. Left out are U+FFFE, U+FFFF, and what lies below 32 and is no blank.
+-- One legal character, in UTF-8: `Character a w` says that the byte `a` and the bytes `w` behind it write one. The four forms and their
+-- ranges are the syntax of RFC 3629, section 4. Left out are U+FFFE, U+FFFF, and what lies below 32 and is no blank.
 use mathlib.Core.Path.{_≡_, refl}
 use mathlib.Core.List.{List, [], _∷_, _++_}
 use Prim.Native.Nat.{ℕ}
@@ -21,7 +21,8 @@ lead2 a = between 194 223 a
 
 -- UTF8-3: the first two bytes
 unfoldable pub lead3 : ℕ → ℕ → Bool
-lead3 a b = (eqb a 224 && between 160 191 b) || ((between 225 236 a && continues b) || ((eqb a 237 && between 128 159 b) || (between 238 239 a && continues b)))
+lead3 a b = (eqb a 224 && between 160 191 b)
+    || ((between 225 236 a && continues b) || ((eqb a 237 && between 128 159 b) || (between 238 239 a && continues b)))
 
 -- UTF8-4: the first two bytes
 unfoldable pub lead4 : ℕ → ℕ → Bool

@@ -1,5 +1,5 @@
--- THE PAPER'S DOCUMENT: a root that has a name, attributes in order (name, decoded value), and contents in order: elements, and runs of decoded
--- characters. An element of `Document` also keeps the bytes between its tags; `erased` drops them, and nothing else.
+-- THE PAPER'S DOCUMENT: a root that has a name, attributes in order (name, decoded value), and contents in order: elements, and runs of
+-- decoded characters. An element of `Document` also keeps the bytes between its tags; `erased` drops them, and nothing else.
 use mathlib.Core.Path.{_≡_, refl}
 use mathlib.Core.List.{List, [], _∷_}
 use mathlib.Core.Option.{Option, some}

@@ -1,5 +1,5 @@
--- THE GRAMMAR: `Writes e s` says that the bytes `s` may write the document whose root is `e`. It is a relation, production by production; `_⊹_` is
--- one text after another. Nothing here reads: no production looks at what stands behind it, but for the one on `]]>`.
+-- THE GRAMMAR: `Writes e s` says that the bytes `s` may write the document whose root is `e`. It is a relation, production by production;
+-- `_⊹_` is one text after another. Nothing here reads: no production looks at what stands behind it, but for the one on `]]>`.
 use mathlib.Core.Path.{_≡_, refl}
 use mathlib.Core.Logic.{_≢_}
 use mathlib.Core.List.{List, [], _∷_, _++_}
@@ -9,7 +9,7 @@ use lib.Dec.{eqb}
 use lib.ListN.{length}
 use Rattle.grammar.specs.Bytes.{_⊹_, ascii, blank, nameStart, nameByte, quote, special, Each, Sequence, begins}
 use Rattle.grammar.specs.Characters.{Character}
-use Rattle.grammar.specs.Document.{Attribute, attribute, Element, element, Contents, nothing, child, run, joined, together}
+use Rattle.grammar.specs.Document.{Attribute, attribute, Element, element, Contents, nothing, child, run, merged, together}
 
 -- A name: a letter or `_`, then letters, digits, `_ - . :`; at most 64 bytes.
 pub data Name : List ℕ → Type 0 where
@@ -44,7 +44,8 @@ pub data ValueCharacter (q : ℕ) : List ℕ → List ℕ → Type 0 where
 
 -- A value in quotes.
 pub data Value : List ℕ → List ℕ → Type 0 where
-  value : (q : ℕ) {bs : List (List ℕ)} {w : List ℕ} → quote q ≡ true → Sequence (ValueCharacter q) bs w → Value (together bs) ((q ∷ []) ⊹ w ⊹ (q ∷ []))
+  value : (q : ℕ) {bs : List (List ℕ)} {w : List ℕ} → quote q ≡ true → Sequence (ValueCharacter q) bs w
+      → Value (together bs) ((q ∷ []) ⊹ w ⊹ (q ∷ []))
 
 -- An attribute, with the blanks before it.
 pub data WritesAttribute : Attribute → List ℕ → Type 0 where
@@ -88,8 +89,9 @@ mutual
     none : {d : ℕ} → WritesContents d nothing []
     remark : {d : ℕ} {c : Contents} {w s : List ℕ} → Comment w → WritesContents d c s → WritesContents d c (w ⊹ s)
     character : {d : ℕ} {c : Contents} {b w s : List ℕ} → TextCharacter b w → begins (ascii "]]>") (w ⊹ s) ≡ false → WritesContents d c s
-        → WritesContents d (joined b c) (w ⊹ s)
-    inner : {d : ℕ} {e : Element} {c : Contents} {w s : List ℕ} → WritesElement d e w → WritesContents d c s → WritesContents d (child e c) (w ⊹ s)
+        → WritesContents d (merged b c) (w ⊹ s)
+    inner : {d : ℕ} {e : Element} {c : Contents} {w s : List ℕ} → WritesElement d e w → WritesContents d c s
+        → WritesContents d (child e c) (w ⊹ s)
 
 -- `k="v"` in the declaration, with the blanks before it.
 pub data Setting (k v : List ℕ) : List ℕ → Type 0 where
@@ -103,7 +105,8 @@ pub data Encoding : List ℕ → Type 0 where
 -- The declaration, or nothing.
 pub data Declaration : List ℕ → Type 0 where
   no-declaration : Declaration []
-  declaration : {v e u : List ℕ} → Setting (ascii "version") (ascii "1.0") v → Encoding e → Each blank u → Declaration (ascii "<?xml" ⊹ v ⊹ e ⊹ u ⊹ ascii "?>")
+  declaration : {v e u : List ℕ} → Setting (ascii "version") (ascii "1.0") v → Encoding e → Each blank u
+      → Declaration (ascii "<?xml" ⊹ v ⊹ e ⊹ u ⊹ ascii "?>")
 
 -- What may stand before and after the root: a blank, or a comment.
 pub data Aside : List ℕ → List ℕ → Type 0 where

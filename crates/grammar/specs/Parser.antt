@@ -1,4 +1,5 @@
--- A parser: a total function that finds the document that a text writes, if one does (`Theorems`). It falls with its fuel, the length of the text.
+-- A parser: a total function that finds the document that a text writes, if one does (`Theorems`). It falls with its fuel, the length of
+-- the text.
 use mathlib.Core.Path.{_≡_, refl}
 use mathlib.Core.List.{List, [], _∷_, _++_}
 use mathlib.Core.Option.{Option, some}
@@ -9,8 +10,9 @@ use lib.Dec.{eqb, leb}
 use lib.ListN.{length}
 use Rattle.grammar.specs.Bytes.{ascii, blank, nameStart, nameByte, quote, special, begins, letter}
 use Rattle.grammar.specs.Characters.{lead1, lead2, lead3, lead4, continues, noncharacter}
-use Rattle.grammar.specs.Document.{Attribute, attribute, Element, element, Contents, nothing, child, joined, together}
-use Rattle.grammar.specs.Read.{Read, fail, got, Reader, bind, _>>=_, _>>_, pure, test, mark, byte, span, seen, before, alt, all-of, stops, many, many-step}
+use Rattle.grammar.specs.Document.{Attribute, attribute, Element, element, Contents, nothing, child, merged, together}
+use Rattle.grammar.specs.Read.{Read, fail, got, Reader, bind, _>>=_, _>>_, pure, test, mark, byte, span, seen, before, alt, all-of}
+use Rattle.grammar.specs.Read.{stops, many, many-step}
 
 unfoldable pub name-at : Reader (List ℕ)
 name-at = do
@@ -33,20 +35,20 @@ equals-at = do
   pure tt
 
 -- how many bytes a character has, by its first
-pub data Width : Type 0 where
-  one two three four : Width
+pub data CharacterWidth : Type 0 where
+  one two three four : CharacterWidth
 
-unfoldable pub width-by : Bool → Bool → Bool → Width
+unfoldable pub width-by : Bool → Bool → Bool → CharacterWidth
 width-by true t u = one
 width-by false true u = two
 width-by false false true = three
 width-by false false false = four
 
-unfoldable pub width : ℕ → Width
+unfoldable pub width : ℕ → CharacterWidth
 width a = width-by (leb a 127) (leb a 223) (leb a 239)
 
 -- the bytes of a character behind the first
-unfoldable pub rest-by : Width → ℕ → Reader (List ℕ)
+unfoldable pub rest-by : CharacterWidth → ℕ → Reader (List ℕ)
 rest-by one a = do
   test (lead1 a)
   pure []
@@ -76,17 +78,17 @@ literal-at p = do
   pure (a ∷ w)
 
 -- the bytes `k` for `v`
-unfoldable pub said : List ℕ → List ℕ → Reader (List ℕ)
-said k v = do
+unfoldable pub standsFor : List ℕ → List ℕ → Reader (List ℕ)
+standsFor k v = do
   mark k
   pure v
 
 unfoldable pub reference-at : Reader (List ℕ)
 reference-at s =
-    alt (said (ascii "&amp;") (ascii "&") s)
-    (alt (said (ascii "&lt;") (ascii "<") s)
-    (alt (said (ascii "&gt;") (ascii ">") s)
-    (alt (said (ascii "&quot;") (ascii "\"") s) (said (ascii "&apos;") (ascii "'") s))))
+    alt (standsFor (ascii "&amp;") (ascii "&") s)
+    (alt (standsFor (ascii "&lt;") (ascii "<") s)
+    (alt (standsFor (ascii "&gt;") (ascii ">") s)
+    (alt (standsFor (ascii "&quot;") (ascii "\"") s) (standsFor (ascii "&apos;") (ascii "'") s))))
 
 unfoldable pub text-at : Reader (List ℕ)
 text-at s = alt (reference-at s) (literal-at (λ a. not (special a)) s)
@@ -228,7 +230,7 @@ contents-by more d at-text = λ s. (do
   test (not (begins (ascii "]]>") s))
   b ← text-at
   c ← more d
-  pure (joined b c)) s
+  pure (merged b c)) s
 
 unfoldable pub contents-at : ℕ → ℕ → Reader Contents
 contents-at zero d s = fail
@@ -301,5 +303,10 @@ parse s = answer (document-at (length s) s)
 
 -- the parser with all that it calls open: `unfolding computing` lets a proof compute `parse` at a text that is given
 unfoldable pub computing : List ℕ → Option Element
-unfolding name-at gap-at equals-at width-by width rest-by rest-at literal-at said reference-at text-at space-at value-byte value-character-at value-at attribute-at ends closing same absent distinct attributes-at no-dash plain-at dashed-at remark-at comment-at look-by look₂ look-if look empty-at full-at element-at contents-by contents-at setting-at asking encoding-if declaration-if declaration-at blank-at remarked-at aside-at no-aside end-at document-at answer parse bind test mark byte span stops alt many-step many all-of seen before blank letter nameStart nameByte quote special begins lead1 continues lead2 lead3 lead4 noncharacter joined
+unfolding name-at gap-at equals-at width-by width rest-by rest-at literal-at standsFor reference-at text-at space-at value-byte
+    value-character-at value-at attribute-at ends closing same absent distinct attributes-at no-dash plain-at dashed-at remark-at
+    comment-at look-by look₂ look-if look empty-at full-at element-at contents-by contents-at setting-at asking encoding-if
+    declaration-if declaration-at blank-at remarked-at aside-at no-aside end-at document-at answer parse bind test mark byte span stops
+    alt many-step many all-of seen before blank letter nameStart nameByte quote special begins lead1 continues lead2 lead3 lead4
+    noncharacter merged
 computing s = parse s

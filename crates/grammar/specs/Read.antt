@@ -124,7 +124,9 @@ unfolding span
 span-sound p [] = good (refl, no-byte)
 span-sound p (a ∷ s) = go (p a) refl (span-sound p s)
   where
-    go : (t : Bool) → p a ≡ t → Ok (λ w r. (s ≡ w ++ r) × Each p w) (span p s) → Ok (λ w r. (a ∷ s ≡ w ++ r) × Each p w) (elim t as (λ _. Read (List ℕ)) [ true ↦ bind (span p s) (λ w r. got (a ∷ w) r) | false ↦ got [] (a ∷ s) ])
+    go : (t : Bool) → p a ≡ t → Ok (λ w r. (s ≡ w ++ r) × Each p w) (span p s)
+        → Ok (λ w r. (a ∷ s ≡ w ++ r) × Each p w)
+        (elim t as (λ _. Read (List ℕ)) [ true ↦ bind (span p s) (λ w r. got (a ∷ w) r) | false ↦ got [] (a ∷ s) ])
     go true e ih = bind-ok ih λ w r h. good (ap (λ l. a ∷ l) (h .0), a-byte e (h .1))
     go false e ih = good (refl, no-byte)
 
@@ -153,7 +155,8 @@ unfoldable pub many : {A : Type 0} → (List ℕ → Bool) → Reader A → ℕ 
 many stop p zero s = fail
 many stop p (suc n) s = many-step (stop s) p (many stop p n) s
 
-pub many-suc : {A : Type 0} (stop : List ℕ → Bool) (p : Reader A) (n : ℕ) (s : List ℕ) → many stop p (suc n) s ≡ many-step (stop s) p (many stop p n) s
+pub many-suc : {A : Type 0} (stop : List ℕ → Bool) (p : Reader A) (n : ℕ) (s : List ℕ)
+    → many stop p (suc n) s ≡ many-step (stop s) p (many stop p n) s
 unfolding many
 many-suc stop p n s = refl
 
@@ -161,7 +164,8 @@ unfoldable pub all-of : {A : Type 0} → (List ℕ → Bool) → Reader A → Re
 all-of stop p s = many stop p (suc (length s)) s
 
 module _ {A : Type 0} {P : A → List ℕ → Type 0} {p : Reader A} (sound : (s : List ℕ) → Ok (Takes P s) (p s)) (stop : List ℕ → Bool) where
-  step-sound : (more : Reader (List A)) → ((s : List ℕ) → Ok (Takes (Sequence P) s) (more s)) → (t : Bool) (s : List ℕ) → Ok (Takes (Sequence P) s) (many-step t p more s)
+  step-sound : (more : Reader (List A)) → ((s : List ℕ) → Ok (Takes (Sequence P) s) (more s)) → (t : Bool) (s : List ℕ)
+      → Ok (Takes (Sequence P) s) (many-step t p more s)
   unfolding many-step
   step-sound more ih true s = good ([], refl, no-more)
   step-sound more ih false s =
@@ -188,7 +192,8 @@ with-fuel P k zero h f = absurd (omega arith)
 with-fuel P k (suc n) h f = f n (omega arith)
 
 module _ {A : Type 0} {P : A → List ℕ → Type 0} {stop : List ℕ → Bool} {p : Reader A} (item : Item P stop p) where
-  many-complete : {l : List A} {w : List ℕ} → Sequence P l w → (n : ℕ) → length w < n → (r : List ℕ) → stop r ≡ true → many stop p n (w ++ r) ≡ got l r
+  many-complete : {l : List A} {w : List ℕ} → Sequence P l w → (n : ℕ) → length w < n → (r : List ℕ) → stop r ≡ true
+      → many stop p n (w ++ r) ≡ got l r
   unfolding many-step bind
   many-complete no-more n h r e = with-fuel (λ n. many stop p n r ≡ got [] r) 0 n h λ m hm. rw (many-suc, e)
   many-complete (one-more {a} {l} {w} {s} k t) n h r e =
@@ -213,7 +218,8 @@ before-append w r =
 unfoldable pub seen : {A : Type 0} → Reader A → Reader (A × List ℕ)
 seen p s = bind (p s) (λ a r. got (a, before s r) r)
 
-pub seen-sound : {A : Type 0} {P : A → List ℕ → Type 0} (p : Reader A) (s : List ℕ) → Ok (Takes P s) (p s) → Ok (λ x r. (s ≡ x .1 ++ r) × P (x .0) (x .1)) (seen p s)
+pub seen-sound : {A : Type 0} {P : A → List ℕ → Type 0} (p : Reader A) (s : List ℕ) → Ok (Takes P s) (p s)
+    → Ok (λ x r. (s ≡ x .1 ++ r) × P (x .0) (x .1)) (seen p s)
 unfolding seen
 seen-sound p s h = bind-ok h λ a r k.
     let here : before s r ≡ k .0 = rw (k .1) (before-append (k .0) r) in

@@ -1,9 +1,10 @@
--- What a text writes is tidy: no run is empty, no two stand side by side, each name is a name, and each tag's attributes have distinct names, 16 at most.
+-- What a text writes is tidy: no run is empty, no two stand side by side, each name is a name, and each tag's attributes have distinct
+-- names, 16 at most.
 use mathlib.Core.Path.{_≡_, refl}
 use mathlib.Core.List.{List, [], _∷_, _++_}
 use Prim.Native.Nat.{ℕ, suc, _≤_}
 use lib.ListN.{length}
-use Rattle.grammar.specs.Document.{Attribute, Element, element, Contents, nothing, child, run, joined}
+use Rattle.grammar.specs.Document.{Attribute, Element, element, Contents, nothing, child, run, merged}
 use Rattle.grammar.specs.Grammar
 use Rattle.grammar.specs.Grammar.{Name, Reference, TextCharacter, Distinct, Attributes, WritesElement, WritesContents, Writes}
 
@@ -15,7 +16,8 @@ pub data NoRun : Contents → Type 0 where
 mutual
   -- `TidyElement d e`: tidy, and at most `d` deep
   pub data TidyElement : ℕ → Element → Type 0 where
-    tidy-element : {d : ℕ} {n : List ℕ} {l : List Attribute} {c : Contents} {k : List ℕ} → Name n → Distinct l → length l ≤ 16 → Tidy d c → TidyElement (suc d) (element n l c k)
+    tidy-element : {d : ℕ} {n : List ℕ} {l : List Attribute} {c : Contents} {k : List ℕ} → Name n → Distinct l → length l ≤ 16 → Tidy d c
+        → TidyElement (suc d) (element n l c k)
 
   pub data Tidy : ℕ → Contents → Type 0 where
     tidy-nothing : {d : ℕ} → Tidy d nothing
@@ -36,13 +38,14 @@ text-filled : {b w : List ℕ} → TextCharacter b w → Filled b
 text-filled (TextCharacter.literal h e) = filled
 text-filled (TextCharacter.reference k) = reference-filled k
 
-joined-tidy : {d : ℕ} {b : List ℕ} {c : Contents} → Filled b → Tidy d c → Tidy d (joined b c)
-unfolding joined
+joined-tidy : {d : ℕ} {b : List ℕ} {c : Contents} → Filled b → Tidy d c → Tidy d (merged b c)
+unfolding merged
 joined-tidy filled tidy-nothing = tidy-run no-contents tidy-nothing
 joined-tidy filled (tidy-child h k) = tidy-run no-run (tidy-child h k)
 joined-tidy filled (tidy-run h k) = tidy-run h k
 
-tidy-tag : {d : ℕ} {n t : List ℕ} {l : List Attribute} {c : Contents} {k : List ℕ} → Name n → Attributes l t → Tidy d c → TidyElement (suc d) (element n l c k)
+tidy-tag : {d : ℕ} {n t : List ℕ} {l : List Attribute} {c : Contents} {k : List ℕ} → Name n → Attributes l t → Tidy d c
+    → TidyElement (suc d) (element n l c k)
 tidy-tag nm (Grammar.attributes t h k) q = tidy-element nm h k q
 
 element-tidy : {d : ℕ} {e : Element} {w : List ℕ} → WritesElement d e w → TidyElement d e

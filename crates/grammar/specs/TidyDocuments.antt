@@ -1,5 +1,5 @@
--- A DOCUMENT IS AS THE PAPER SAYS: a name is a name, no name stands twice in a tag, at most 16 attributes, runs are never empty and never side by
--- side, elements at most 16 deep.
+-- A DOCUMENT IS AS THE PAPER SAYS: a name is a name, no name stands twice in a tag, at most 16 attributes, runs are never empty and never
+-- side by side, elements at most 16 deep.
 use mathlib.Core.List.{List, [], _∷_}
 use Prim.Native.Nat.{ℕ, suc, _≤_}
 use mathlib.Core.Path.{_≡_, subst}
@@ -17,7 +17,8 @@ pub data NoCharacters : Nodes → Type 0 where
 
 mutual
   pub data TidyNode : ℕ → Node → Type 0 where
-    tidy-node : {d : ℕ} {n : List ℕ} {l : List Attribute} {c : Nodes} → Name n → Distinct l → length l ≤ 16 → TidyNodes d c → TidyNode (suc d) (node n l c)
+    tidy-node : {d : ℕ} {n : List ℕ} {l : List Attribute} {c : Nodes} → Name n → Distinct l → length l ≤ 16 → TidyNodes d c
+        → TidyNode (suc d) (node n l c)
 
   pub data TidyNodes : ℕ → Nodes → Type 0 where
     tidy-none : {d : ℕ} → TidyNodes d none

@@ -6,22 +6,26 @@ use mathlib.Core.Bool.{Bool, true, false, _&&_, _||_, not}
 use lib.ListN.{length, length-append}
 use native.Mathlib.Omega.{arith}
 use Rattle.grammar.specs.Bytes.{ascii, blank, begins}
-use Rattle.grammar.specs.Document.{Attribute, Element, element, Contents, nothing, child, joined}
+use Rattle.grammar.specs.Document.{Attribute, Element, element, Contents, nothing, child, merged}
 use Rattle.grammar.specs.Grammar.{WritesElement, WritesContents}
-use Rattle.grammar.specs.Read.{Read, fail, got, Reader, bind, test, mark, seen, alt, many, many-step, many-suc, all-of, Ok, failed, good, ok-map, Takes, mark-sound, span-sound, test-sound}
-use Rattle.grammar.specs.Parser.{Look, at-close, at-comment, at-element, at-text, look, comment-at, text-at, name-at, attributes-at, empty-at, full-at, element-at, contents-by, contents-at}
-use Rattle.grammar.specs.Sound.{name-sound, attributes-sound, comment-sound, text-sound, element-sound, contents-sound}
-use Rattle.grammar.specs.Tokens.{text-long}
-use Rattle.grammar.specs.Complete.{comment-long, contents-suc, element-long}
+use Rattle.grammar.specs.Read.{Read, fail, got, Reader, bind, test, mark, seen, alt, many, many-step, many-suc, all-of, Ok, failed}
+use Rattle.grammar.specs.Read.{good, ok-map, Takes, mark-sound, span-sound, test-sound}
+use Rattle.grammar.specs.Parser.{Look, at-close, at-comment, at-element, at-text, look, comment-at, text-at, name-at, attributes-at}
+use Rattle.grammar.specs.Parser.{empty-at, full-at, element-at, contents-by, contents-at}
+use Rattle.grammar.specs.Laws.Sound.{name-sound, attributes-sound, comment-sound, text-sound, element-sound, contents-sound}
+use Rattle.grammar.specs.Laws.Tokens.{text-long}
+use Rattle.grammar.specs.Laws.Complete.{comment-long, contents-suc, element-long}
 
 -- two continuations that agree on what is read
-pub bind-same : {A B : Type 0} {Q : A → List ℕ → Type 0} {m : Read A} (f g : A → List ℕ → Read B) → Ok Q m → ((a : A) (r : List ℕ) → Q a r → f a r ≡ g a r) → bind m f ≡ bind m g
+pub bind-same : {A B : Type 0} {Q : A → List ℕ → Type 0} {m : Read A} (f g : A → List ℕ → Read B) → Ok Q m
+    → ((a : A) (r : List ℕ) → Q a r → f a r ≡ g a r) → bind m f ≡ bind m g
 unfolding bind
 bind-same f g failed k = refl
 bind-same f g (good {a} {r} h) k = k a r h
 
 -- what is read off leaves less, or no more
-pub less : {A : Type 0} {P : A → List ℕ → Type 0} {s : List ℕ} {m : Read A} → ((a : A) (w : List ℕ) → P a w → 0 < length w) → Ok (Takes P s) m → Ok (λ _ r. length r < length s) m
+pub less : {A : Type 0} {P : A → List ℕ → Type 0} {s : List ℕ} {m : Read A} → ((a : A) (w : List ℕ) → P a w → 0 < length w)
+    → Ok (Takes P s) m → Ok (λ _ r. length r < length s) m
 less long h = ok-map h λ a r k. omega (arith, long a (k .0) (k .2), length-append (k .0) r, ap length (k .1))
 
 pub no-more-than : {A : Type 0} {P : A → List ℕ → Type 0} {s : List ℕ} {m : Read A} → Ok (Takes P s) m → Ok (λ _ r. length r ≤ length s) m
@@ -38,17 +42,20 @@ module _ {A : Type 0} (p : Reader A) (stop : List ℕ → Bool) (eats : (s : Lis
   many-enough zero m s h k = absurd (omega arith)
   many-enough (suc n) zero s h k = absurd (omega arith)
   many-enough (suc n) (suc m) s h k =
-      rw (many-suc stop p n s, many-suc stop p m s) (step-same p (many stop p n) (many stop p m) s (eats s) (λ r l. many-enough n m r (omega arith) (omega arith)) (stop s))
+      rw (many-suc stop p n s, many-suc stop p m s)
+      (step-same p (many stop p n) (many stop p m) s (eats s) (λ r l. many-enough n m r (omega arith) (omega arith)) (stop s))
 
   -- the equation of a loop
   pub all-of-step : (s : List ℕ) → all-of stop p s ≡ many-step (stop s) p (all-of stop p) s
   unfolding all-of
   all-of-step s =
       rw (many-suc stop p (length s) s)
-      (step-same p (many stop p (length s)) (all-of stop p) s (eats s) (λ r l. many-enough (length s) (suc (length r)) r l (omega arith)) (stop s))
+      (step-same p (many stop p (length s)) (all-of stop p) s (eats s) (λ r l. many-enough (length s) (suc (length r)) r l (omega arith))
+      (stop s))
 
 -- elements and contents
-element-same : (f g : ℕ → Reader Contents) (s : List ℕ) → ((d : ℕ) (r : List ℕ) → length r < length s → f d r ≡ g d r) → (d : ℕ) → element-at f d s ≡ element-at g d s
+element-same : (f g : ℕ → Reader Contents) (s : List ℕ) → ((d : ℕ) (r : List ℕ) → length r < length s → f d r ≡ g d r) → (d : ℕ)
+    → element-at f d s ≡ element-at g d s
 unfolding element-at full-at bind seen
 element-same f g s k zero = refl
 element-same f g s k (suc d) =
@@ -58,7 +65,17 @@ element-same f g s k (suc d) =
     bind-same _ _ (span-sound blank r₃) λ u r₄ h₄.
     ap (alt (empty-at n l r₄)) (
     bind-same _ _ (mark-sound (ascii ">") r₄) λ _ r₅ e₅.
-    let short : length r₅ < length s = omega (arith, ap length e₁, length-append n r₂, ap length (h₂ .0), length-append (h₃ .0) r₃, ap length (h₃ .1), length-append u r₄, ap length (h₄ .0), ap length e₅) in
+    let short : length r₅ < length s = omega (
+      arith,
+      ap length e₁,
+      length-append n r₂,
+      ap length (h₂ .0),
+      length-append (h₃ .0) r₃,
+      ap length (h₃ .1),
+      length-append u r₄,
+      ap length (h₄ .0),
+      ap length e₅,
+    ) in
     rw (k d r₅ short))
 
 by-same : (f g : ℕ → Reader Contents) (s : List ℕ) → ((d : ℕ) (s : List ℕ) → Ok (Takes (WritesContents d) s) (g d s))
@@ -94,9 +111,11 @@ pub contents-step : (d : ℕ) (s : List ℕ) → contents d s ≡ contents-by co
 unfolding contents
 contents-step d s =
     rw (contents-suc (length s) d s)
-    (by-same (contents-at (length s)) contents s contents-fair (λ d r l. contents-enough (length s) (suc (length r)) d r l (omega arith)) d (look s))
+    (by-same (contents-at (length s)) contents s contents-fair
+    (λ d r l. contents-enough (length s) (suc (length r)) d r l (omega arith)) d (look s))
 
 -- the root's reader
 pub element-enough : (n d : ℕ) (s : List ℕ) → length s ≤ n → element-at (contents-at n) d s ≡ element-at contents d s
 unfolding contents
-element-enough n d s h = element-same (contents-at n) contents s (λ d r l. contents-enough n (suc (length r)) d r (omega arith) (omega arith)) d
+element-enough n d s h = element-same (contents-at n) contents s
+    (λ d r l. contents-enough n (suc (length r)) d r (omega arith) (omega arith)) d

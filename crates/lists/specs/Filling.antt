@@ -8,9 +8,9 @@ use native.Mathlib.Decide.{decLt}
 use native.Mathlib.Omega.{arith}
 use lib.ListN.{length, getD, take, drop, length-append, length-drop, List·getD-append}
 use lib.Seq.{ext-getD, getD-append-add, getD-take, getD-drop, length-take-le}
-use Rattle.lists.specs.Booleans.{both-ways}
+use Rattle.lists.specs.Laws.Booleans.{both-ways}
 use Rattle.lists.specs.Lists.{table, count}
-use Rattle.lists.specs.Tables.{size-of-table, entry-of-table}
+use Rattle.lists.specs.Laws.Tables.{size-of-table, entry-of-table}
 use Rattle.lists.specs.Ranges.{holds, holds-is, holds-yes, OnceBelow}
 
 -- a list written over another from a place
@@ -119,7 +119,8 @@ module _ {A : Type 0} (offset size : A → ℕ) (f : A → List ℕ) where
 
         go : (b : Bool) → holds offset size n m ≡ b → cond b 1 0 + count (holds offset size n) l ≡ 0
             → (count (holds offset size n) l ≡ 0
-            → getD (filled start l (wrote (start + offset m) (f m) s)) (start + n) 0 ≡ getD (wrote (start + offset m) (f m) s) (start + n) 0)
+            → getD (filled start l (wrote (start + offset m) (f m) s)) (start + n) 0
+            ≡ getD (wrote (start + offset m) (f m) s) (start + n) 0)
             → getD (filled start l (wrote (start + offset m) (f m) s)) (start + n) 0 ≡ getD s (start + n) 0
         go true q k ih = absurd (omega arith)
         go false q k ih = ih (omega arith) ∙ away q (omega arith)
@@ -151,7 +152,8 @@ module _ {A : Type 0} (offset size : A → ℕ) (f : A → List ℕ) where
     pub filled-law : (l : List A) (s : List ℕ) → Fitting whole l → start + whole ≤ length s → OnceBelow offset size l whole
         → filled start l s ≡ wrote start (table whole (entryAt l)) s
     filled-law l s fit h once =
-        ext-getD 0 (filled start l s) (wrote start (table whole (entryAt l)) s) long (λ p u. place p (decLt p start) (decLt p (start + whole)))
+        ext-getD 0 (filled start l s) (wrote start (table whole (entryAt l)) s) long
+        (λ p u. place p (decLt p start) (decLt p (start + whole)))
       where
         tl : length (table whole (entryAt l)) ≡ whole
         tl = size-of-table (entryAt l) whole

@@ -1,10 +1,7 @@
-pub mod Booleans
 pub mod Lists
 pub mod Quantifiers
-pub mod Laws
 pub mod Refusals
-pub mod RefusalLaws
-pub mod Tables
 pub mod Ranges
 pub mod Filling
 pub mod Permuted
+pub mod Laws

@@ -5,7 +5,7 @@ use mathlib.Core.Bool.{Bool, true, false, _&&_, _||_, not, cond}
 use Prim.Native.Nat.{ℕ, suc, _+_}
 use native.Mathlib.Omega.{arith}
 use lib.ListN.{length}
-use Rattle.lists.specs.Booleans.{or-swap, and-swap}
+use Rattle.lists.specs.Laws.Booleans.{or-swap, and-swap}
 use Rattle.lists.specs.Lists.{all, any, those, count, twoOf, total, each, eachIn}
 
 pub data Permuted {A : Type 0} : List A → List A → Type 0 where
@@ -81,7 +81,8 @@ module _ {A : Type 0} where
   those-permuted p (swap {a} {b} {l}) = go (p a) (p b)
     where
       go : (x y : Bool)
-          → Permuted (cond x (a ∷ cond y (b ∷ those p l) (those p l)) (cond y (b ∷ those p l) (those p l))) (cond y (b ∷ cond x (a ∷ those p l) (those p l)) (cond x (a ∷ those p l) (those p l)))
+          → Permuted (cond x (a ∷ cond y (b ∷ those p l) (those p l)) (cond y (b ∷ those p l) (those p l)))
+          (cond y (b ∷ cond x (a ∷ those p l) (those p l)) (cond x (a ∷ those p l) (those p l)))
       go true true = swap
       go true false = permuted-refl _
       go false true = permuted-refl _

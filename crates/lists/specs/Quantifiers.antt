@@ -9,7 +9,7 @@ use native.Mathlib.Decide.{ℕ-discrete}
 use native.Mathlib.Omega.{arith}
 use lib.ListN.{length, getD}
 use Rattle.lists.specs.Lists.{all, any, count, twoOf, allBelow}
-use Rattle.lists.specs.Booleans.{and-left, and-right, and-both, or-first, or-second}
+use Rattle.lists.specs.Laws.Booleans.{and-left, and-right, and-both, or-first, or-second}
 
 module _ {A : Type 0} (d : A) where
   -- some place of the list passes
@@ -119,7 +119,8 @@ module _ {A : Type 0} (d : A) where
               only zero x y = absurd (true≢false (sym y ∙ e))
               only (suc j) x y = ap suc (w j (le-of-suc-le-suc x) y)
 
-  one-count : (p : A → Bool) (l : List A) (i : ℕ) → i < length l → p (getD l i d) ≡ true → ((j : ℕ) → j < length l → p (getD l j d) ≡ true → j ≡ i) → count p l ≡ 1
+  one-count : (p : A → Bool) (l : List A) (i : ℕ) → i < length l → p (getD l i d) ≡ true
+      → ((j : ℕ) → j < length l → p (getD l j d) ≡ true → j ≡ i) → count p l ≡ 1
   unfolding count
   one-count p [] i u v w = absurd (not-suc-le-zero u)
   one-count p (a ∷ l) zero u v w =

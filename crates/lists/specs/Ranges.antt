@@ -14,7 +14,7 @@ use native.Mathlib.Omega.{arith}
 use lib.Dec.{eqb, leb, ltb}
 use lib.ListN.{length, getD}
 use borrow.Author.Tests.{eqb-true, eq-eqb, leb-true, leb-false, ltb-true, ltb-false, le-leb, lt-ltb}
-use Rattle.lists.specs.Booleans.{and-halves, refute, both-ways, never-some}
+use Rattle.lists.specs.Laws.Booleans.{and-halves, refute, both-ways, never-some}
 use Rattle.lists.specs.Lists.{count, total, countUp, allBelow}
 use Rattle.lists.specs.Quantifiers.{OnePlace, count-one-iff, allBelow-iff}
 

@@ -1,4 +1,5 @@
--- THE ORDER OF REFUSALS: a list of rows, each a number and whether its condition applies. The number of the first row that applies is given; 0 where none does.
+-- THE ORDER OF REFUSALS: a list of rows, each a number and whether its condition applies. The number of the first row that applies is
+-- given; 0 where none does.
 use mathlib.Core.Path.{_≡_}
 use mathlib.Core.List.{List, [], _∷_, _++_}
 use mathlib.Core.Bool.{Bool, true, false, _&&_, _||_, cond}
@@ -27,7 +28,8 @@ pub data NoneApplies : List Refusal → Type 0 where
 -- the row given applies, and no row before it does; or none applies, and 0 is given
 pub data FirstOf : List Refusal → ℕ → Type 0 where
   none-first : {l : List Refusal} → NoneApplies l → FirstOf l 0
-  this-first : (before : List Refusal) {n : ℕ} (rest : List Refusal) → NoneApplies before → {l : List Refusal} → l ≡ before ++ (n when true ∷ rest) → FirstOf l n
+  this-first : (before : List Refusal) {n : ℕ} (rest : List Refusal) → NoneApplies before → {l : List Refusal} → l ≡ before
+      ++ (n when true ∷ rest) → FirstOf l n
 
 -- every number of a row is above 0, so that 0 says that none applies
 unfoldable pub positive : List Refusal → Bool

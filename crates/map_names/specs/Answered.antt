@@ -6,8 +6,8 @@ use native.Mathlib.Omega.{arith}
 use native.Mathlib.Decide.{ℕ-discrete}
 use lib.ListN.{length}
 use borrow.Author.Needs.{needs}
-use Rattle.lists.specs.Booleans.{clash}
-use Rattle.nodes.specs.Inside.{within}
+use Rattle.lists.specs.Laws.Booleans.{clash}
+use Rattle.nodes.specs.Inside.{between-tags}
 use Rattle.nodes.specs.declared.Found.{Found}
 use Rattle.nodes.specs.declared.Found.the-variants.{At, Nothing}
 use Rattle.ways.specs.One.{tagEnd}
@@ -23,7 +23,7 @@ pub record Is (r : NamePlace) (number start size : ℕ) : Type 0 where
 pub record Answered (text : List ℕ) (number dimension index : ℕ) (r : NamePlace) : Type 0 where
   pub refused : (number ≡ 0 → ⊥) → Is r number 0 0
   pub missing : number ≡ 0 → nameAt text dimension index ≡ Nothing → Is r 18 0 0
-  pub found : number ≡ 0 → (k : ℕ) → nameAt text dimension index ≡ At k → Is r 0 (tagEnd text k) (length (within text k))
+  pub found : number ≡ 0 → (k : ℕ) → nameAt text dimension index ≡ At k → Is r 0 (tagEnd text k) (length (between-tags text k))
 
 module _ (text : List ℕ) {n : ℕ} (d i : ℕ) (r : NamePlace) where
   pub answered-refused : (n ≡ 0 → ⊥) → r .number ≡ n → r .start ≡ 0 → r .length ≡ 0 → Answered text n d i r
@@ -41,14 +41,14 @@ module _ (text : List ℕ) {n : ℕ} (d i : ℕ) (r : NamePlace) where
       found = λ _ k e. clash (cc);
     }
 
-    pub answered-found : {k : ℕ} → f ≡ At k → {l : List ℕ} → l ≡ within text k → {s : ℕ} → s ≡ tagEnd text k → r .number ≡ 0
+    pub answered-found : {k : ℕ} → f ≡ At k → {l : List ℕ} → l ≡ between-tags text k → {s : ℕ} → s ≡ tagEnd text k → r .number ≡ 0
         → r .start ≡ s → r .length ≡ length l → Answered text n d i r
     answered-found {k} h w t a b c = record {
       refused = λ y. absurd (y z);
       missing = λ _ e. clash (cc);
       found = λ _ j e.
           let same : k ≡ j = cc in
-          record { number-is = a; start-is = b ∙ t ∙ ap (tagEnd text) same; length-is = c ∙ ap length (w ∙ ap (within text) same) };
+          record { number-is = a; start-is = b ∙ t ∙ ap (tagEnd text) same; length-is = c ∙ ap length (w ∙ ap (between-tags text) same) };
     }
 
 -- ---- ONE ANSWER for every input.

@@ -13,29 +13,29 @@ use lib.Seq.{length-take-le}
 use borrow.Author.Needs.{needs}
 use borrow.Author.Tests.{not-false}
 use Rattle.lists.specs.Lists.{isSome, there}
-use Rattle.lists.specs.Booleans.{both-ways}
+use Rattle.lists.specs.Laws.Booleans.{both-ways}
 use Rattle.lists.specs.Refusals.{Refusal, _when_, first, positive, NoneApplies}
-use Rattle.lists.specs.RefusalLaws.{first-kept, first-none, given-none, row-fails, rows-behind}
+use Rattle.lists.specs.Laws.Refusals.{first-kept, first-none, given-none, row-fails, rows-behind}
 use Rattle.grammar.specs.Document.{Element}
 use Rattle.grammar.specs.Look.{withinOf}
 use Rattle.grammar.specs.Parser.{parse}
 use Rattle.nodes.specs.Places.{the}
-use Rattle.nodes.specs.Inside.{within, within-law}
+use Rattle.nodes.specs.Inside.{between-tags, within-law}
 use Rattle.nodes.specs.declared.Found.{Found}
 use Rattle.nodes.specs.declared.Found.the-variants.{At, Nothing}
 use Rattle.cifti.specs.Conditions.{conditionsOfHeader, ofMaps, shapeWrong, numberWrong, noDocument, dimensionsWrong}
 use Rattle.cifti.specs.Maps.{mapsOf}
 use Rattle.cifti.specs.Names.{noName, nameRefusal, namesOn, partBy, namePart, NameNumber, NamePart}
 use Rattle.cifti.specs.Rows.{cifti}
-use Rattle.cifti.specs.TextLaws.{answers-by}
-use Rattle.cifti.specs.Theorems.{number-unique, part-unique}
-use Rattle.maps.specs.Good.{Good}
+use Rattle.cifti.specs.Laws.Text.{answers-by}
+use Rattle.cifti.specs.Laws.Theorems.{number-unique, part-unique}
+use Rattle.maps.specs.Laws.Good.{Good}
 use Rattle.ways.specs.Way.{reached, Place}
 use Rattle.ways.specs.Walked.{wayAt, Agrees, not-there, stands-there, way-agrees}
 use Rattle.ways.specs.One as One
 use Rattle.ways.specs.One.{tagEnd, place-cut, place-found}
 use Rattle.map_names.specs.Way.{nameWay}
-use Rattle.map_names.specs.Reached.{NameOf, no-name, a-name, listed-once, name-of}
+use Rattle.map_names.specs.Laws.Reached.{NameOf, no-name, a-name, listed-once, name-of}
 use Rattle.map_names.specs.Treads.{nameAt, name-way}
 use Rattle.map_names.specs.Answered.{Is, Answered}
 use Rattle.map_names.specs.declared.NamePlace.{NamePlace}
@@ -103,15 +103,15 @@ module _ (text lengths : List ℕ) (d i : ℕ) where
   part-zero p = rw p
 
   placed-so : {e : Element} {k : ℕ} → parse text ≡ some e → nameRefusal lengths (length text) d i (parse text) ≡ 0
-      → wayAt (nameWay d i) text ≡ At k → getD (namesOn d e) i [] ≡ within text k
-      → {r : NamePlace} → Is r 0 (tagEnd text k) (length (within text k)) → NamePlaced text lengths d i r
+      → wayAt (nameWay d i) text ≡ At k → getD (namesOn d e) i [] ≡ between-tags text k
+      → {r : NamePlace} → Is r 0 (tagEnd text k) (length (between-tags text k)) → NamePlaced text lengths d i r
   placed-so {e} {k} p h f q {r} s =
       let here = place-found (nameWay d i) p f in
       let c = place-cut here in
       let a = s .start-is in
       let b = s .length-is in
       let u = c .inside in
-      let same : within text k ≡ take (r .length) (drop (r .start) text) = sym (rw (a, b) (c .is)) in
+      let same : between-tags text k ≡ take (r .length) (drop (r .start) text) = sym (rw (a, b) (c .is)) in
       record {
         numbered = numbered-by h (s .number-is);
         inside = omega arith;
@@ -151,7 +151,8 @@ module _ (text lengths : List ℕ) (d i : ℕ) where
     where
       by : Dec (n ≡ 0) → NamePlaced text lengths d i r
       by (yes z) =
-          accepted-so (given-none (conditionsOfHeader lengths (length text) (parse text)) refl (sym h ∙ z)) (subst (λ (m : ℕ). Answered text m d i r) z a)
+          accepted-so (given-none (conditionsOfHeader lengths (length text) (parse text)) refl (sym h ∙ z))
+          (subst (λ (m : ℕ). Answered text m d i r) z a)
       by (no k) = refused-so n k (first-kept (conditionsOfHeader lengths (length text) (parse text)) _ n k (sym h)) (a .refused k)
 
 -- ---- ONE PLACE for every input.

@@ -32,8 +32,9 @@ use Rattle.numbers.specs.declared.Whole.{Whole}
 use Rattle.numbers.specs.declared.Whole.the-variants as whole
 use Rattle.cifti.specs.Maps.{dimensionsOf}
 use Rattle.ways.specs.Walked.{childAt, thence, wayAt}
-use Rattle.ways.specs.Treads.{Seeking, seeking-start, seeking-done, seeking-less, seeking-off, seeking-found, called, called-alike, childNamed, Tread, tread, trod, trodFrom, Alike, alike-none, alike-more, trod-way}
-use Rattle.map_names.specs.Way.{ofName, lists, mapThatLists, inMap, nameWay}
+use Rattle.ways.specs.Treads.{Seeking, seeking-start, seeking-done, seeking-less, seeking-off, seeking-found, called, called-alike}
+use Rattle.ways.specs.Treads.{childNamed, Tread, tread, trod, trodFrom, Alike, alike-none, alike-more, trod-way}
+use Rattle.map_names.specs.Way.{ofName, listsDimension, mapThatLists, inMap, nameWay}
 
 -- ---- A map that lists the dimension.
 
@@ -175,13 +176,14 @@ nothing-listed : (d : ℕ) → false ≡ (dimensionList [] && any (eqb d) (comma
 unfolding Numbers.numbers all
 nothing-listed d = refl
 
-lists-alike : (text : List ℕ) (d k : ℕ) → Stands text k → listsAt text d k ≡ lists d (the text k)
-unfolding listsAt lists dimensionsOf listsBy
+lists-alike : (text : List ℕ) (d k : ℕ) → Stands text k → listsAt text d k ≡ listsDimension d (the text k)
+unfolding listsAt listsDimension dimensionsOf listsBy
 lists-alike text d k st = by (place text k (ascii "AppliesToMatrixDimension")) refl
   where
     by : (f : Found) → place text k (ascii "AppliesToMatrixDimension") ≡ f
         → listsBy text d f
-        ≡ (dimensionList (attr "AppliesToMatrixDimension" (the text k)) && any (eqb d) (commaValues (attr "AppliesToMatrixDimension" (the text k))))
+        ≡ (dimensionList (attr "AppliesToMatrixDimension" (the text k))
+        && any (eqb d) (commaValues (attr "AppliesToMatrixDimension" (the text k))))
     by (At v) e =
         in-list d (value-there text v)
         ∙ rw (sym (value-found text k (ascii "AppliesToMatrixDimension") (sym e) refl) ∙ attr-law "AppliesToMatrixDimension" st)

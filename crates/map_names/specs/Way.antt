@@ -1,4 +1,5 @@
--- THE WAY TO A MAP NAME: the Matrix, the MatrixIndicesMap that lists the dimension, its NamedMap of the index, from 0, and the MapName.
+-- THE WAY TO A MAP NAME: the Matrix, the MatrixIndicesMap that lists the dimension, its NamedMap of the index, from 0, and the
+-- MapName.
 use mathlib.Core.List.{List, [], _∷_}
 use mathlib.Core.Bool.{Bool, _&&_}
 use Prim.Native.Nat.{ℕ}
@@ -15,11 +16,11 @@ unfoldable pub ofName : String → Element → Bool
 ofName s e = is s (nameOf e)
 
 -- its list of dimensions is in form, and the dimension is in it
-unfoldable pub lists : (dimension : ℕ) → Element → Bool
-lists d e = dimensionList (attr "AppliesToMatrixDimension" e) && any (eqb d) (dimensionsOf e)
+unfoldable pub listsDimension : (dimension : ℕ) → Element → Bool
+listsDimension d e = dimensionList (attr "AppliesToMatrixDimension" e) && any (eqb d) (dimensionsOf e)
 
 unfoldable pub mapThatLists : (dimension : ℕ) → Element → Bool
-mapThatLists d e = is "MatrixIndicesMap" (nameOf e) && lists d e
+mapThatLists d e = is "MatrixIndicesMap" (nameOf e) && listsDimension d e
 
 unfoldable pub inMap : (index : ℕ) → List Step
 inMap i = step (ofName "NamedMap") i ∷ step (ofName "MapName") 0 ∷ []
@@ -28,5 +29,5 @@ unfoldable pub nameWay : (dimension index : ℕ) → List Step
 nameWay d i = step (ofName "Matrix") 0 ∷ step (mapThatLists d) 0 ∷ inMap i
 
 unfoldable pub nameWays : Unit {0}
-unfolding ofName lists mapThatLists inMap nameWay
+unfolding ofName listsDimension mapThatLists inMap nameWay
 nameWays = tt

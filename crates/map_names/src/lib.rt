@@ -1,14 +1,14 @@
 // Where a map name stands in the text: the way of map_names/specs/Way, step by step.
+use elements::children::first_child;
+use elements::children::next_child;
+use elements::children::root_of;
+use inside::attributes::attribute;
+use inside::names::name_is;
+use inside::texts::written;
 use nodes::Found;
 use nodes::Kid;
-use nodes::attributes::attribute;
-use nodes::children::first_child;
-use nodes::children::next_child;
-use nodes::children::root_of;
-use nodes::names::name_is;
-use nodes::texts::written;
+use number_readers::dimensions_between;
 use numbers::Whole;
-use numbers::dimensions_between;
 use records::Index;
 use ways::behind_tag;
 use ways::child_named;
@@ -80,7 +80,8 @@ fn name_on(text: &[u8], at: usize, index: Index) -> Found
 
 // The same in the Matrix at `at`, on the map that lists the dimension.
 fn name_in(text: &[u8], at: usize, dimension: u64, index: Index) -> Found
-    ensures { λ r. ⌜ r ≡ trod (tread (mapAt (now (text .entry)) dimension) 0 ∷ inMapTreads (now (text .entry)) (index .0)) (now (text .entry)) at ⌝ }
+    ensures { λ r. ⌜ r ≡ trod (tread (mapAt (now (text .entry)) dimension) 0 ∷ inMapTreads (now (text .entry)) (index .0))
+        (now (text .entry)) at ⌝ }
 {
     match map_on(text, at, dimension) {
         Found::At(k) => name_on(text, k, index),

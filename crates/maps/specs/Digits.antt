@@ -16,9 +16,9 @@ use Rattle.nodes.specs.Values.{value-there}
 use Rattle.nodes.specs.declared.Found.{Found}
 use Rattle.nodes.specs.declared.Found.the-variants.{At, Nothing}
 use Rattle.cifti.specs.Maps.{dimensionsOf}
-use Rattle.maps.specs.MapKind.{GoodMap, map-dimensions}
-use Rattle.maps.specs.Fields.{wordAt, word-at, found-value, found-none}
-use Rattle.maps.specs.Dimensions.{counted}
+use Rattle.maps.specs.Laws.MapKind.{GoodMap, map-dimensions}
+use Rattle.maps.specs.Fields.{attributeWord, word-at, found-value, found-none}
+use Rattle.maps.specs.Laws.Dimensions.{counted}
 use Rattle.maps.specs.Seen.{Lists, none-yet}
 use Rattle.maps.specs.Sums.{MapAt}
 use Rattle.maps.specs.declared.dims.Dims.{Dims}
@@ -28,11 +28,14 @@ pub record Tells (l : List ℕ) (r : Dims) : Type 0 where
   pub ten : length (r .has) ≡ 10
   pub tells : (d : ℕ) → d < 10 → getD (r .has) d 0 ≡ min 2 (count (eqb d) l)
 
-dimension-count : (e : Element) (d : ℕ) → GoodMap e → count (eqb d) (dimensionsOf e) ≡ count (eqb (d + 48)) (wordAt (ascii "AppliesToMatrixDimension") e)
+dimension-count : (e : Element) (d : ℕ) → GoodMap e
+    → count (eqb d) (dimensionsOf e) ≡ count (eqb (d + 48)) (attributeWord (ascii "AppliesToMatrixDimension") e)
 unfolding dimensionsOf
-dimension-count e d g = counted (attr "AppliesToMatrixDimension" e) (map-dimensions g) d ∙ ap (count (eqb (d + 48))) (sym (word-at "AppliesToMatrixDimension" e))
+dimension-count e d g = counted (attr "AppliesToMatrixDimension" e) (map-dimensions g) d
+    ∙ ap (count (eqb (d + 48))) (sym (word-at "AppliesToMatrixDimension" e))
 
-tells-by : (e : Element) → GoodMap e → (w : Word) → w ≡ wordAt (ascii "AppliesToMatrixDimension") e → {r : Dims} → Lists w r → Tells (dimensionsOf e) r
+tells-by : (e : Element) → GoodMap e → (w : Word) → w ≡ attributeWord (ascii "AppliesToMatrixDimension") e → {r : Dims} → Lists w r
+    → Tells (dimensionsOf e) r
 tells-by e g w h l = record {
   ten = l .ten;
   tells = λ d u. (l .each-is d u ∙ ap (λ x. min 2 (count (eqb (d + 48)) x)) h ∙ ap (min 2) (sym (dimension-count e d g)));
@@ -40,9 +43,11 @@ tells-by e g w h l = record {
 
 module _ {text : List ℕ} {at : ℕ} (m : MapAt text at) {f : Found} (e : f ≡ place text at (ascii "AppliesToMatrixDimension")) where
   pub dimensions-there : {v : ℕ} → f ≡ At v → {r : Dims} → Lists (value-there text v) r → Tells (dimensionsOf (the text at)) r
-  dimensions-there {v} h l = tells-by (the text at) (m .good) (value-there text v) (found-value (ascii "AppliesToMatrixDimension") (m .stands) e h) l
+  dimensions-there {v} h l = tells-by (the text at) (m .good) (value-there text v)
+      (found-value (ascii "AppliesToMatrixDimension") (m .stands) e h) l
 
   pub dimensions-missing : f ≡ Nothing → (r : Dims) → r .has ≡ replicate 10 0 → Tells (dimensionsOf (the text at)) r
-  dimensions-missing h r z = tells-by (the text at) (m .good) [] (sym (found-none (ascii "AppliesToMatrixDimension") (m .stands) e h)) (none-yet r z)
+  dimensions-missing h r z = tells-by (the text at) (m .good) [] (sym (found-none (ascii "AppliesToMatrixDimension") (m .stands) e h))
+      (none-yet r z)
 
 pub ruleset digits-of-map = (dimensions-there, dimensions-missing, needs)

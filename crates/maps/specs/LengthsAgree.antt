@@ -9,14 +9,14 @@ use lib.Dec.{eqb}
 use lib.ListN.{length, getD, List·getD-eq-default}
 use borrow.Author.Needs.{needs}
 use borrow.Author.Tests.{eqb-true, eq-eqb, ne-eqb, not-true}
-use Rattle.lists.specs.Booleans.{and-left, and-right, and-true}
+use Rattle.lists.specs.Laws.Booleans.{and-left, and-right, and-true}
 use Rattle.lists.specs.Lists.{any, count}
 use Rattle.grammar.specs.Look.{attr}
 use Rattle.nodes.specs.Places.{the}
 use Rattle.cifti.specs.Maps.{Map, mapOf, lengthOf, dimensionsOf}
 use Rattle.cifti.specs.Conditions.{lengthWrong}
-use Rattle.maps.specs.MapKind.{map-dimensions}
-use Rattle.maps.specs.Dimensions.{Small, values-small}
+use Rattle.maps.specs.Laws.MapKind.{map-dimensions}
+use Rattle.maps.specs.Laws.Dimensions.{Small, values-small}
 use Rattle.maps.specs.Listed.{any-some, any-none}
 use Rattle.maps.specs.Survey.{Noted}
 use Rattle.maps.specs.Ready.{Ready, mapsAt}
@@ -62,8 +62,10 @@ module _ {text : List ℕ} {n : MapNote} {d : ℕ} (o : DigitOf text n d) where
   pub digit-place : d < 10
   digit-place = o .digit
 
-  pub differs-told : (lengths : List ℕ) {x : ℕ} → x ≡ getD lengths d 0 → (x ≡ n .length → ⊥) → not (eqb (getD (n .lists .has) d 0) 0) ≡ differsAt (n .length) lengths (dimensionsOf (the text (n .at))) d
-  differs-told lengths p k = differs-listed (n .length) lengths (dimensionsOf (the text (n .at))) d p k (o .noted .lists .tells d (o .digit))
+  pub differs-told : (lengths : List ℕ) {x : ℕ} → x ≡ getD lengths d 0 → (x ≡ n .length → ⊥)
+      → not (eqb (getD (n .lists .has) d 0) 0) ≡ differsAt (n .length) lengths (dimensionsOf (the text (n .at))) d
+  differs-told lengths p k = differs-listed (n .length) lengths (dimensionsOf (the text (n .at))) d p k
+      (o .noted .lists .tells d (o .digit))
 
 pub ruleset differing = (differs-same, differs-told, digit-place, needs)
 
@@ -79,31 +81,39 @@ module _ {text : List ℕ} {n : MapNote} {lengths : List ℕ} where
     pub comparing-asks : d < 10 → DigitOf text n d
     comparing-asks u = record { noted = go .noted; digit = u }
 
-    pub comparing-differs : {b : Bool} → b ≡ differsAt (n .length) lengths (dimensionsOf (the text (n .at))) d → b ≡ true → true ≡ differs (n .length) lengths (dimensionsOf (the text (n .at)))
+    pub comparing-differs : {b : Bool} → b ≡ differsAt (n .length) lengths (dimensionsOf (the text (n .at))) d → b ≡ true
+        → true ≡ differs (n .length) lengths (dimensionsOf (the text (n .at)))
     unfolding differs differsAt
     comparing-differs p t =
-        let h : (not (eqb (n .length) (getD lengths d 0)) && not (eqb (count (eqb d) (dimensionsOf (the text (n .at)))) 0)) ≡ true = sym p ∙ t in
+        let h : (not (eqb (n .length) (getD lengths d 0)) && not (eqb (count (eqb d) (dimensionsOf (the text (n .at)))) 0)) ≡ true =
+        sym p ∙ t in
         let k = not-true _ (and-right (not (eqb (n .length) (getD lengths d 0))) _ h) in
-        sym (any-some (λ e. not (eqb (n .length) (getD lengths e 0))) d (dimensionsOf (the text (n .at))) (and-left _ _ h) (λ z. true≢false (sym (eq-eqb (count (eqb d) (dimensionsOf (the text (n .at)))) 0 z) ∙ k)))
+        sym (any-some (λ e. not (eqb (n .length) (getD lengths e 0))) d (dimensionsOf (the text (n .at))) (and-left _ _ h)
+        (λ z. true≢false (sym (eq-eqb (count (eqb d) (dimensionsOf (the text (n .at)))) 0 z) ∙ k)))
 
-    pub comparing-more : {b : Bool} → b ≡ differsAt (n .length) lengths (dimensionsOf (the text (n .at))) d → b ≡ false → Comparing text n lengths (d + 1)
+    pub comparing-more : {b : Bool} → b ≡ differsAt (n .length) lengths (dimensionsOf (the text (n .at))) d → b ≡ false
+        → Comparing text n lengths (d + 1)
     unfolding differsAt
     comparing-more p f = record { noted = go .noted; fine = λ e u k. by e u k (decLt e d) }
       where
         here : (count (eqb d) (dimensionsOf (the text (n .at))) ≡ 0 → ⊥) → not (eqb (n .length) (getD lengths d 0)) ≡ false
         here k =
             let z : eqb (count (eqb d) (dimensionsOf (the text (n .at)))) 0 ≡ false = ne-eqb _ 0 k in
-            let h : (not (eqb (n .length) (getD lengths d 0)) && not (eqb (count (eqb d) (dimensionsOf (the text (n .at)))) 0)) ≡ false = sym p ∙ f in
+            let h : (not (eqb (n .length) (getD lengths d 0)) && not (eqb (count (eqb d) (dimensionsOf (the text (n .at)))) 0)) ≡ false =
+            sym p ∙ f in
             sym (and-true _) ∙ rw z at h
 
-        by : (e : ℕ) → e < d + 1 → (count (eqb e) (dimensionsOf (the text (n .at))) ≡ 0 → ⊥) → Dec (e < d) → not (eqb (n .length) (getD lengths e 0)) ≡ false
+        by : (e : ℕ) → e < d + 1 → (count (eqb e) (dimensionsOf (the text (n .at))) ≡ 0 → ⊥) → Dec (e < d)
+            → not (eqb (n .length) (getD lengths e 0)) ≡ false
         by e u k (yes v) = go .fine e v k
         by e u k (no v) = let z : e ≡ d = omega arith in rw z (here (rw z at k))
 
     pub comparing-done : 10 ≤ d → false ≡ differs (n .length) lengths (dimensionsOf (the text (n .at)))
     unfolding differs dimensionsOf
     comparing-done h =
-        sym (any-none (λ e. not (eqb (n .length) (getD lengths e 0))) (dimensionsOf (the text (n .at))) (values-small (attr "AppliesToMatrixDimension" (the text (n .at))) (map-dimensions (go .noted .map .good))) (λ e u k. go .fine e (omega arith) k))
+        sym (any-none (λ e. not (eqb (n .length) (getD lengths e 0))) (dimensionsOf (the text (n .at)))
+        (values-small (attr "AppliesToMatrixDimension" (the text (n .at))) (map-dimensions (go .noted .map .good)))
+        (λ e u k. go .fine e (omega arith) k))
 
 pub ruleset comparing = (comparing-start, comparing-asks, comparing-differs, comparing-more, comparing-done, needs)
 
@@ -128,7 +138,8 @@ module _ {text : List ℕ} {maps : Maps} where
       module _ {b : Bool} (q : b ≡ differs (n .length) lengths (dimensionsOf (the text (n .at)))) where
         split : (l : List Map) → lengthWrong lengths (mapOf (the text (n .at)) ∷ l) ≡ (b || lengthWrong lengths l)
         unfolding lengthWrong any differs mapOf
-        split l = ap (λ t. t || lengthWrong lengths l) (sym (q ∙ ap (λ k. any (λ d. not (eqb k (getD lengths d 0))) (dimensionsOf (the text (n .at)))) (agree-note .long)))
+        split l = ap (λ t. t || lengthWrong lengths l)
+            (sym (q ∙ ap (λ k. any (λ d. not (eqb k (getD lengths d 0))) (dimensionsOf (the text (n .at)))) (agree-note .long)))
 
         pub agree-wrong : b ≡ true → true ≡ lengthWrong lengths (mapsAt text maps)
         agree-wrong t = sym (over-here go u e .so-far ∙ rw t at (split (from text maps (i + 1))))

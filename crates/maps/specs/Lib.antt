@@ -1,12 +1,5 @@
-pub mod Good
-pub mod Kinds
-pub mod Voxels
-pub mod Chain
-pub mod Fill
 pub mod Table
 pub mod Fields
-pub mod MapKind
-pub mod Dimensions
 pub mod Seen
 pub mod Listed
 pub mod Sums
@@ -17,3 +10,4 @@ pub mod Over
 pub mod ListedOnce
 pub mod LengthsAgree
 pub mod Unread
+pub mod Laws

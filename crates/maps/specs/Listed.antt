@@ -9,12 +9,12 @@ use native.Mathlib.Nat.{le-of-suc-le-suc, not-suc-le-zero}
 use lib.Dec.{eqb, ltb}
 use lib.ListN.{length, getD}
 use borrow.Author.Tests.{eqb-true, eq-eqb, ne-eqb, lt-ltb, le-ltb, ltb-true, ltb-false}
-use Rattle.lists.specs.Booleans.{or-true}
+use Rattle.lists.specs.Laws.Booleans.{or-true}
 use Rattle.lists.specs.Lists.{all, any, count, eachIn, allBelow}
 use Rattle.lists.specs.Quantifiers.{allBelow-iff}
 use Rattle.cifti.specs.Maps.{Map}
 use Rattle.cifti.specs.Conditions.{listedDimensions, dimensionsWrong}
-use Rattle.maps.specs.Dimensions.{Small, no-small, one-small}
+use Rattle.maps.specs.Laws.Dimensions.{Small, no-small, one-small}
 
 -- how often a dimension is to be listed where there are n
 unfoldable pub wanted : (n d : ℕ) → ℕ
@@ -28,7 +28,8 @@ unfolding any count
 any-some p d [] h k = absurd (k refl)
 any-some p d (e ∷ l) h k = go (eqb d e) refl (p e) refl k (any-some p d l h)
   where
-    go : (b : Bool) → eqb d e ≡ b → (t : Bool) → p e ≡ t → (cond b 1 0 + count (eqb d) l ≡ 0 → ⊥) → ((count (eqb d) l ≡ 0 → ⊥) → any p l ≡ true) → (t || any p l) ≡ true
+    go : (b : Bool) → eqb d e ≡ b → (t : Bool) → p e ≡ t → (cond b 1 0 + count (eqb d) l ≡ 0 → ⊥)
+        → ((count (eqb d) l ≡ 0 → ⊥) → any p l ≡ true) → (t || any p l) ≡ true
     go true q t r k ih = let z : d ≡ e = eqb-true d e q in let y : t ≡ true = sym r ∙ ap p (sym z) ∙ h in rw y
     go false q t r k ih = rw (ih (λ z. k (omega arith))) (or-true t)
 
@@ -37,7 +38,8 @@ pub any-none : (p : ℕ → Bool) (l : List ℕ) → Small l → ((d : ℕ) → 
 unfolding any count
 any-none p [] no-small f = refl
 any-none p (e ∷ l) (one-small u s) f =
-    let here : p e ≡ false = f e u (λ z. let y : eqb e e ≡ true = eq-eqb e e refl in (let w : 1 + count (eqb e) l ≡ 0 = rw y at z in omega arith)) in
+    let here : p e ≡ false = f e u (λ z. let y : eqb e e ≡ true = eq-eqb e e refl in
+    (let w : 1 + count (eqb e) l ≡ 0 = rw y at z in omega arith)) in
     let rest : any p l ≡ false = any-none p l s (λ d v k. f d v (λ z. k (omega arith))) in
     rw (here, rest)
 
@@ -45,7 +47,8 @@ any-none p (e ∷ l) (one-small u s) f =
 
 module _ (lengths : List ℕ) (l : List Map) (small : Small (listedDimensions l)) where
   -- a digit is not listed as often as it should be
-  pub wrong-at : (d : ℕ) → d < 10 → (min 2 (count (eqb d) (listedDimensions l)) ≡ wanted (length lengths) d → ⊥) → dimensionsWrong lengths l ≡ true
+  pub wrong-at : (d : ℕ) → d < 10 → (min 2 (count (eqb d) (listedDimensions l)) ≡ wanted (length lengths) d → ⊥)
+      → dimensionsWrong lengths l ≡ true
   unfolding dimensionsWrong wanted
   wrong-at d u k = go (decLt d (length lengths))
     where
@@ -57,20 +60,24 @@ module _ (lengths : List ℕ) (l : List Map) (small : Small (listedDimensions l)
           let e = eqb-true (count (eqb d) (listedDimensions l)) 1 (allBelow-iff (length lengths) once .0 h d v) in
           k (rw (lt-ltb d (length lengths) v) (omega arith))
 
-      go : Dec (d < length lengths) → (not (allBelow (length lengths) once) || any (λ e. not (ltb e (length lengths))) (listedDimensions l)) ≡ true
+      go : Dec (d < length lengths) → (not (allBelow (length lengths) once)
+          || any (λ e. not (ltb e (length lengths))) (listedDimensions l)) ≡ true
       go (yes v) = by (allBelow (length lengths) once) refl
         where
-          by : (b : Bool) → allBelow (length lengths) once ≡ b → (not b || any (λ e. not (ltb e (length lengths))) (listedDimensions l)) ≡ true
+          by : (b : Bool) → allBelow (length lengths) once ≡ b
+              → (not b || any (λ e. not (ltb e (length lengths))) (listedDimensions l)) ≡ true
           by true e = absurd (all-once e v)
           by false e = refl
       go (no v) =
           let past : not (ltb d (length lengths)) ≡ true = rw (le-ltb d (length lengths) (omega arith)) in
           let some : any (λ e. not (ltb e (length lengths))) (listedDimensions l) ≡ true =
-          any-some (λ e. not (ltb e (length lengths))) d (listedDimensions l) past (λ z. k (rw (le-ltb d (length lengths) (omega arith)) (omega arith))) in
+          any-some (λ e. not (ltb e (length lengths))) d (listedDimensions l) past
+          (λ z. k (rw (le-ltb d (length lengths) (omega arith)) (omega arith))) in
           rw some (or-true (not (allBelow (length lengths) once)))
 
   -- every digit is
-  pub right-all : length lengths ≤ 10 → ((d : ℕ) → d < 10 → min 2 (count (eqb d) (listedDimensions l)) ≡ wanted (length lengths) d) → dimensionsWrong lengths l ≡ false
+  pub right-all : length lengths ≤ 10 → ((d : ℕ) → d < 10 → min 2 (count (eqb d) (listedDimensions l)) ≡ wanted (length lengths) d)
+      → dimensionsWrong lengths l ≡ false
   unfolding dimensionsWrong wanted
   right-all fits f =
       let once : allBelow (length lengths) (λ d. eqb (count (eqb d) (listedDimensions l)) 1) ≡ true =

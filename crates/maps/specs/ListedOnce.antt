@@ -14,12 +14,12 @@ use Rattle.nodes.specs.Places.{Stands, the}
 use Rattle.cifti.specs.Rows.{matrix}
 use Rattle.cifti.specs.Maps.{Map, mapOf, dimensionsOf}
 use Rattle.cifti.specs.Conditions.{listedDimensions, dimensionsWrong}
-use Rattle.maps.specs.Good.{Good}
+use Rattle.maps.specs.Laws.Good.{Good}
 use Rattle.maps.specs.Survey.{MapsAre}
-use Rattle.maps.specs.Ready.{mapsIn, good-maps, small-listed, Ready, mapsAt, maps-many, maps-ready, maps-same}
+use Rattle.maps.specs.Ready.{matrixMaps, good-maps, small-listed, Ready, mapsAt, maps-many, maps-ready, maps-same}
 use Rattle.maps.specs.Over.{Over, over-start, over-done, over-place, over-note, over-next, noteAt}
 use Rattle.maps.specs.Listed.{wanted, wrong-at, right-all}
-use Rattle.maps.specs.Dimensions.{Small}
+use Rattle.maps.specs.Laws.Dimensions.{Small}
 use Rattle.maps.specs.declared.survey.MapNote.{MapNote}
 use Rattle.maps.specs.declared.survey.Maps.{Maps}
 
@@ -87,34 +87,37 @@ pub record Judging (text : List ℕ) (m : ℕ) (maps : Maps) (lengths : List ℕ
   pub fine : (e : ℕ) → e < d → min 2 (count (eqb e) (listedDimensions (mapsAt text maps))) ≡ wanted (length lengths) e
 
 module _ {text : List ℕ} {m : ℕ} {maps : Maps} {lengths : List ℕ} where
-  pub once-many : Surveyed text m maps lengths → 3 < maps .count → true ≡ dimensionsWrong lengths (mapsIn (the text m))
+  pub once-many : Surveyed text m maps lengths → 3 < maps .count → true ≡ dimensionsWrong lengths (matrixMaps (the text m))
   once-many s h = sym (maps-many (s .are) (s .good) lengths (s .few) h)
 
   pub once-start : Surveyed text m maps lengths → maps .count ≤ 3 → Judging text m maps lengths 0
   once-start s h = record { asked = s; few = h; fine = λ e u. absurd (omega arith) }
 
   module _ {d : ℕ} (go : Judging text m maps lengths d) where
-    same : mapsAt text maps ≡ mapsIn (the text m)
+    same : mapsAt text maps ≡ matrixMaps (the text m)
     same = maps-same (go .asked .are) (go .asked .good) (go .few)
 
     small : Small (listedDimensions (mapsAt text maps))
-    unfolding mapsIn
+    unfolding matrixMaps
     small = rw same (small-listed (good-maps (go .asked .good)))
 
     pub once-asking : d < 10 → Asking text maps d
     once-asking u = record { ready = maps-ready (go .asked .are) (go .asked .good) (go .few); digit = u }
 
-    pub once-wrong : d < 10 → {c w : ℕ} → c ≡ min 2 (count (eqb d) (listedDimensions (mapsAt text maps))) → w ≡ wanted (length lengths) d → (c ≡ w → ⊥) → true ≡ dimensionsWrong lengths (mapsIn (the text m))
+    pub once-wrong : d < 10 → {c w : ℕ} → c ≡ min 2 (count (eqb d) (listedDimensions (mapsAt text maps))) → w ≡ wanted (length lengths) d
+        → (c ≡ w → ⊥) → true ≡ dimensionsWrong lengths (matrixMaps (the text m))
     once-wrong u p q k = sym (rw (← same) (wrong-at lengths (mapsAt text maps) small d u (λ z. k (p ∙ z ∙ sym q))))
 
-    pub once-more : {c w : ℕ} → c ≡ min 2 (count (eqb d) (listedDimensions (mapsAt text maps))) → w ≡ wanted (length lengths) d → c ≡ w → Judging text m maps lengths (d + 1)
+    pub once-more : {c w : ℕ} → c ≡ min 2 (count (eqb d) (listedDimensions (mapsAt text maps))) → w ≡ wanted (length lengths) d → c ≡ w
+        → Judging text m maps lengths (d + 1)
     once-more p q k = record { asked = go .asked; few = go .few; fine = λ e u. by e u (decLt e d) }
       where
         by : (e : ℕ) → e < d + 1 → Dec (e < d) → min 2 (count (eqb e) (listedDimensions (mapsAt text maps))) ≡ wanted (length lengths) e
         by e u (yes v) = go .fine e v
         by e u (no v) = let z : e ≡ d = omega arith in rw z (sym p ∙ k ∙ q)
 
-    pub once-done : 10 ≤ d → false ≡ dimensionsWrong lengths (mapsIn (the text m))
-    once-done h = sym (rw (← same) (right-all lengths (mapsAt text maps) small (let f = go .asked .few in omega arith) (λ e u. go .fine e (omega arith))))
+    pub once-done : 10 ≤ d → false ≡ dimensionsWrong lengths (matrixMaps (the text m))
+    once-done h = sym (rw (← same) (right-all lengths (mapsAt text maps) small (let f = go .asked .few in omega arith)
+        (λ e u. go .fine e (omega arith))))
 
 pub ruleset listed-once = (once-many, once-start, once-asking, once-wrong, once-more, once-done, needs)

@@ -1,13 +1,15 @@
 -- A LOOP OVER THE MAPS, of which there are three at most: what is known of the maps that are left, from the first to the last.
 use mathlib.Core.Path.{_≡_, refl, sym, ap, _∙_}
-use mathlib.Core.List.{List, [], _∷_}
+use mathlib.Core.List.{List, [], _∷_, map}
 use Prim.Native.Nat.{ℕ, zero, suc, _+_, _≤_, _<_}
 use native.Mathlib.Omega.{arith}
 use native.Mathlib.Numerals.{add-one}
-use lib.ListN.{length, getD, take, drop, drop-of-length-le}
+use native.Mathlib.Nat.{le-of-suc-le-suc}
+use borrow.Author.Needs.{needs}
+use lib.ListN.{length, getD, take, drop, drop-of-length-le, length-map, List·getD-eq-default}
 use lib.Seq.{drop-cons, getD-take, length-take-le}
 use Rattle.lists.specs.Lists.{each}
-use Rattle.lists.specs.Laws.{length-each}
+use Rattle.lists.specs.Laws.Lists.{length-each}
 use Rattle.nodes.specs.Places.{the}
 use Rattle.cifti.specs.Maps.{Map, mapOf}
 use Rattle.maps.specs.Sums.{MapAt}
@@ -23,6 +25,27 @@ mapOn text n = mapOf (the text (n .at))
 -- what is noted of the i-th
 unfoldable pub noteAt : Maps → ℕ → MapNote
 noteAt maps i = getD (maps .each) i no-note
+
+-- an entry within a list, whatever stands in for one that is not there
+pub entry-same : {A : Type 0} (l : List A) (i : ℕ) (a b : A) → i < length l → getD l i a ≡ getD l i b
+entry-same [] i a b u = absurd (omega arith)
+entry-same (x ∷ l) zero a b u = refl
+entry-same (x ∷ l) (suc i) a b u = entry-same l i a b (le-of-suc-le-suc u)
+
+-- a list that was mapped, as an array of structs is told
+pub mapped-long : (X Y : Type 0) (f : X → Y) (l : List X) (n : ℕ) → length (map f l) ≡ n → length l ≡ n
+mapped-long X Y f l n e = sym (length-map l f) ∙ e
+
+module _ (maps : Maps) {i : ℕ} (t : length (maps .each) ≡ 3) where
+  pub note-in : i < 3 → (z : MapNote) → getD (maps .each) i z ≡ noteAt maps i
+  unfolding noteAt
+  note-in h z = entry-same (maps .each) i z no-note (omega arith)
+
+  pub note-past : 3 ≤ i → {n : MapNote} → n ≡ no-note → n ≡ noteAt maps i
+  unfolding noteAt
+  note-past h e = e ∙ sym (List·getD-eq-default (maps .each) no-note (omega arith))
+
+pub ruleset noting-at = (note-in, note-past, mapped-long, needs)
 
 -- the maps from the i-th on
 abbrev pub from : List ℕ → Maps → ℕ → List Map
@@ -42,7 +65,8 @@ module _ {text : List ℕ} {maps : Maps} (r : Ready text maps) where
   places-none : (i : ℕ) → maps .count ≤ i → drop i (places maps) ≡ []
   unfolding places
   places-none i u =
-      let s : length (each (λ (n : MapNote). n .at) (take (maps .count) (maps .each))) ≤ i = (let e = length-each (λ (n : MapNote). n .at) (take (maps .count) (maps .each)) in let m = many in omega arith) in
+      let s : length (each (λ (n : MapNote). n .at) (take (maps .count) (maps .each))) ≤ i =
+      (let e = length-each (λ (n : MapNote). n .at) (take (maps .count) (maps .each)) in let m = many in omega arith) in
       drop-of-length-le (each (λ (n : MapNote). n .at) (take (maps .count) (maps .each))) s
 
   pub places-one : (z : MapNote) (i : ℕ) → i < maps .count → drop i (places maps) ≡ (getD (maps .each) i z) .at ∷ drop (i + 1) (places maps)
@@ -51,7 +75,11 @@ module _ {text : List ℕ} {maps : Maps} (r : Ready text maps) where
       let s : i < length (take (maps .count) (maps .each)) = (let m = many in omega arith) in
       each-drop (λ (n : MapNote). n .at) (take (maps .count) (maps .each)) i
       ∙ ap (each (λ (n : MapNote). n .at)) (drop-cons (take (maps .count) (maps .each)) i z s)
-      ∙ rw (getD-take (maps .count) (maps .each) i z u, add-one i, each-drop (λ (n : MapNote). n .at) (take (maps .count) (maps .each)) (suc i)) refl
+      ∙ rw (
+        getD-take (maps .count) (maps .each) i z u,
+        add-one i,
+        each-drop (λ (n : MapNote). n .at) (take (maps .count) (maps .each)) (suc i),
+      ) refl
 
   pub from-none : (i : ℕ) → maps .count ≤ i → from text maps i ≡ []
   unfolding each

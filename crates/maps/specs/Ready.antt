@@ -6,31 +6,31 @@ use Prim.Native.Nat.{ℕ, zero, suc, _+_, _-_, _≤_, _<_, min}
 use native.Mathlib.Omega.{arith}
 use native.Mathlib.Nat.{le-of-suc-le-suc}
 use lib.Dec.{eqb, ltb}
-use lib.ListN.{length, getD, take, length-append, length-take}
+use lib.ListN.{length, getD, take, replicate, length-append, length-take}
 use lib.Seq.{ext-getD, getD-take, length-take-le}
 use borrow.Author.Tests.{eqb-true, ltb-true, eq-eqb, lt-ltb}
 use native.Mathlib.Decide.{decLt}
 use Rattle.lists.specs.Lists.{any, count, each, eachIn, allBelow, those}
 use Rattle.lists.specs.Quantifiers.{allBelow-iff}
-use Rattle.lists.specs.Laws.{length-each}
+use Rattle.lists.specs.Laws.Lists.{length-each}
 use Rattle.grammar.specs.Document.{Element}
 use Rattle.grammar.specs.Look.{is, nameOf, attr, contentsOf, elements, children}
 use Rattle.nodes.specs.Places.{Stands, the}
 use Rattle.cifti.specs.Rows.{matrix}
 use Rattle.cifti.specs.Maps.{Map, mapOf, dimensionsOf, lengthOf}
 use Rattle.cifti.specs.Conditions.{listedDimensions, dimensionsWrong}
-use Rattle.maps.specs.Good.{Good, GoodAs, AllGood, none-left, one-good}
-use Rattle.maps.specs.Kinds.{matrixRows, matrix-children}
-use Rattle.maps.specs.MapKind.{GoodMap, good-map, map-dimensions}
-use Rattle.maps.specs.Dimensions.{Small, no-small, one-small, values-small, values-some}
+use Rattle.maps.specs.Laws.Good.{Good, GoodAs, AllGood, none-left, one-good}
+use Rattle.maps.specs.Laws.Kinds.{matrixRows, matrix-children}
+use Rattle.maps.specs.Laws.MapKind.{GoodMap, good-map, map-dimensions}
+use Rattle.maps.specs.Laws.Dimensions.{Small, no-small, one-small, values-small, values-some}
 use Rattle.maps.specs.Survey.{Noted, Holds, MapsAre}
 use Rattle.maps.specs.declared.survey.MapNote.{MapNote}
 use Rattle.cifti.specs.declared.answer.Kind.the-variants.{None}
 use Rattle.maps.specs.declared.survey.Maps.{Maps}
 
 -- the maps of the matrix
-unfoldable pub mapsIn : Element → List Map
-mapsIn e = each mapOf (children "MatrixIndicesMap" e)
+unfoldable pub matrixMaps : Element → List Map
+matrixMaps e = each mapOf (children "MatrixIndicesMap" e)
 
 -- every map is good
 pub data GoodMaps : List Element → Type 0 where
@@ -76,8 +76,10 @@ unfolding any count
 below-three [] h = omega arith
 below-three (d ∷ l) h = go d (ltb d 3) refl h (below-three l)
   where
-    go : (d : ℕ) (b : Bool) → ltb d 3 ≡ b → (not b || any (λ d. not (ltb d 3)) l) ≡ false → (any (λ d. not (ltb d 3)) l ≡ false → length l ≡ count (eqb 0) l + count (eqb 1) l + count (eqb 2) l)
-        → suc (length l) ≡ (cond (eqb 0 d) 1 0 + count (eqb 0) l) + (cond (eqb 1 d) 1 0 + count (eqb 1) l) + (cond (eqb 2 d) 1 0 + count (eqb 2) l)
+    go : (d : ℕ) (b : Bool) → ltb d 3 ≡ b → (not b || any (λ d. not (ltb d 3)) l) ≡ false
+        → (any (λ d. not (ltb d 3)) l ≡ false → length l ≡ count (eqb 0) l + count (eqb 1) l + count (eqb 2) l)
+        → suc (length l) ≡ (cond (eqb 0 d) 1 0 + count (eqb 0) l) + (cond (eqb 1 d) 1 0 + count (eqb 1) l) +
+        (cond (eqb 2 d) 1 0 + count (eqb 2) l)
     go d false e k ih = absurd (true≢false k)
     go zero true e k ih = let r = ih k in omega arith
     go (suc zero) true e k ih = let r = ih k in omega arith
@@ -90,7 +92,8 @@ unfolding any count
 none-past n d [] h u = refl
 none-past n d (e ∷ l) h u = go (ltb e n) refl (eqb d e) refl h (none-past n d l)
   where
-    go : (b : Bool) → ltb e n ≡ b → (t : Bool) → eqb d e ≡ t → (not b || any (λ e. not (ltb e n)) l) ≡ false → (any (λ e. not (ltb e n)) l ≡ false → n ≤ d → count (eqb d) l ≡ 0) → cond t 1 0 + count (eqb d) l ≡ 0
+    go : (b : Bool) → ltb e n ≡ b → (t : Bool) → eqb d e ≡ t → (not b || any (λ e. not (ltb e n)) l) ≡ false
+        → (any (λ e. not (ltb e n)) l ≡ false → n ≤ d → count (eqb d) l ≡ 0) → cond t 1 0 + count (eqb d) l ≡ 0
     go false p t q k ih = absurd (true≢false k)
     go true p true q k ih = absurd (let x = ltb-true e n p in let y = eqb-true d e q in omega arith)
     go true p false q k ih = let r = ih k u in omega arith
@@ -100,12 +103,14 @@ unfolding any
 wider n [] u h = refl
 wider n (e ∷ l) u h = go (ltb e n) refl h (wider n l u)
   where
-    go : (b : Bool) → ltb e n ≡ b → (not b || any (λ e. not (ltb e n)) l) ≡ false → (any (λ e. not (ltb e n)) l ≡ false → any (λ e. not (ltb e 3)) l ≡ false) → (not (ltb e 3) || any (λ e. not (ltb e 3)) l) ≡ false
+    go : (b : Bool) → ltb e n ≡ b → (not b || any (λ e. not (ltb e n)) l) ≡ false
+        → (any (λ e. not (ltb e n)) l ≡ false → any (λ e. not (ltb e 3)) l ≡ false) → (not (ltb e 3) || any (λ e. not (ltb e 3)) l) ≡ false
     go false p k ih = absurd (true≢false k)
     go true p k ih = let x = ltb-true e n p in let y : e < 3 = omega arith in rw (lt-ltb e 3 y) (ih k)
 
 -- four maps are too many for three dimensions
-pub too-many : (lengths : List ℕ) {l : List Element} → length lengths ≤ 3 → GoodMaps l → 3 < length l → dimensionsWrong lengths (each mapOf l) ≡ true
+pub too-many : (lengths : List ℕ) {l : List Element} → length lengths ≤ 3 → GoodMaps l → 3 < length l
+    → dimensionsWrong lengths (each mapOf l) ≡ true
 unfolding dimensionsWrong
 too-many lengths {l} u g v = go (allBelow n once) refl (any past listed) refl
   where
@@ -160,7 +165,14 @@ each-twice text (p ∷ l) = ap (λ x. mapOf (the text p) ∷ x) (each-twice text
 
 -- a place to stand in for one that is not there
 abbrev pub no-note : MapNote
-no-note = record { at = 0; behind = 0; kind = None; lists = record { has = [] }; length = 0; volume = record { found = false; at = 0 } }
+no-note = record {
+  at = 0;
+  behind = 0;
+  kind = None;
+  lists = record { has = replicate 10 0 };
+  length = 0;
+  volume = record { found = false; at = 0 };
+}
 
 each-at : (l : List MapNote) (i : ℕ) → i < length l → getD (each (λ (n : MapNote). n .at) l) i 0 ≡ (getD l i no-note) .at
 unfolding each
@@ -174,18 +186,20 @@ met-is {r = r} a few =
     let h = a .holds .many in
     let t = a .holds .three in
     let cut : length (take (r .count) (r .each)) ≡ r .count = length-take-le (r .count) (r .each) (omega arith) in
-    let long : length (each (λ (n : MapNote). n .at) (take (r .count) (r .each))) ≡ r .count = length-each (λ (n : MapNote). n .at) (take (r .count) (r .each)) ∙ cut in
+    let long : length (each (λ (n : MapNote). n .at) (take (r .count) (r .each))) ≡ r .count =
+    length-each (λ (n : MapNote). n .at) (take (r .count) (r .each)) ∙ cut in
     ext-getD 0 (each (λ (n : MapNote). n .at) (take (r .count) (r .each))) (a .met) (omega arith)
     (λ i u. let v : i < r .count = omega arith in
-    each-at (take (r .count) (r .each)) i (omega arith) ∙ ap (λ (n : MapNote). n .at) (getD-take (r .count) (r .each) i no-note v) ∙ a .holds .place no-note i (omega arith) (omega arith))
+    each-at (take (r .count) (r .each)) i (omega arith) ∙ ap (λ (n : MapNote). n .at) (getD-take (r .count) (r .each) i no-note v)
+    ∙ a .holds .place no-note i (omega arith) (omega arith))
 
 module _ {text : List ℕ} {m : ℕ} {r : Maps} (a : MapsAre text m r) (g : Good matrix (the text m)) where
   length-met : length (children "MatrixIndicesMap" (the text m)) ≡ length (a .met)
   length-met = ap length (a .are) ∙ length-each (the text) (a .met)
 
   -- more than three
-  pub maps-many : (lengths : List ℕ) → length lengths ≤ 3 → 3 < r .count → dimensionsWrong lengths (mapsIn (the text m)) ≡ true
-  unfolding mapsIn
+  pub maps-many : (lengths : List ℕ) → length lengths ≤ 3 → 3 < r .count → dimensionsWrong lengths (matrixMaps (the text m)) ≡ true
+  unfolding matrixMaps
   maps-many lengths u v =
       let h = a .holds .many in
       let k = length-met in
@@ -195,8 +209,12 @@ module _ {text : List ℕ} {m : ℕ} {r : Maps} (a : MapsAre text m r) (g : Good
   module _ (few : r .count ≤ 3) where
     -- at most three: they are ready, and they are the maps of the matrix
     pub maps-ready : Ready text r
-    maps-ready = record { three = a .holds .three; few = few; noted = λ z i u. (let h = a .holds .many in a .holds .noted z i (omega arith) (omega arith)) }
+    maps-ready = record {
+      three = a .holds .three;
+      few = few;
+      noted = λ z i u. (let h = a .holds .many in a .holds .noted z i (omega arith) (omega arith));
+    }
 
-    pub maps-same : mapsAt text r ≡ mapsIn (the text m)
-    unfolding mapsAt mapsIn
+    pub maps-same : mapsAt text r ≡ matrixMaps (the text m)
+    unfolding mapsAt matrixMaps
     maps-same = ap (each (λ p. mapOf (the text p))) (met-is a few) ∙ sym (each-twice text (a .met)) ∙ ap (each mapOf) (sym (a .are))

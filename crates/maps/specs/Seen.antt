@@ -35,7 +35,8 @@ count-more p (a ∷ w) b = let h = count-more p w b in omega arith
 grown-out : (b : ℕ) (r : Dims) → ((d : ℕ) → d < 10 → d + 48 ≡ b → ⊥) → Grown b r r
 grown-out b r out w l = record {
   ten = l .ten;
-  each-is = λ d u. (let z : eqb (d + 48) b ≡ false = ne-eqb (d + 48) b (out d u) in rw (count-more (eqb (d + 48)) w b, z) (let h = l .each-is d u in omega arith));
+  each-is = λ d u. (let z : eqb (d + 48) b ≡ false = ne-eqb (d + 48) b (out d u) in
+      rw (count-more (eqb (d + 48)) w b, z) (let h = l .each-is d u in omega arith));
 }
 
 pub grown-low : (b : ℕ) (r : Dims) → b < 48 → Grown b r r
@@ -55,7 +56,8 @@ module _ (b : ℕ) (low : 48 ≤ b) (high : b ≤ 57) (r : Dims) where
       k : ℕ
       k = b - 48
 
-      go : (d : ℕ) → d < 10 → Dec (d ≡ b - 48) → getD (set (r .has) (b - 48) (getD (r .has) (b - 48) 0 + 1)) d 0 ≡ min 2 (count (eqb (d + 48)) w + cond (eqb (d + 48) b) 1 0)
+      go : (d : ℕ) → d < 10 → Dec (d ≡ b - 48)
+          → getD (set (r .has) (b - 48) (getD (r .has) (b - 48) 0 + 1)) d 0 ≡ min 2 (count (eqb (d + 48)) w + cond (eqb (d + 48) b) 1 0)
       go d u (yes q) =
           let z : eqb (d + 48) b ≡ true = eq-eqb (d + 48) b (omega arith) in
           let h = l .each-is (b - 48) (omega arith) in

@@ -1,47 +1,43 @@
 -- THE LENGTH OF A MAP: a sum over its children.
-use mathlib.Core.Path.{_≡_, refl, sym, ap, _∙_, subst}
-use mathlib.Core.List.{List, [], _∷_, _++_}
-use mathlib.Core.Bool.{Bool, true, false, cond, true≢false}
-use Prim.Native.Nat.{ℕ, zero, suc, _+_, _*_, _-_, _^_, _≤_, _<_}
+use mathlib.Core.Path.{_≡_, refl, sym, ap, _∙_}
+use mathlib.Core.List.{List, [], _∷_}
+use mathlib.Core.Bool.{Bool, true, false, cond}
+use Prim.Native.Nat.{ℕ, _+_, _*_, _-_, _^_, _≤_, _<_}
 use Prim.Native.String.{String}
 use native.Mathlib.Omega.{arith}
-use lib.Dec.{leb}
 use lib.ListN.{length, take, drop, length-take, length-drop}
 use borrow.Author.Needs.{needs}
-use borrow.Author.Tests.{leb-true}
-use Rattle.lists.specs.Booleans.{clash, both-ways}
+use Rattle.lists.specs.Laws.Booleans.{clash, both-ways}
 use Rattle.lists.specs.Lists.{all, total, each, those}
-use Rattle.grammar.specs.Bytes.{ascii, between, blank}
+use Rattle.grammar.specs.Bytes.{ascii, between}
 use Rattle.grammar.specs.Document.{Element}
-use Rattle.grammar.specs.Facts.{and-left, and-right, within}
+use Rattle.grammar.specs.Laws.Facts.{and-right, within}
 use Rattle.grammar.specs.Parser.{same}
-use Rattle.grammar.specs.Look.{Word, is, nameOf, attr, has, contentsOf, elements, children}
+use Rattle.grammar.specs.Look.{Word, is, nameOf, attr, contentsOf, elements, children}
 use Rattle.numbers.specs.Numbers.{digits, whole, value}
 use Rattle.nodes.specs.Places.{Stands, the, Tail, tail-of, tail-more}
-use Rattle.nodes.specs.Children.{first, next, left}
-use Rattle.nodes.specs.Scan.{skip-at, skip-less, leave-at}
+use Rattle.nodes.specs.Scan.{skip-at, skip-less}
 use Rattle.nodes.specs.Skip.{skip-element}
-use Rattle.nodes.specs.Leaving.{Behind, next-behind}
-use Rattle.nodes.specs.Says.{says}
-use Rattle.nodes.specs.Texts.{text-of}
+use Rattle.nodes.specs.ElementEnd.{Behind}
 use Rattle.nodes.specs.Ahead.{ahead-at, first-ahead}
-use Rattle.nodes.specs.Facing.{Facing, facing, facing-first, Met, facing-child, facing-end, facing-stray, left-ahead, facing-left, behind-leaves}
+use Rattle.nodes.specs.Laws.AheadElements.{left-ahead}
+use Rattle.nodes.specs.Laws.Along.{children-few, AlongAhead, ahead-start, ahead-done, ahead-ends, ahead-never}
+use Rattle.nodes.specs.Laws.Along.{ahead-stands, ahead-here, ahead-less, ahead-next}
 use Rattle.nodes.specs.declared.ahead.Ahead.{Ahead}
 use Rattle.nodes.specs.declared.ahead.Ahead.the-variants as ahead-is
-use Rattle.tokens.specs.Step.{stepped}
-use Rattle.tokens.specs.declared.Step.{Step}
-use Rattle.tokens.specs.declared.Step.the-variants.{To, No}
-use Rattle.grammar.specs.Read.{Read, got, ok-got}
+use Rattle.steps.specs.Step.{stepped}
+use Rattle.steps.specs.declared.Step.{Step}
+use Rattle.steps.specs.declared.Step.the-variants.{To, No}
+use Rattle.grammar.specs.Read.{got, ok-got}
 use Rattle.nodes.specs.Names.{named, name-is-law}
-use Rattle.nodes.specs.Walk.{kids, Walk, Turn, walk-children, kids-children, walk-none, turn-at, turn-splits, turn-falls, left-fits}
-use Rattle.nodes.specs.declared.Kid.{Kid}
-use Rattle.cifti.specs.Maps.{Model, Map, mapOf, modelOf, seriesOf, isBrain, isSeries, countedName, countedBytes, counted-bytes, kindOfMap, lengthOf, lengthBy}
+use Rattle.cifti.specs.Maps.{Model, mapOf, modelOf, seriesOf, isBrain, isSeries, countedName, countedBytes, counted-bytes, kindOfMap}
+use Rattle.cifti.specs.Maps.{lengthOf, lengthBy}
 use Rattle.cifti.specs.declared.answer.Kind.{Kind}
 use Rattle.cifti.specs.declared.answer.Kind.the-variants.{Brain, Series}
-use Rattle.maps.specs.MapKind.{GoodMap, good-brain, good-series, brain-kind, series-kind}
-use Rattle.maps.specs.Good.{Good, GoodAs, AllGood, none-left, one-good}
-use Rattle.maps.specs.Kinds.{GoodModel, good-model, brainRows, brain-children, model-facts, series-facts}
-use Rattle.maps.specs.Fields.{wordAt, word-at, says-has, numberSeen, number-seen, orZero}
+use Rattle.maps.specs.Laws.MapKind.{GoodMap, good-brain, good-series, brain-kind, series-kind}
+use Rattle.maps.specs.Laws.Good.{AllGood, none-left, one-good}
+use Rattle.maps.specs.Laws.Kinds.{GoodModel, good-model, brainRows, brain-children, model-facts, series-facts}
+use Rattle.maps.specs.Fields.{attributeWord, word-at, numberSeen, number-seen, orZero}
 use Rattle.numbers.specs.Answers.{wholeIn}
 use Rattle.maps.specs.declared.survey.Measure.{Measure}
 use Rattle.maps.specs.declared.survey.Seen.{Seen}
@@ -49,7 +45,7 @@ use Rattle.numbers.specs.declared.Whole.the-variants.{Is, No}
 
 -- what a child adds to the length of its map
 unfoldable pub weigh : String → (brain : Bool) → Element → ℕ
-weigh s b e = cond (is s (nameOf e)) (cond b (numberSeen 1 1048576 (wordAt (ascii "IndexCount") e)) 1) 0
+weigh s b e = cond (is s (nameOf e)) (cond b (numberSeen 1 1048576 (attributeWord (ascii "IndexCount") e)) 1) 0
 
 unfoldable pub weightOf : Kind → Element → ℕ
 weightOf k e = weigh (countedName k) (isBrain k) e
@@ -77,10 +73,12 @@ spelled k l n told =
     let p : n ≡ length (take n l) = told .1 .0 ∙ ap length (sym (told .0)) in
     record { spells = told .0; part = p; room = omega (arith, length-take n l) }
 
-pub counted-told : (k : Kind) (text : List ℕ) (at : ℕ) {n : ℕ} {l : List ℕ} → Spelled k l n → {c : Bool} → c ≡ named text at (take n l) → c ≡ named text at (ascii (countedName k))
+pub counted-told : (k : Kind) (text : List ℕ) (at : ℕ) {n : ℕ} {l : List ℕ} → Spelled k l n → {c : Bool} → c ≡ named text at (take n l)
+    → c ≡ named text at (ascii (countedName k))
 counted-told k text at s e = e ∙ ap (named text at) (s .spells ∙ counted-bytes k)
 
-counted-so : (k : Kind) {text : List ℕ} {at : ℕ} → Stands text at → {c : Bool} → c ≡ named text at (ascii (countedName k)) → is (countedName k) (nameOf (the text at)) ≡ c
+counted-so : (k : Kind) {text : List ℕ} {at : ℕ} → Stands text at → {c : Bool} → c ≡ named text at (ascii (countedName k))
+    → is (countedName k) (nameOf (the text at)) ≡ c
 counted-so k st asked = sym (asked ∙ name-is-law (countedName k) st)
 
 module _ {text : List ℕ} {at : ℕ} (st : Stands text at) {k : Kind} {c : Bool} (asked : c ≡ named text at (ascii (countedName k))) where
@@ -89,10 +87,11 @@ module _ {text : List ℕ} {at : ℕ} (st : Stands text at) {k : Kind} {c : Bool
   weight-none f = record { weighs = rw (counted-so k st asked ∙ f); most = omega arith }
 
   module _ (t : c ≡ true) {b : Bool} (brain : b ≡ isBrain k) where
-    pub weight-model : b ≡ true → {n : ℕ} → n ≡ numberSeen 1 1048576 (wordAt (ascii "IndexCount") (the text at)) → Weighed k (the text at) n
+    pub weight-model : b ≡ true → {n : ℕ} → n ≡ numberSeen 1 1048576 (attributeWord (ascii "IndexCount") (the text at))
+        → Weighed k (the text at) n
     unfolding weightOf weigh
     weight-model y {n} p =
-        let m = seen-most 1 1048576 (wordAt (ascii "IndexCount") (the text at)) in
+        let m = seen-most 1 1048576 (attributeWord (ascii "IndexCount") (the text at)) in
         record { weighs = rw (counted-so k st asked ∙ t, sym brain ∙ y) p; most = omega arith }
 
     pub weight-one : b ≡ false → Weighed k (the text at) 1
@@ -142,7 +141,10 @@ module _ {text : List ℕ} {k : ℕ} (st : Stands text k) (s : Seen) where
 
     pub met-past : c ≡ false → {kind : Kind} → VolumeMet kind text k s s
     unfolding those
-    met-past y = record { met = λ t all l v. record { none = λ n. (v .none n ∙ rw (is-it ∙ y) refl); stands = v .stands; rest = v .rest; first = v .first } }
+    met-past y = record {
+      met = λ t all l v. record
+          { none = λ n. (v .none n ∙ rw (is-it ∙ y) refl); stands = v .stands; rest = v .rest; first = v .first };
+    }
 
 pub ruleset meeting = (met-other, met-before, met-here, met-past, needs)
 
@@ -169,7 +171,12 @@ ends-at {text} {k} st =
     let over : skip-at (drop k text) ≡ got tt (st .rest) = skip-element (drop k text) (the text k) (st .rest) (st .reads) in
     let less = ok-got (rw over at (skip-less (drop k text))) in
     let tail : Tail text (st .rest) = tail-more (less .front) (st .rest) (less .whole) (tail-of text k) in
-    record { ends = over ∙ ap (got tt) (sym (tail .stands)); inside = omega arith; after = let n = length-drop k text in omega (arith, less .falls) }
+    record {
+      ends = over ∙ ap (got tt) (sym (tail .stands));
+      inside = omega arith;
+      after = let n = length-drop k text in
+          omega (arith, less .falls);
+    }
 
 -- the code's way to that place
 module _ {text : List ℕ} {k : ℕ} {x : Step} (e : x ≡ stepped (length text) (skip-at (drop k text))) where
@@ -198,106 +205,62 @@ module _ {text : List ℕ} {k : ℕ} {x : Step} (e : x ≡ stepped (length text)
 
 pub ruleset behind-so = (behind-found, behind-missing, ahead-found, ahead-missing, needs)
 
-pub record Summing (text : List ℕ) (at : ℕ) (kind : Kind) (n : ℕ) (seen : Seen) (ahead : Ahead) : Type 0 where
-  pub stands : Stands text at
+-- the sum of those passed; those of the list are ahead
+pub record Summing (text : List ℕ) (at : ℕ) (kind : Kind) (n : ℕ) (seen : Seen) (l : List Element) : Type 0 where
   pub short : length text ≤ 16777216
-  pub kid : Kid
-  pub blanks : Bool
-  pub leaves : Read (Unit {0})
-  pub facing : Facing text true blanks leaves kid ahead
-  pub leave-so : skip-at (drop at text) ≡ leaves
-  pub walk : Walk text kid
-  pub so-far : total (weightOf kind) (elements (contentsOf (the text at))) ≡ n + total (weightOf kind) (kids text kid)
-  pub room : n + 1048576 * left text kid ≤ 1048576 * length text
-  pub volumes : isBrain kind ≡ true → VolumeLeft text (elements (contentsOf (the text at))) (kids text kid) seen
+  pub so-far : total (weightOf kind) (elements (contentsOf (the text at))) ≡ n + total (weightOf kind) l
+  pub room : n + 1048576 * length l ≤ 1048576 * length text
+  pub volumes : isBrain kind ≡ true → VolumeLeft text (elements (contentsOf (the text at))) l seen
 
-pub sum-start : {text : List ℕ} {at : ℕ} (kind : Kind) → InShort text at → (seen : Seen) → seen .found ≡ false → {ahead : Ahead} → ahead ≡ first-ahead true text at → Summing text at kind 0 seen ahead
-sum-start {text} {at} kind i seen f e =
-    rw e (record {
-      stands = i .stands;
+pub sum-start : {text : List ℕ} {at : ℕ} (kind : Kind) → InShort text at → (seen : Seen) → seen .found ≡ false → {next : Ahead}
+    → next ≡ first-ahead true text at → AlongAhead text at true (Summing text at kind 0 seen) next
+sum-start kind i seen f e =
+    ahead-start (i .stands) (record {
       short = i .short;
-      kid = first text at;
-      blanks = all blank (text-of text at);
-      leaves = skip-at (drop at text);
-      facing = facing-first text true at;
-      leave-so = refl;
-      walk = walk-children (i .stands);
-      so-far = sym (ap (total (weightOf kind)) (kids-children (i .stands))) ∙ omega arith;
-      room = let f = left-fits text (first text at) in omega arith;
-      volumes = λ _. record {
-        none = λ _. sym (ap (those isVolume) (kids-children (i .stands)));
-        stands = λ t. both-ways t f;
-        rest = [];
-        first = λ t. both-ways t f;
-      };
-    })
+      so-far = omega arith;
+      room = let c = children-few (i .stands) in omega arith;
+      volumes = λ _. record { none = λ _. refl; stands = λ t. both-ways t f; rest = []; first = λ t. both-ways t f };
+    }) e
 
-module _ {text : List ℕ} {at : ℕ} {kind : Kind} {n : ℕ} {seen : Seen} {ahead : Ahead} (go : Summing text at kind n seen ahead) where
-  pub sum-done : {j : ℕ} → ahead ≡ ahead-is.End j → Summed text at kind (record { length = n; volume = seen; behind = j })
+module _ {text : List ℕ} {at : ℕ} {kind : Kind} {n : ℕ} {seen : Seen} {next : Ahead}
+    (go : AlongAhead text at true (Summing text at kind n seen) next) where
+  pub sum-done : {j : ℕ} → next ≡ ahead-is.End j → Summed text at kind (record { length = n; volume = seen; behind = j })
   unfolding total
-  sum-done {j} e =
-      let o = facing-end (go .facing) e in
-      let z : total (weightOf kind) (kids text (go .kid)) ≡ 0 = rw (walk-none (go .walk) (o .no-next)) in
-      let s = go .so-far in
-      record { sum = omega arith; most = (let r = go .room in let h = go .short in omega arith); volume = λ t. rw (walk-none (go .walk) (o .no-next)) at (go .volumes t); ends = record { ends = go .leave-so ∙ o .ends; inside = o .inside; after = o .after } }
+  sum-done e =
+      let s = ahead-done go e in
+      let t = s .so-far in
+      let r = s .room in
+      let h = s .short in
+      record { sum = omega arith; most = omega arith; volume = s .volumes; ends = ahead-ends go e }
 
-  pub sum-never : ahead ≡ ahead-is.Stray → (r : Measure) → Summed text at kind r
-  sum-never e r =
-      let st = go .stands in
-      let (w, _) = facing-stray (go .facing) e (st .rest) (sym (go .leave-so) ∙ skip-element (drop at text) (the text at) (st .rest) (st .reads)) in
-      absurd (true≢false w)
+  pub sum-never : next ≡ ahead-is.Stray → (r : Measure) → Summed text at kind r
+  sum-never e r = ahead-never go refl e
 
-  module _ {k : ℕ} (is-child : ahead ≡ ahead-is.Child k) where
-    met : Met text true (go .blanks) (go .leaves) (go .kid) k
-    met = facing-child (go .facing) is-child
+  module _ {k : ℕ} (is-child : next ≡ ahead-is.Child k) where
+    there : Behind text k (length text - length (ahead-stands go is-child .rest))
+    there = ends-at (ahead-stands go is-child)
 
-    turn : Turn text k
-    turn = turn-at (go .walk) (met .is-next)
-
-    pub sum-stands : Stands text k
-    sum-stands = turn .stands
-
-    falls : left text (next text k) < left text (go .kid)
-    falls = turn-falls (go .walk) (met .is-next)
-
-    there : Behind text k (length text - length (turn .stands .rest))
-    there = ends-at (turn .stands)
-
-    onward : {ahead₁ : Ahead} → AheadBehind text k ahead₁ → Facing text true (all blank (says (drop (length text - length (turn .stands .rest)) text))) (leave-at (drop (length text - length (turn .stands .rest)) text)) (next text k) ahead₁
-    onward a = rw (a _ there, next-behind there) (facing text true (length text - length (turn .stands .rest)))
-
-    pub sum-less : {ahead₁ : Ahead} → AheadBehind text k ahead₁ → left-ahead text ahead₁ < left-ahead text ahead
-    unfolding left-ahead left
-    sum-less a = rw is-child (let f = facing-left (onward a) in let d = turn .falls in omega arith)
+    pub sum-less : {next₁ : Ahead} → AheadBehind text k next₁ → left-ahead text next₁ < left-ahead text next
+    sum-less a = ahead-less go is-child there (a _ there)
 
     module _ {w : ℕ} (weighed : Weighed kind (the text k) w) where
       pub sum-fits : n + w < 2 ^ 64
-      sum-fits = let f = falls in let m = weighed .most in let r = go .room in let s = go .short in let l = left-fits text (go .kid) in omega arith
+      sum-fits = let s = ahead-here go is-child in let r = s .room in let h = s .short in let m = weighed .most in omega arith
 
-      pub sum-more : {seen₁ : Seen} → VolumeMet kind text k seen seen₁ → {ahead₁ : Ahead} → AheadBehind text k ahead₁ → Summing text at kind (n + w) seen₁ ahead₁
+      pub sum-more : {seen₁ : Seen} → VolumeMet kind text k seen seen₁ → {next₁ : Ahead} → AheadBehind text k next₁
+          → AlongAhead text at true (Summing text at kind (n + w) seen₁) next₁
       unfolding total
       sum-more v a =
-          let f = falls in
           let m = weighed .most in
-          let r = go .room in
           let p = weighed .weighs in
-          let s = go .so-far in
-          let split : total (weightOf kind) (kids text (go .kid)) ≡ weightOf kind (the text k) + total (weightOf kind) (kids text (next text k)) = ap (total (weightOf kind)) (turn-splits (go .walk) (met .is-next)) in
-          record {
-            stands = go .stands;
-            short = go .short;
-            kid = next text k;
-            blanks = all blank (says (drop (length text - length (turn .stands .rest)) text));
-            leaves = leave-at (drop (length text - length (turn .stands .rest)) text);
-            facing = onward a;
-            leave-so = go .leave-so ∙ met .leaves-so ∙ behind-leaves (turn .stands) there (met .looks);
-            walk = turn .then;
-            so-far = omega arith;
-            room = omega arith;
-            volumes = λ t. v .met t _ _ (rw (turn-splits (go .walk) (met .is-next)) at (go .volumes t));
-          }
+          ahead-next go is-child there (a _ there) (λ l s. record {
+            short = s .short;
+            so-far = let t = s .so-far in omega arith;
+            room = let r = s .room in omega arith;
+            volumes = λ t. v .met t _ l (s .volumes t);
+          })
 
-pub ruleset summing = (sum-start, sum-done, sum-never, sum-stands, sum-less, sum-fits, sum-more, needs)
+pub ruleset summing = (sum-start, sum-done, sum-never, ahead-stands, sum-less, sum-fits, sum-more, needs)
 
 -- ---- What the sum is.
 
@@ -318,18 +281,21 @@ pub record Spanned (text : List ℕ) (at : ℕ) (kind : Kind) (r : Measure) : Ty
   pub most : r .length ≤ 17592186044416
   pub ends : Behind text at (r .behind)
 
-model-count : (e : Element) → GoodModel e → numberSeen 1 1048576 (wordAt (ascii "IndexCount") e) ≡ (modelOf e) .count
+model-count : (e : Element) → GoodModel e → numberSeen 1 1048576 (attributeWord (ascii "IndexCount") e) ≡ (modelOf e) .count
 unfolding modelOf
 model-count e g = ap (numberSeen 1 1048576) (word-at "IndexCount" e) ∙ number-seen 1 1048576 (attr "IndexCount" e) (model-facts g .count)
 
-models-total : (l : List Element) → AllGood brainRows l → total (weightOf Brain) l ≡ total (λ (m : Model). m .count) (each modelOf (those (λ e. is "BrainModel" (nameOf e)) l))
+models-total : (l : List Element) → AllGood brainRows l
+    → total (weightOf Brain) l ≡ total (λ (m : Model). m .count) (each modelOf (those (λ e. is "BrainModel" (nameOf e)) l))
 unfolding total each those weightOf weigh
 models-total [] none-left = refl
 models-total (e ∷ l) (one-good g r) = go (is "BrainModel" (nameOf e)) refl (models-total l r)
   where
-    go : (b : Bool) → is "BrainModel" (nameOf e) ≡ b → total (weightOf Brain) l ≡ total (λ (m : Model). m .count) (each modelOf (those (λ e. is "BrainModel" (nameOf e)) l))
-        → cond b (numberSeen 1 1048576 (wordAt (ascii "IndexCount") e)) 0 + total (weightOf Brain) l
-        ≡ total (λ (m : Model). m .count) (each modelOf (cond b (e ∷ those (λ e. is "BrainModel" (nameOf e)) l) (those (λ e. is "BrainModel" (nameOf e)) l)))
+    go : (b : Bool) → is "BrainModel" (nameOf e) ≡ b
+        → total (weightOf Brain) l ≡ total (λ (m : Model). m .count) (each modelOf (those (λ e. is "BrainModel" (nameOf e)) l))
+        → cond b (numberSeen 1 1048576 (attributeWord (ascii "IndexCount") e)) 0 + total (weightOf Brain) l
+        ≡ total (λ (m : Model). m .count)
+        (each modelOf (cond b (e ∷ those (λ e. is "BrainModel" (nameOf e)) l) (those (λ e. is "BrainModel" (nameOf e)) l)))
     go true q ih = let s = model-count e (good-model e g q) in omega arith
     go false q ih = omega arith
 
@@ -353,7 +319,8 @@ module _ {text : List ℕ} {at : ℕ} {kind : Kind} (k : KindAt text at kind) wh
   is-kind : {j : Kind} → kind ≡ j → kindOfMap (the text at) ≡ j
   is-kind h = sym (k .kind-is) ∙ h
 
-  pub span-series : {b : Bool} → b ≡ isSeries kind → b ≡ true → {n : ℕ} → n ≡ numberSeen 1 1048576 (wordAt (ascii "NumberOfSeriesPoints") (the text at)) → {j : ℕ} → Behind text at j → (s : Seen)
+  pub span-series : {b : Bool} → b ≡ isSeries kind → b ≡ true → {n : ℕ}
+      → n ≡ numberSeen 1 1048576 (attributeWord (ascii "NumberOfSeriesPoints") (the text at)) → {j : ℕ} → Behind text at j → (s : Seen)
       → Spanned text at kind (record { length = n; volume = s; behind = j })
   unfolding lengthOf lengthBy mapOf seriesOf
   span-series p t e b s =
@@ -361,23 +328,28 @@ module _ {text : List ℕ} {at : ℕ} {kind : Kind} (k : KindAt text at kind) wh
       record {
         volume = λ t. both-ways t (ap isBrain h);
         long = rw (is-kind h) (e ∙ ap (numberSeen 1 1048576) (word-at "NumberOfSeriesPoints" (the text at))
-            ∙ number-seen 1 1048576 (attr "NumberOfSeriesPoints" (the text at)) (series-facts (good-series (k .map .good) (is-kind h)) .points));
-        most = let m = seen-most 1 1048576 (wordAt (ascii "NumberOfSeriesPoints") (the text at)) in omega arith;
+            ∙ number-seen 1 1048576 (attr "NumberOfSeriesPoints" (the text at))
+            (series-facts (good-series (k .map .good) (is-kind h)) .points));
+        most = let m = seen-most 1 1048576 (attributeWord (ascii "NumberOfSeriesPoints") (the text at)) in omega arith;
         ends = b;
       }
 
   brain-long : kind ≡ Brain → total (weightOf kind) (elements (contentsOf (the text at))) ≡ lengthOf (mapOf (the text at))
   unfolding lengthOf lengthBy mapOf children
-  brain-long h = rw (h, is-kind h) (models-total (elements (contentsOf (the text at))) (brain-children (good-brain (k .map .good) (is-kind h))))
+  brain-long h = rw (h, is-kind h) (models-total (elements (contentsOf (the text at)))
+      (brain-children (good-brain (k .map .good) (is-kind h))))
 
-  counted-is : isBrain kind ≡ false → isSeries kind ≡ false → length (children (countedName kind) (the text at)) ≡ lengthOf (mapOf (the text at))
+  counted-is : isBrain kind ≡ false → isSeries kind ≡ false
+      → length (children (countedName kind) (the text at)) ≡ lengthOf (mapOf (the text at))
   unfolding lengthOf lengthBy mapOf
   counted-is f g = rw (← k .kind-is, f, g) refl
 
-  counted-long : isBrain kind ≡ false → isSeries kind ≡ false → total (weightOf kind) (elements (contentsOf (the text at))) ≡ lengthOf (mapOf (the text at))
+  counted-long : isBrain kind ≡ false → isSeries kind ≡ false
+      → total (weightOf kind) (elements (contentsOf (the text at))) ≡ lengthOf (mapOf (the text at))
   unfolding weightOf children
   counted-long f g =
-      ap (λ b. total (weigh (countedName kind) b) (elements (contentsOf (the text at)))) f ∙ named-total (countedName kind) (elements (contentsOf (the text at))) ∙ counted-is f g
+      ap (λ b. total (weigh (countedName kind) b) (elements (contentsOf (the text at)))) f
+      ∙ named-total (countedName kind) (elements (contentsOf (the text at))) ∙ counted-is f g
 
   pub span-sum : {b : Bool} → b ≡ isSeries kind → b ≡ false → {r : Measure} → Summed text at kind r → Spanned text at kind r
   span-sum p f s = record { long = s .sum ∙ go (isBrain kind) refl; volume = s .volume; most = s .most; ends = s .ends }

@@ -1,7 +1,8 @@
--- WHAT IS NOTED OF THE MAPS OF A MATRIX: how many there are, told up to four, and of the first three where each begins, its end, kind, dimensions and length.
+-- WHAT IS NOTED OF THE MAPS OF A MATRIX: how many there are, told up to four, and of the first three where each begins, its end, kind,
+-- dimensions and length.
 use mathlib.Core.Path.{_≡_, refl, sym, ap, _∙_}
 use mathlib.Core.List.{List, [], _∷_, _++_, append-nil}
-use mathlib.Core.Bool.{Bool, true, false, cond}
+use mathlib.Core.Bool.{Bool, true, false}
 use Prim.Native.Nat.{ℕ, _+_, _≤_, _<_, min}
 use native.Mathlib.Omega.{arith}
 use native.Mathlib.Decide.{ℕ-discrete}
@@ -10,7 +11,7 @@ use borrow.Author.Tests.{lt-ltb}
 use lib.ListN.{length, drop, getD, set, length-set, length-append, List·getD-append}
 use lib.Seq.{getD-set-same, getD-set-other, getD-append-seam}
 use borrow.Author.Needs.{needs}
-use Rattle.lists.specs.Booleans.{both-ways}
+use Rattle.lists.specs.Laws.Booleans.{both-ways}
 use Rattle.lists.specs.Lists.{each, those}
 use Rattle.grammar.specs.Bytes.{ascii}
 use Rattle.grammar.specs.Document.{Element}
@@ -18,16 +19,16 @@ use Rattle.grammar.specs.Look.{is, nameOf, contentsOf, elements, children}
 use Rattle.nodes.specs.Places.{Stands, the}
 use Rattle.nodes.specs.Children.{kid-at, first, next, left}
 use Rattle.nodes.specs.Names.{named, name-is-law}
-use Rattle.nodes.specs.Walk.{kids, Walk, Turn, walk-children, kids-children, walk-none, turn-at, turn-splits, turn-falls}
+use Rattle.nodes.specs.Laws.Along.{Along, along-start, along-done, along-stands, along-here, along-less, along-next}
 use Rattle.nodes.specs.declared.Kid.{Kid}
 use Rattle.nodes.specs.declared.Kid.the-variants.{Child, Done}
 use Rattle.cifti.specs.Rows as kinds
 use Rattle.cifti.specs.Maps.{mapOf, lengthOf, isBrain, kindOfMap, dimensionsOf}
 use Rattle.cifti.specs.declared.answer.Kind.{Kind}
-use Rattle.maps.specs.Good.{Good, AllGood, good-head, good-tail}
-use Rattle.maps.specs.Kinds.{matrixRows, matrix-children}
-use Rattle.maps.specs.MapKind.{good-map}
-use Rattle.nodes.specs.Leaving.{Behind, next-behind}
+use Rattle.maps.specs.Laws.Good.{Good, AllGood, good-head, good-tail}
+use Rattle.maps.specs.Laws.Kinds.{matrixRows, matrix-children}
+use Rattle.maps.specs.Laws.MapKind.{good-map}
+use Rattle.nodes.specs.ElementEnd.{Behind, next-behind}
 use Rattle.maps.specs.Sums.{MapAt, KindAt, Spanned, VolumeLeft}
 use Rattle.maps.specs.Digits.{Tells}
 use Rattle.maps.specs.declared.dims.Dims.{Dims}
@@ -65,7 +66,8 @@ module _ {text : List ℕ} {at : ℕ} (m : MapAt text at) where
   pub note-kind : {k : Kind} → k ≡ kindOfMap (the text at) → KindAt text at k
   note-kind h = record { map = m; kind-is = h }
 
-  pub note-wanted : {w : Bool} → w ≡ true → {k : Kind} → k ≡ kindOfMap (the text at) → {d : Dims} → Tells (dimensionsOf (the text at)) d → {r : Measure} → Spanned text at k r
+  pub note-wanted : {w : Bool} → w ≡ true → {k : Kind} → k ≡ kindOfMap (the text at) → {d : Dims} → Tells (dimensionsOf (the text at)) d
+      → {r : Measure} → Spanned text at k r
       → NotedIf w text at (record { at = at; behind = r .behind; kind = k; lists = d; length = r .length; volume = r .volume })
   note-wanted t h l s = record {
     place = refl;
@@ -89,7 +91,8 @@ pub record Holds (text l : List ℕ) (r : Maps) : Type 0 where
 
 -- with this one more, whatever maps are kept
 abbrev pub NotedWith : MapNote → Maps → Maps → Type 0
-NotedWith n before after = (text l : List ℕ) → (before .count < 3 → Noted text n) → Holds text l before → Holds text (l ++ (n .at ∷ [])) after
+NotedWith n before after = (text l : List ℕ) → (before .count < 3 → Noted text n) → Holds text l before
+    → Holds text (l ++ (n .at ∷ [])) after
 
 one-longer : (l : List ℕ) (k : ℕ) → length (l ++ (k ∷ [])) ≡ length l + 1
 one-longer l k = length-append l (k ∷ [])
@@ -109,18 +112,22 @@ module _ (n : MapNote) (r s : Maps) where
       here : r .count ≡ length l
       here = let m = h .many in omega arith
 
-      place-at : (z : MapNote) (i : ℕ) → i < 3 → i ≤ length l → Dec (i ≡ r .count) → (getD (set (r .each) (r .count) n) i z) .at ≡ getD (l ++ (n .at ∷ [])) i 0
+      place-at : (z : MapNote) (i : ℕ) → i < 3 → i ≤ length l → Dec (i ≡ r .count)
+          → (getD (set (r .each) (r .count) n) i z) .at ≡ getD (l ++ (n .at ∷ [])) i 0
       place-at z i u w (yes q) =
           let t = h .three in
-          let e : getD (l ++ (n .at ∷ [])) i 0 ≡ n .at = ap (λ j. getD (l ++ (n .at ∷ [])) j 0) (q ∙ here) ∙ getD-append-seam l (n .at) [] 0 in
-          ap (λ j. (getD (set (r .each) (r .count) n) j z) .at) q ∙ ap (λ (x : MapNote). x .at) (getD-set-same (r .each) (r .count) n z (omega arith)) ∙ sym e
+          let e : getD (l ++ (n .at ∷ [])) i 0 ≡ n .at = ap (λ j. getD (l ++ (n .at ∷ [])) j 0) (q ∙ here)
+          ∙ getD-append-seam l (n .at) [] 0 in
+          ap (λ j. (getD (set (r .each) (r .count) n) j z) .at) q
+          ∙ ap (λ (x : MapNote). x .at) (getD-set-same (r .each) (r .count) n z (omega arith)) ∙ sym e
       place-at z i u w (no q) =
           let low : i < length l = (let k = here in omega arith) in
           ap (λ (x : MapNote). x .at) (getD-set-other (r .each) (r .count) i n z q) ∙ h .place z i u low ∙ sym (as-before l (n .at) i low)
 
       noted-at : (z : MapNote) (i : ℕ) → i < 3 → i ≤ length l → Dec (i ≡ r .count) → Noted text (getD (set (r .each) (r .count) n) i z)
       noted-at z i u w (yes q) = let t = h .three in rw (q, getD-set-same (r .each) (r .count) n z (omega arith)) (f few)
-      noted-at z i u w (no q) = let low : i < length l = (let k = here in omega arith) in rw (getD-set-other (r .each) (r .count) i n z q) (h .noted z i u low)
+      noted-at z i u w (no q) = let low : i < length l = (let k = here in omega arith) in
+          rw (getD-set-other (r .each) (r .count) i n z q) (h .noted z i u low)
 
   pub noted-full : 3 ≤ r .count → s .each ≡ r .each → s .count ≡ 4 → NotedWith n r s
   noted-full full a c text l f h = record {
@@ -163,14 +170,17 @@ pub record MapsAre (text : List ℕ) (matrix : ℕ) (r : Maps) : Type 0 where
   pub stand : AllStand text met
   pub are : children "MatrixIndicesMap" (the text matrix) ≡ each (the text) met
 
-pub record Surveying (text : List ℕ) (matrix : ℕ) (r : Maps) (kid : Kid) : Type 0 where
-  pub walk : Walk text kid
-  pub good : AllGood matrixRows (kids text kid)
+unfoldable pub isMap : Element → Bool
+isMap e = is "MatrixIndicesMap" (nameOf e)
+
+-- those met are noted; those of the list are ahead
+pub record Surveying (text : List ℕ) (matrix : ℕ) (r : Maps) (l : List Element) : Type 0 where
+  pub good : AllGood matrixRows l
   pub short : length text ≤ 16777216
   pub met : List ℕ
   pub holds : Holds text met r
   pub stand : AllStand text met
-  pub so-far : children "MatrixIndicesMap" (the text matrix) ≡ each (the text) met ++ those (λ e. is "MatrixIndicesMap" (nameOf e)) (kids text kid)
+  pub so-far : children "MatrixIndicesMap" (the text matrix) ≡ each (the text) met ++ those isMap l
 
 -- none is noted
 pub record NoneYet (r : Maps) : Type 0 where
@@ -182,84 +192,72 @@ none-yet r a c = record { three = a; none = c }
 
 pub ruleset none-noted = (none-yet, needs)
 
-pub surveying-start : {text : List ℕ} {at : ℕ} {r : Maps} → NoneYet r → MatrixAt text at → {kid : Kid} → kid ≡ first text at → Surveying text at r kid
-unfolding children each
-surveying-start {text} {at} {r} y m {kid} e =
-    let go : Surveying text at r (first text at) = record {
-      walk = walk-children (m .stands);
-      good = rw (kids-children (m .stands)) (matrix-children (m .good));
+pub surveying-start : {text : List ℕ} {at : ℕ} {r : Maps} → NoneYet r → MatrixAt text at → {kid : Kid} → kid ≡ first text at
+    → Along text (Surveying text at r) kid
+unfolding children each isMap
+surveying-start y m e =
+    along-start (m .stands) (record {
+      good = matrix-children (m .good);
       short = m .short;
       met = [];
-      holds = record { many = (let c = y .none in omega arith); three = y .three; place = λ z i u v. absurd (omega arith); noted = λ z i u v. absurd (omega arith) };
+      holds = record {
+        many = (let c = y .none in omega arith);
+        three = y .three;
+        place = λ z i u v. absurd (omega arith);
+        noted = λ z i u v. absurd (omega arith);
+      };
       stand = none-stands;
-      so-far = ap (those (λ d. is "MatrixIndicesMap" (nameOf d))) (sym (kids-children (m .stands)));
-    } in
-    rw e go
+      so-far = refl;
+    }) e
 
-module _ {text : List ℕ} {matrix : ℕ} {r : Maps} {kid : Kid} (go : Surveying text matrix r kid) where
+module _ {text : List ℕ} {matrix : ℕ} {r : Maps} {kid : Kid} (go : Along text (Surveying text matrix r) kid) where
   pub surveying-done : kid ≡ Done → MapsAre text matrix r
   unfolding those
-  surveying-done e = record {
-    met = go .met;
-    holds = go .holds;
-    stand = go .stand;
-    are = go .so-far ∙ ap (λ l. each (the text) (go .met) ++ those (λ d. is "MatrixIndicesMap" (nameOf d)) l) (walk-none (go .walk) e) ∙ append-nil (each (the text) (go .met));
-  }
+  surveying-done e =
+      let s = along-done go e in
+      record { met = s .met; holds = s .holds; stand = s .stand; are = s .so-far ∙ append-nil (each (the text) (s .met)) }
 
-  module _ {k : ℕ} (is-child : kid ≡ Child k) where
-    turn : Turn text k
-    turn = turn-at (go .walk) is-child
+  module _ {k : ℕ} (is-child : kid ≡ Child k) {b : Bool} (nm : b ≡ named text k (ascii "MatrixIndicesMap")) where
+    is-map : isMap (the text k) ≡ b
+    unfolding isMap
+    is-map = sym (nm ∙ name-is-law "MatrixIndicesMap" (along-stands go is-child))
 
-    ahead : AllGood matrixRows (the text k ∷ kids text (next text k))
-    ahead = rw (turn-splits (go .walk) is-child) at (go .good)
-
-    pub surveying-less : {kid₁ : Kid} → kid₁ ≡ next text k → left text kid₁ < left text kid
-    surveying-less e = rw e (turn-falls (go .walk) is-child)
-
-    splits : those (λ d. is "MatrixIndicesMap" (nameOf d)) (kids text kid)
-        ≡ cond (is "MatrixIndicesMap" (nameOf (the text k))) (the text k ∷ those (λ d. is "MatrixIndicesMap" (nameOf d)) (kids text (next text k))) (those (λ d. is "MatrixIndicesMap" (nameOf d)) (kids text (next text k)))
+    pub surveying-miss : b ≡ false → {kid₁ : Kid} → kid₁ ≡ next text k → Along text (Surveying text matrix r) kid₁
     unfolding those
-    splits = ap (those (λ d. is "MatrixIndicesMap" (nameOf d))) (turn-splits (go .walk) is-child)
+    surveying-miss f e =
+        along-next go is-child (λ l s. record {
+          good = good-tail (s .good);
+          short = s .short;
+          met = s .met;
+          holds = s .holds;
+          stand = s .stand;
+          so-far = s .so-far ∙ rw (is-map ∙ f);
+        }) e
 
-    pub surveying-miss : {b : Bool} → b ≡ named text k (ascii "MatrixIndicesMap") → b ≡ false → {kid₁ : Kid} → kid₁ ≡ next text k → Surveying text matrix r kid₁
-    surveying-miss nm f e =
-        let z : is "MatrixIndicesMap" (nameOf (the text k)) ≡ false = sym (name-is-law "MatrixIndicesMap" (turn .stands)) ∙ sym nm ∙ f in
-        rw e (record {
-          walk = turn .then;
-          good = good-tail ahead;
-          short = go .short;
-          met = go .met;
-          holds = go .holds;
-          stand = go .stand;
-          so-far = go .so-far ∙ ap (λ l. each (the text) (go .met) ++ l) (rw z at splits);
-        })
+    pub surveying-map : b ≡ true → MapAt text k
+    unfolding isMap
+    surveying-map t =
+        let s = along-here go is-child in
+        record { stands = along-stands go is-child; good = good-map (the text k) (good-head (s .good)) (is-map ∙ t); short = s .short }
 
-    pub surveying-map : {b : Bool} → b ≡ named text k (ascii "MatrixIndicesMap") → b ≡ true → MapAt text k
-    surveying-map nm t = record {
-      stands = turn .stands;
-      good = good-map (the text k) (good-head ahead) (sym (name-is-law "MatrixIndicesMap" (turn .stands)) ∙ sym nm ∙ t);
-      short = go .short;
-    }
-
-    module _ {n : MapNote} (at : NotedIf (ltb (r .count) 3) text k n) {kid₁ : Kid} (e : kid₁ ≡ kid-at (length text) (drop (n .behind) text)) where
+    module _ {n : MapNote} (at : NotedIf (ltb (r .count) 3) text k n) {kid₁ : Kid}
+        (e : kid₁ ≡ kid-at (length text) (drop (n .behind) text)) where
       is-next : kid₁ ≡ next text k
       is-next = e ∙ sym (next-behind (at .ends))
 
       pub surveying-on : left text kid₁ < left text kid
-      surveying-on = surveying-less is-next
+      surveying-on = along-less go is-child is-next
 
-      pub surveying-hit : {b : Bool} → b ≡ named text k (ascii "MatrixIndicesMap") → b ≡ true → {s : Maps} → NotedWith n r s → Surveying text matrix s kid₁
-      surveying-hit nm f {s} more =
-          let z : is "MatrixIndicesMap" (nameOf (the text k)) ≡ true = sym (name-is-law "MatrixIndicesMap" (turn .stands)) ∙ sym nm ∙ f in
-          let held : Holds text (go .met ++ (k ∷ [])) s = rw (at .place) at (more text (go .met) (λ few. at .noted (lt-ltb (r .count) 3 few)) (go .holds)) in
-          rw is-next (record {
-            walk = turn .then;
-            good = good-tail ahead;
-            short = go .short;
-            met = go .met ++ (k ∷ []);
-            holds = held;
-            stand = stand-more (go .stand) (turn .stands);
-            so-far = go .so-far ∙ ap (λ l. each (the text) (go .met) ++ l) (rw z at splits) ∙ each-more text (go .met) k _;
-          })
+      pub surveying-hit : b ≡ true → {s : Maps} → NotedWith n r s → Along text (Surveying text matrix s) kid₁
+      unfolding those
+      surveying-hit t more =
+          along-next go is-child (λ l s. record {
+            good = good-tail (s .good);
+            short = s .short;
+            met = s .met ++ (k ∷ []);
+            holds = rw (at .place) at (more text (s .met) (λ few. at .noted (lt-ltb (r .count) 3 few)) (s .holds));
+            stand = stand-more (s .stand) (along-stands go is-child);
+            so-far = s .so-far ∙ rw (is-map ∙ t) (each-more text (s .met) k _);
+          }) is-next
 
-pub ruleset surveying = (surveying-start, surveying-done, surveying-less, surveying-miss, surveying-map, surveying-on, surveying-hit, needs)
+pub ruleset surveying = (surveying-start, surveying-done, along-less, surveying-miss, surveying-map, surveying-on, surveying-hit, needs)

@@ -1,18 +1,18 @@
 -- Conditions 4 and 5: the root, and the kinds of maps that are not read.
 use mathlib.Core.Path.{_≡_, refl, sym, ap, _∙_}
-use mathlib.Core.List.{List, [], _∷_, _++_}
+use mathlib.Core.List.{List, [], _∷_}
 use mathlib.Core.Option.{some}
 use mathlib.Core.Option
 use mathlib.Core.Bool.{Bool, true, false, cond, not, _||_, _&&_}
 use Prim.Native.Nat.{ℕ, _<_}
 use Prim.Native.String.{String}
 use borrow.Author.Needs.{needs}
-use Rattle.lists.specs.Lists.{any, those, eachIn}
-use Rattle.lists.specs.Laws.{any-in}
+use Rattle.lists.specs.Lists.{any, those}
+use Rattle.lists.specs.Laws.Lists.{any-in}
 use Rattle.grammar.specs.Bytes.{ascii}
 use Rattle.grammar.specs.Document.{Element}
 use Rattle.grammar.specs.Parser.{same}
-use Rattle.grammar.specs.Look.{Word, is, nameOf, attr, has, contentsOf, elements, children}
+use Rattle.grammar.specs.Look.{Word, is, nameOf, has, contentsOf, elements, children}
 use Rattle.nodes.specs.Places.{Stands, the}
 use Rattle.nodes.specs.Children.{first, next, left}
 use Rattle.nodes.specs.Names.{named, name-is-law}
@@ -21,16 +21,16 @@ use Rattle.nodes.specs.Values.{value-there}
 use Rattle.nodes.specs.Attributes.{place}
 use Rattle.nodes.specs.declared.Found.{Found}
 use Rattle.nodes.specs.declared.Found.the-variants.{At, Nothing}
-use Rattle.nodes.specs.Walk.{kids, Walk, Turn, walk-children, kids-children, walk-none, turn-at, turn-splits, turn-falls}
+use Rattle.nodes.specs.Laws.Along.{Along, along-start, along-done, along-stands, along-here, along-less, along-next}
 use Rattle.nodes.specs.declared.Kid.{Kid}
 use Rattle.nodes.specs.declared.Kid.the-variants.{Child, Done}
 use Rattle.cifti.specs.Maps.{mapElements}
 use Rattle.cifti.specs.Conditions.{rootWrong, kindNotRead}
 use Rattle.schema.specs.Schema.{Case, _⇒_, kindChosen, kindAmong}
 use Rattle.cifti.specs.Rows.{ElementKind, cifti, mapKinds}
-use Rattle.maps.specs.Good.{Good, GoodAs, good-as, AllGood, none-left, one-good}
-use Rattle.maps.specs.Kinds.{is-word, matrixRows, matrix-children, root-child, has-value, map-word}
-use Rattle.lists.specs.Booleans.{never-some, or-left, or-right}
+use Rattle.maps.specs.Laws.Good.{Good, GoodAs, good-as, AllGood, none-left, one-good}
+use Rattle.maps.specs.Laws.Kinds.{is-word, matrixRows, matrix-children, root-child, has-value, map-word}
+use Rattle.lists.specs.Laws.Booleans.{never-some, or-left, or-right}
 
 -- ---- Condition 4.
 
@@ -42,7 +42,8 @@ module _ {text : List ℕ} {at : ℕ} (st : Stands text at) {b : Bool} (nm : b �
   unfolding rootWrong
   root-other f = rw (sym root-name ∙ f)
 
-  pub root-version : b ≡ true → {c : Bool} → c ≡ same (value-at-name text at (ascii "Version")) (ascii "2") → not c ≡ rootWrong (the text at)
+  pub root-version : b ≡ true → {c : Bool} → c ≡ same (value-at-name text at (ascii "Version")) (ascii "2")
+      → not c ≡ rootWrong (the text at)
   unfolding rootWrong
   root-version t p = rw (sym root-name ∙ t) (ap not (p ∙ has-law "Version" "2" st))
 
@@ -88,54 +89,53 @@ pub ruleset unread-one = (unread-found, unread-missing, needs)
 -- ---- Some child of a name passes: a loop over children that is left at the first.
 
 module _ (s : String) (p : Element → Bool) where
-  some-one : (e : Element) (l : List Element) → any p (those (λ d. is s (nameOf d)) (e ∷ l)) ≡ ((is s (nameOf e) && p e) || any p (those (λ d. is s (nameOf d)) l))
+  some-one : (e : Element) (l : List Element)
+      → any p (those (λ d. is s (nameOf d)) (e ∷ l)) ≡ ((is s (nameOf e) && p e) || any p (those (λ d. is s (nameOf d)) l))
   unfolding any those
   some-one e l = go (is s (nameOf e))
     where
-      go : (b : Bool) → any p (cond b (e ∷ those (λ d. is s (nameOf d)) l) (those (λ d. is s (nameOf d)) l)) ≡ ((b && p e) || any p (those (λ d. is s (nameOf d)) l))
+      go : (b : Bool) → any p (cond b (e ∷ those (λ d. is s (nameOf d)) l) (those (λ d. is s (nameOf d)) l))
+          ≡ ((b && p e) || any p (those (λ d. is s (nameOf d)) l))
       go true = refl
       go false = refl
 
-  pub record Seeking (text : List ℕ) (at : ℕ) (kid : Kid) : Type 0 where
-    pub walk : Walk text kid
-    pub so-far : any p (children s (the text at)) ≡ any p (those (λ e. is s (nameOf e)) (kids text kid))
+  -- of those of the list that are ahead, as of all
+  pub record Sought (text : List ℕ) (at : ℕ) (l : List Element) : Type 0 where
+    pub so-far : any p (children s (the text at)) ≡ any p (those (λ e. is s (nameOf e)) l)
+
+  abbrev pub Seeking : List ℕ → ℕ → Kid → Type 0
+  Seeking text at kid = Along text (Sought text at) kid
 
   pub seek-start : {text : List ℕ} {at : ℕ} → Stands text at → {kid : Kid} → kid ≡ first text at → Seeking text at kid
   unfolding children
-  seek-start {text} {at} st e =
-      let go : Seeking text at (first text at) = record { walk = walk-children st; so-far = ap (λ l. any p (those (λ d. is s (nameOf d)) l)) (sym (kids-children st)) } in
-      rw e go
+  seek-start st e = along-start st (record { so-far = refl }) e
 
   module _ {text : List ℕ} {at : ℕ} {kid : Kid} (go : Seeking text at kid) where
     pub seek-done : kid ≡ Done → false ≡ any p (children s (the text at))
     unfolding any those
-    seek-done e = sym (go .so-far ∙ ap (λ l. any p (those (λ d. is s (nameOf d)) l)) (walk-none (go .walk) e))
+    seek-done e = sym (along-done go e .so-far)
 
     module _ {k : ℕ} (is-child : kid ≡ Child k) where
-      turn : Turn text k
-      turn = turn-at (go .walk) is-child
-
       pub seek-stands : Stands text k
-      seek-stands = turn .stands
+      seek-stands = along-stands go is-child
 
       pub seek-less : {kid₁ : Kid} → kid₁ ≡ next text k → left text kid₁ < left text kid
-      seek-less e = rw e (turn-falls (go .walk) is-child)
-
-      split : any p (children s (the text at)) ≡ ((is s (nameOf (the text k)) && p (the text k)) || any p (those (λ d. is s (nameOf d)) (kids text (next text k))))
-      split = go .so-far ∙ ap (λ l. any p (those (λ d. is s (nameOf d)) l)) (turn-splits (go .walk) is-child) ∙ some-one (the text k) (kids text (next text k))
+      seek-less = along-less go is-child
 
       module _ {b : Bool} (nm : b ≡ named text k (ascii s)) where
-        name : b ≡ is s (nameOf (the text k))
-        name = nm ∙ name-is-law s (turn .stands)
+        split : (l : List Element) → Sought text at (the text k ∷ l)
+            → any p (children s (the text at)) ≡ ((b && p (the text k)) || any p (those (λ d. is s (nameOf d)) l))
+        split l h = rw (nm ∙ name-is-law s seek-stands) (h .so-far ∙ some-one (the text k) l)
 
         pub seek-other : b ≡ false → {kid₁ : Kid} → kid₁ ≡ next text k → Seeking text at kid₁
-        seek-other f e = rw e (record { walk = turn .then; so-far = rw (sym name ∙ f) at split })
+        seek-other f = along-next go is-child (λ l h. record { so-far = rw f at (split l h) })
 
-        pub seek-found : b ≡ true → {c : Bool} → c ≡ p (the text k) → c ≡ true → true ≡ any p (children s (the text at))
-        seek-found t q r = sym (rw (sym name ∙ t, sym q ∙ r) at split)
+        module _ (t : b ≡ true) {c : Bool} (q : c ≡ p (the text k)) where
+          pub seek-found : c ≡ true → true ≡ any p (children s (the text at))
+          seek-found r = sym (rw (t, sym q ∙ r) at (split _ (along-here go is-child)))
 
-        pub seek-missed : b ≡ true → {c : Bool} → c ≡ p (the text k) → c ≡ false → {kid₁ : Kid} → kid₁ ≡ next text k → Seeking text at kid₁
-        seek-missed t q r e = rw e (record { walk = turn .then; so-far = rw (sym name ∙ t, sym q ∙ r) at split })
+          pub seek-missed : c ≡ false → {kid₁ : Kid} → kid₁ ≡ next text k → Seeking text at kid₁
+          seek-missed r = along-next go is-child (λ l h. record { so-far = rw (t, sym q ∙ r) at (split l h) })
 
 -- all maps, matrix after matrix
 not-read-by : (e : Element) → kindNotRead e ≡ any anyNotRead (children "Matrix" e)
@@ -162,16 +162,19 @@ none-unread : any caseUnread mapKinds ≡ false
 unfolding any caseUnread isUnread mapKinds is same
 none-unread = refl
 
-chosen-in : (l : List (Case ElementKind)) (v : Word) {k : ElementKind} → kindAmong l v ≡ some k → any caseUnread l ≡ false → isUnread v ≡ false
+chosen-in : (l : List (Case ElementKind)) (v : Word) {k : ElementKind} → kindAmong l v ≡ some k → any caseUnread l ≡ false
+    → isUnread v ≡ false
 unfolding kindAmong any caseUnread
 chosen-in [] v h n = never-some h
 chosen-in ((s ⇒ j) ∷ l) v {k} h n = go (is s v) refl h (λ q. chosen-in l v q (or-right (isUnread (ascii s)) _ n))
   where
-    go : (b : Bool) → is s v ≡ b → cond b (some j) (kindAmong l v) ≡ some k → (kindAmong l v ≡ some k → isUnread v ≡ false) → isUnread v ≡ false
+    go : (b : Bool) → is s v ≡ b → cond b (some j) (kindAmong l v) ≡ some k → (kindAmong l v ≡ some k → isUnread v ≡ false)
+        → isUnread v ≡ false
     go true x q ih = rw (is-word s v x) (or-left _ _ n)
     go false x q ih = ih q
 
-chosen-read : (v : Word) {k : ElementKind} → kindChosen mapKinds (some v) ≡ some k → (is "CIFTI_INDEX_TYPE_PARCELS" v || is "CIFTI_INDEX_TYPE_LABELS" v) ≡ false
+chosen-read : (v : Word) {k : ElementKind} → kindChosen mapKinds (some v) ≡ some k
+    → (is "CIFTI_INDEX_TYPE_PARCELS" v || is "CIFTI_INDEX_TYPE_LABELS" v) ≡ false
 unfolding kindChosen isUnread
 chosen-read v h = chosen-in mapKinds v h none-unread
 
@@ -179,14 +182,18 @@ map-read : (e : Element) → GoodAs matrixRows e → is "MatrixIndicesMap" (name
 unfolding notRead
 map-read e (good-as q g) n =
     let w = map-word e q n in
-    rw (has-value "IndicesMapToDataType" "CIFTI_INDEX_TYPE_PARCELS" e (w .word) (w .said), has-value "IndicesMapToDataType" "CIFTI_INDEX_TYPE_LABELS" e (w .word) (w .said)) (chosen-read (w .word) (w .chooses))
+    rw (
+      has-value "IndicesMapToDataType" "CIFTI_INDEX_TYPE_PARCELS" e (w .word) (w .said),
+      has-value "IndicesMapToDataType" "CIFTI_INDEX_TYPE_LABELS" e (w .word) (w .said),
+    ) (chosen-read (w .word) (w .chooses))
 
 maps-read : (l : List Element) → AllGood matrixRows l → any notRead (those (λ e. is "MatrixIndicesMap" (nameOf e)) l) ≡ false
 unfolding any those
 maps-read [] none-left = refl
 maps-read (e ∷ l) (one-good h m) = some-one "MatrixIndicesMap" notRead e l ∙ go (is "MatrixIndicesMap" (nameOf e)) refl (maps-read l m)
   where
-    go : (b : Bool) → is "MatrixIndicesMap" (nameOf e) ≡ b → any notRead (those (λ d. is "MatrixIndicesMap" (nameOf d)) l) ≡ false → ((b && notRead e) || any notRead (those (λ d. is "MatrixIndicesMap" (nameOf d)) l)) ≡ false
+    go : (b : Bool) → is "MatrixIndicesMap" (nameOf e) ≡ b → any notRead (those (λ d. is "MatrixIndicesMap" (nameOf d)) l) ≡ false
+        → ((b && notRead e) || any notRead (those (λ d. is "MatrixIndicesMap" (nameOf d)) l)) ≡ false
     go true n ih = rw (map-read e h n, ih)
     go false n ih = ih
 

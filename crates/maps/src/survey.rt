@@ -1,5 +1,8 @@
 use super::dims::Dims;
 use cifti::Kind;
+ghost use mathlib.Core.Path.{_≡_};
+ghost use Rattle.maps.specs.Ready.{no-note};
+ghost use Rattle.maps.specs.Over.{noteAt};
 
 // Whether a Volume was met, and where the first begins.
 pub struct Seen {
@@ -28,4 +31,30 @@ pub struct Measure {
     pub length: u64,
     pub volume: Seen,
     pub behind: usize,
+}
+
+pub fn no_note() -> MapNote
+    ensures { λ r. ⌜ r ≡ no-note ⌝ }
+{
+    MapNote {
+        at: 0,
+        behind: 0,
+        kind: Kind::None,
+        lists: Dims { has: [0; 10] },
+        length: 0,
+        volume: Seen {
+            found: false,
+            at: 0,
+        },
+    }
+}
+
+// What is noted of the i-th map, nothing where there is none.
+pub fn nth(maps: Maps, i: usize) -> MapNote
+    ensures { λ r. ⌜ r ≡ noteAt maps i ⌝ }
+{
+    if i < 3 {
+        return maps.each[i];
+    }
+    no_note()
 }

@@ -1,15 +1,15 @@
 // Elements and their contents: the reader of each calls the other's. Siblings are a loop, so the stack is as deep as the elements.
-use super::pieces::Between;
 use super::pieces::between_end;
-use super::tags::Opened;
 use super::tags::closing_end;
 use super::tags::open_end;
-use tokens::Step;
+use steps::Step;
+use steps::pieces::Between;
+use steps::tags::Opened;
 ghost use mathlib.Core.Path.{_≡_};
 ghost use lib.ListN.{length, drop};
 ghost use Rattle.grammar.specs.Parser.{element-at};
 ghost use Rattle.grammar.specs.Unfuelled.{contents};
-ghost use Rattle.tokens.specs.Step.{stepped};
+ghost use Rattle.steps.specs.Step.{stepped};
 
 // An element that is at most `depth` deep.
 fn element_end(text: &[u8], at: usize, depth: usize) -> Step

@@ -2,13 +2,17 @@
 use self::elements::whole_end;
 use self::prolog::asides_end;
 use self::prolog::root_start;
-use tokens::Step;
-ghost use Rattle.markup.specs.WellFormed.{WellFormed};
+use steps::Step;
+ghost use Rattle.steps.specs.WellFormed.{WellFormed};
 
-pub mod elements;
+// What stands between the tags.
 pub mod pieces;
-pub mod prolog;
+// Start tags and end tags.
 pub mod tags;
+// Elements and their contents, which call each other.
+pub mod elements;
+// What stands before the root and behind it.
+pub mod prolog;
 
 // Whether some document is written by the text.
 pub fn well_formed(text: &[u8]) -> bool

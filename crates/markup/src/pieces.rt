@@ -1,32 +1,19 @@
 // What stands between the tags in contents: characters and comments.
-use tokens::Step;
-use tokens::blanks::starts;
-use tokens::characters::character_end;
-use tokens::characters::reference_end;
-use tokens::comments::comment_end;
+use heads::characters::character_end;
+use heads::characters::reference_end;
+use heads::comments::comment_end;
+use letters::blanks::starts;
+use steps::Step;
+use steps::pieces::Between;
+use steps::pieces::Front;
 ghost use mathlib.Core.Path.{_≡_};
 ghost use Prim.Native.Nat.{_<_};
 ghost use lib.ListN.{length, drop, getD};
 ghost use Rattle.grammar.specs.Read.{span};
 ghost use Rattle.grammar.specs.Parser.{look, text-at};
-ghost use Rattle.tokens.specs.Step.{stepped};
-ghost use Rattle.markup.specs.Row.{piece-at, pieces-at};
-ghost use Rattle.markup.specs.Pieces.{plain, front, halted, between};
-
-// What stands at the front of contents.
-pub enum Front {
-    Close,
-    Comment,
-    Start,
-    Text,
-}
-
-// Where characters and comments end: before an end tag or the end of the text, before a start tag, or nowhere.
-pub enum Between {
-    Close(usize),
-    Start(usize),
-    Bad,
-}
+ghost use Rattle.steps.specs.Step.{stepped};
+ghost use Rattle.steps.specs.Row.{piece-at, pieces-at};
+ghost use Rattle.steps.specs.Pieces.{plain, front, halted, stoppedBy};
 
 pub fn front_at(text: &[u8], at: usize) -> Front
     ensures { λ r. ⌜ r ≡ front (look (drop at (now (text .entry)))) ⌝ }
@@ -144,7 +131,7 @@ fn halt_at(text: &[u8], at: usize) -> Between
 
 // Characters and comments, as far as they go.
 pub fn between_end(text: &[u8], at: usize) -> Between
-    ensures { λ r. ⌜ r ≡ between (length (now (text .entry))) (pieces-at (drop at (now (text .entry)))) ⌝ }
+    ensures { λ r. ⌜ r ≡ stoppedBy (length (now (text .entry))) (pieces-at (drop at (now (text .entry)))) ⌝ }
 {
     let mut i = at;
     loop {

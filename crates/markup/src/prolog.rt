@@ -1,18 +1,18 @@
 // What stands round the root: the declaration, blanks and comments.
-use tokens::Step;
-use tokens::blanks::asks;
-use tokens::blanks::blanks_end;
-use tokens::blanks::equals_end;
-use tokens::blanks::gap_end;
-use tokens::blanks::mark_end;
-use tokens::blanks::starts;
-use tokens::classes::is_quote;
-use tokens::comments::comment_end;
+use heads::comments::comment_end;
+use letters::blanks::asks;
+use letters::blanks::blanks_end;
+use letters::blanks::equals_end;
+use letters::blanks::gap_end;
+use letters::blanks::mark_end;
+use letters::blanks::starts;
+use letters::classes::is_quote;
+use steps::Step;
 ghost use mathlib.Core.Path.{_≡_};
 ghost use lib.ListN.{length, drop};
 ghost use Rattle.grammar.specs.Parser.{declaration-at, setting-at};
-ghost use Rattle.tokens.specs.Step.{stepped};
-ghost use Rattle.markup.specs.Prologue.{asides-at, prologue-at, quoted-at, encoding-at};
+ghost use Rattle.steps.specs.Step.{stepped};
+ghost use Rattle.steps.specs.Prologue.{asides-at, prologue-at, quoted-at, encoding-at};
 
 // Blanks and comments.
 pub fn asides_end(text: &[u8], at: usize) -> Step
@@ -62,7 +62,8 @@ fn quoted_end(text: &[u8], at: usize, value: &[u8]) -> Step
 
 // `key="value"`, with the blanks before it.
 fn setting_end(text: &[u8], at: usize, key: &[u8], value: &[u8]) -> Step
-    ensures { λ r. ⌜ r ≡ stepped (length (now (text .entry))) (setting-at (now (key .entry)) (now (value .entry)) (drop at (now (text .entry)))) ⌝ }
+    ensures { λ r. ⌜ r ≡ stepped (length (now (text .entry)))
+        (setting-at (now (key .entry)) (now (value .entry)) (drop at (now (text .entry)))) ⌝ }
 {
     match gap_end(text, at) {
         Step::To(i) => match mark_end(text, i, key) {

@@ -1,22 +1,16 @@
 // Start tags and end tags.
-use tokens::Step;
-use tokens::attributes::head_end;
-use tokens::blanks::blanks_end;
-use tokens::blanks::mark_end;
-use tokens::names::name_end;
+use heads::attributes::head_end;
+use letters::blanks::blanks_end;
+use letters::blanks::mark_end;
+use letters::names::name_end;
+use steps::Step;
+use steps::tags::Opened;
 ghost use mathlib.Core.Path.{_≡_};
 ghost use Prim.Native.Nat.{_+_};
 ghost use lib.ListN.{length, drop};
-ghost use Rattle.tokens.specs.Step.{stepped};
-ghost use Rattle.tokens.specs.Keys.{head-at};
-ghost use Rattle.markup.specs.Tags.{opened, close-at, closing-at};
-
-// How a start tag ends: the contents begin there, the element is empty and ends there, or no tag stands there.
-pub enum Opened {
-    Full(usize),
-    Empty(usize),
-    Bad,
-}
+ghost use Rattle.steps.specs.Step.{stepped};
+ghost use Rattle.steps.specs.Keys.{head-at};
+ghost use Rattle.steps.specs.Tags.{opened, close-at, closing-at};
 
 // A start tag, or the tag of an empty element.
 pub fn open_end(text: &[u8], at: usize) -> Opened
@@ -49,7 +43,8 @@ pub fn close_end(text: &[u8], at: usize, name: &[u8]) -> Step
 
 // The end tag at `at` of the element whose start tag begins at `from`.
 pub fn closing_end(text: &[u8], from: usize, at: usize) -> Step
-    ensures { λ r. ⌜ r ≡ stepped (length (now (text .entry))) (closing-at (drop (from + 1) (now (text .entry))) (drop at (now (text .entry)))) ⌝ }
+    ensures { λ r. ⌜ r ≡ stepped (length (now (text .entry)))
+        (closing-at (drop (from + 1) (now (text .entry))) (drop at (now (text .entry)))) ⌝ }
 {
     if text.len() <= from {
         return Step::No;

@@ -11,8 +11,8 @@ use Rattle.grammar.specs.Look.{children}
 use Rattle.nodes.specs.Places.{the}
 use Rattle.cifti.specs.Maps.{modelOf, mapOf}
 use Rattle.cifti.specs.Conditions.{alike}
-use Rattle.maps.specs.Fields.{wordAt, numberSeen}
-use Rattle.models.specs.Kind.{kindNumber, ModelAt}
+use Rattle.maps.specs.Fields.{attributeWord, numberSeen}
+use Rattle.models.specs.Kind.{typeAndStructure, ModelAt}
 use Rattle.models.specs.declared.gather.Models.{Models}
 
 -- one of them: where it begins, its offset, its length, its kind
@@ -20,7 +20,7 @@ pub record Holds (text : List ℕ) (at offset size kind : ℕ) : Type 0 where
   pub model : ModelAt text at
   pub offset-is : offset ≡ (modelOf (the text at)) .offset
   pub length-is : size ≡ (modelOf (the text at)) .count
-  pub kind-is : kind ≡ kindNumber (modelOf (the text at))
+  pub kind-is : kind ≡ typeAndStructure (modelOf (the text at))
 
 -- the i-th of those that are gathered
 abbrev pub HoldsAt : List ℕ → Models → ℕ → Type 0
@@ -55,10 +55,10 @@ pub record Room (text : List ℕ) (at : ℕ) (m : Models) : Type 0 where
   pub left : m .count < 64
 
 abbrev pub offsetSeen : List ℕ → ℕ → ℕ
-offsetSeen text at = numberSeen 0 1048576 (wordAt (ascii "IndexOffset") (the text at))
+offsetSeen text at = numberSeen 0 1048576 (attributeWord (ascii "IndexOffset") (the text at))
 
 abbrev pub lengthSeen : List ℕ → ℕ → ℕ
-lengthSeen text at = numberSeen 1 1048576 (wordAt (ascii "IndexCount") (the text at))
+lengthSeen text at = numberSeen 1 1048576 (attributeWord (ascii "IndexCount") (the text at))
 
 abbrev pub withModel : Models → (at offset size kind : ℕ) → Models
 withModel m at offset size kind = record {

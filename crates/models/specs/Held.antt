@@ -7,17 +7,17 @@ use native.Mathlib.Omega.{arith}
 use lib.Dec.{eqb}
 use lib.ListN.{length, getD}
 use Rattle.lists.specs.Lists.{table, each, count, total, allBelow}
-use Rattle.lists.specs.Laws.{count-each, total-each}
+use Rattle.lists.specs.Laws.Lists.{count-each, total-each}
 use Rattle.lists.specs.Ranges.{Range, holds, inRange, sumOf, tiling, counting-up}
 use Rattle.grammar.specs.Look.{attr}
 use Rattle.nodes.specs.Places.{the}
 use Rattle.numbers.specs.Numbers.{value}
 use Rattle.cifti.specs.Maps.{Model, modelOf, mapOf, lengthOf, covers}
-use Rattle.maps.specs.Chain.{Counting}
-use Rattle.maps.specs.Kinds.{model-facts}
+use Rattle.maps.specs.Laws.Chain.{Counting}
+use Rattle.maps.specs.Laws.Kinds.{model-facts}
 use Rattle.models.specs.Brain.{BrainAt, map-models, brain-sum, whole-within}
 use Rattle.models.specs.Gathered.{HoldsAt, gathered, Sized, Gathered}
-use Rattle.models.specs.Tables.{each-take, each-table, table-below, size-of-table, entry-of-table}
+use Rattle.lists.specs.Laws.Tables.{each-take, each-table, table-below, size-of-table, entry-of-table}
 use Rattle.models.specs.Ranges.{ranging, rangeOf, rangesOf, Ranged}
 use Rattle.models.specs.declared.gather.Models.{Models}
 
@@ -46,7 +46,8 @@ module _ {text : List ℕ} {map : ℕ} {m : Models} (h : BrainHeld text map m) w
   unfolding gathered modelsAt modelAt
   held-models =
       map-models (the text map)
-      ∙ ap (each modelOf) (sym (h .held .all-of-them) ∙ each-take (the text) (m .at) (m .count) (omega (arith, h .held .sized .few, h .held .sized .at-64)))
+      ∙ ap (each modelOf) (sym (h .held .all-of-them)
+      ∙ each-take (the text) (m .at) (m .count) (omega (arith, h .held .sized .few, h .held .sized .at-64)))
       ∙ each-table modelOf (λ k. the text (getD (m .at) k 0)) (m .count)
 
   pub held-count : length ((mapOf (the text map)) .models) ≡ m .count
@@ -67,7 +68,8 @@ held-ranged {text} {m} h = record {
   most = λ i u. (let x = h .holds i u in let w = limits i u .1 in omega (arith, x .length-is));
 }
   where
-    limits : (i : ℕ) → i < m .count → (1 ≤ value (attr "IndexCount" (the text (getD (m .at) i 0)))) × (value (attr "IndexCount" (the text (getD (m .at) i 0))) ≤ 1048576)
+    limits : (i : ℕ) → i < m .count → (1 ≤ value (attr "IndexCount" (the text (getD (m .at) i 0))))
+        × (value (attr "IndexCount" (the text (getD (m .at) i 0))) ≤ 1048576)
     limits i u = whole-within 1 1048576 (attr "IndexCount" (the text (getD (m .at) i 0))) (model-facts (h .holds i u .model .good) .count)
 
 -- the range of a model
@@ -100,14 +102,16 @@ held-plain {text} {m} h =
     ∙ sym (each-table plain (λ i. modelOf (the text (getD (m .at) i 0))) (m .count))
 
 -- the sum of their counts is the map's length, and each counts one index at least
-pub held-total : {text : List ℕ} {map : ℕ} {m : Models} → BrainHeld text map m → lengthOf (mapOf (the text map)) ≡ total (λ x. x .count) ((mapOf (the text map)) .models)
+pub held-total : {text : List ℕ} {map : ℕ} {m : Models} → BrainHeld text map m
+    → lengthOf (mapOf (the text map)) ≡ total (λ x. x .count) ((mapOf (the text map)) .models)
 held-total {text} {map} h = brain-sum (the text map) (h .brain .is-brain)
 
 pub held-counting : {text : List ℕ} {map : ℕ} {m : Models} → BrainHeld text map m → Counting ((mapOf (the text map)) .models)
 unfolding modelsAt modelAt table
 held-counting {text} {map} {m} h =
     rw (held-models h) (counting-up (λ (x : Model). x .count) (λ i. modelOf (the text (getD (m .at) i 0))) 0 (m .count)
-    (λ k u v. (let x = h .held .holds k (omega arith) in let w = held-ranged (holding (h .held)) .least k (omega arith) in omega (arith, x .length-is))))
+    (λ k u v. (let x = h .held .holds k (omega arith) in let w = held-ranged (holding (h .held)) .least k (omega arith) in
+    omega (arith, x .length-is))))
 
 pub held-tiling : {text : List ℕ} {map : ℕ} {m : Models} → BrainHeld text map m
     → tiling (rangesOf m) ≡ allBelow (lengthOf (mapOf (the text map))) (λ n. eqb (count (covers n) ((mapOf (the text map)) .models)) 1)

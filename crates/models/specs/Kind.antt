@@ -11,7 +11,7 @@ use Rattle.grammar.specs.Look.{attr}
 use Rattle.nodes.specs.Places.{Stands, the}
 use Rattle.cifti.specs.Maps.{Listed, vertices, voxels, Model, modelOf}
 use Rattle.cifti.specs.Conditions.{sameType, alike}
-use Rattle.maps.specs.Kinds.{GoodModel, model-facts}
+use Rattle.maps.specs.Laws.Kinds.{GoodModel, model-facts}
 use Rattle.models.specs.Structures.{structure-below}
 
 -- 32 for voxels, and the structure's number
@@ -19,8 +19,8 @@ unfoldable pub typeNumber : Listed → ℕ
 typeNumber (vertices n l) = 0
 typeNumber (voxels l) = 32
 
-unfoldable pub kindNumber : Model → ℕ
-kindNumber m = typeNumber (m .listed) + m .structure
+unfoldable pub typeAndStructure : Model → ℕ
+typeAndStructure m = typeNumber (m .listed) + m .structure
 
 pub record ModelAt (text : List ℕ) (at : ℕ) : Type 0 where
   pub stands : Stands text at
@@ -35,18 +35,21 @@ eqb-same a b c d f g = go (eqb a b) refl
     go true e = sym (eq-eqb c d (f (eqb-true a b e)))
     go false e = sym (ne-eqb c d (λ z. eqb-false a b e (g z)))
 
-pub alike-number : (a b : Model) → a .structure < 32 → b .structure < 32 → alike a b ≡ eqb (kindNumber a) (kindNumber b)
-unfolding alike kindNumber sameType typeNumber
+pub alike-number : (a b : Model) → a .structure < 32 → b .structure < 32 → alike a b ≡ eqb (typeAndStructure a) (typeAndStructure b)
+unfolding alike typeAndStructure sameType typeNumber
 alike-number a b h k = go (a .listed) (b .listed)
   where
     apart : (x y : ℕ) → (x ≡ y → ⊥) → false ≡ eqb x y
     apart x y f = sym (ne-eqb x y f)
 
-    go : (p q : Listed) → (sameType p q && eqb (a .structure) (b .structure)) ≡ eqb (typeNumber p + a .structure) (typeNumber q + b .structure)
-    go (vertices n l) (vertices m j) = eqb-same (a .structure) (b .structure) (0 + a .structure) (0 + b .structure) (λ e. omega arith) (λ e. omega arith)
+    go : (p q : Listed) → (sameType p q && eqb (a .structure) (b .structure))
+        ≡ eqb (typeNumber p + a .structure) (typeNumber q + b .structure)
+    go (vertices n l) (vertices m j) = eqb-same (a .structure) (b .structure) (0 + a .structure) (0 + b .structure) (λ e. omega arith)
+        (λ e. omega arith)
     go (vertices n l) (voxels j) = apart (0 + a .structure) (32 + b .structure) (λ e. omega arith)
     go (voxels l) (vertices m j) = apart (32 + a .structure) (0 + b .structure) (λ e. omega arith)
-    go (voxels l) (voxels j) = eqb-same (a .structure) (b .structure) (32 + a .structure) (32 + b .structure) (λ e. omega arith) (λ e. omega arith)
+    go (voxels l) (voxels j) = eqb-same (a .structure) (b .structure) (32 + a .structure) (32 + b .structure) (λ e. omega arith)
+        (λ e. omega arith)
 
 -- ---- Of a good model.
 
@@ -59,6 +62,6 @@ unfolding typeNumber
 type-small (vertices n l) = omega arith
 type-small (voxels l) = omega arith
 
-pub kind-small : {e : Element} → GoodModel e → kindNumber (modelOf e) < 64
-unfolding kindNumber
+pub kind-small : {e : Element} → GoodModel e → typeAndStructure (modelOf e) < 64
+unfolding typeAndStructure
 kind-small {e} g = omega (arith, structure-small g, type-small ((modelOf e) .listed))

@@ -9,13 +9,13 @@ use lib.ListN.{drop}
 use Rattle.lists.specs.Lists.{all, eachIn, those}
 use Rattle.grammar.specs.Bytes.{between}
 use Rattle.grammar.specs.Document.{Element}
-use Rattle.grammar.specs.Facts.{and-left, and-right}
+use Rattle.grammar.specs.Laws.Facts.{and-left, and-right}
 use Rattle.grammar.specs.Look.{Word, attr, contentsOf, elements, children, textOf}
 use Rattle.numbers.specs.Numbers.{digits, value, whole, wholes, words, values}
 use Rattle.nodes.specs.Places.{the}
-use Rattle.nodes.specs.Children.{first, next}
-use Rattle.nodes.specs.Walk.{kids, Walk, walk-children, kids-children, walk-none, turn-at, turn-splits}
-use Rattle.nodes.specs.Says.{says}
+use Rattle.nodes.specs.Children.{first}
+use Rattle.nodes.specs.Laws.Along.{Along, along-start, along-done, along-stands, along-here}
+use Rattle.nodes.specs.TextBytes.{says}
 use Rattle.nodes.specs.Texts.{inside, text-from, text-of, text-law}
 use Rattle.nodes.specs.declared.Kid.{Kid}
 use Rattle.nodes.specs.declared.Kid.the-variants.{Child, Done}
@@ -23,8 +23,9 @@ use Rattle.nodes.specs.declared.Found.{Found}
 use Rattle.nodes.specs.declared.Found.the-variants.{At, Nothing}
 use Rattle.cifti.specs.Rows.{ElementKind}
 use Rattle.cifti.specs.Maps.{Listed, vertices, voxels, modelOf, listedBy}
-use Rattle.maps.specs.Kinds.{GoodModel, surface-model, voxel-model, OnlyChild, surface-child, voxels-child, vertex-list, voxel-list, surface-size}
-use Rattle.models.specs.Kind.{ModelAt, kindNumber}
+use Rattle.maps.specs.Laws.Kinds.{GoodModel, surface-model, voxel-model, OnlyChild, surface-child, voxels-child, vertex-list, voxel-list}
+use Rattle.maps.specs.Laws.Kinds.{surface-size}
+use Rattle.models.specs.Kind.{ModelAt, typeAndStructure}
 use Rattle.models.specs.Numbers.{valuesAt, InForm}
 
 -- the numbers that are listed
@@ -44,11 +45,13 @@ wholes-digits n (w ∷ l) h =
 
 pub data Lists (e : Element) : Type 0 where
   lists-vertices : (one : Element) → elements (contentsOf e) ≡ one ∷ [] → all (digits 1 7) (words (textOf one)) ≡ true
-      → listedBy e ≡ vertices (value (attr "SurfaceNumberOfVertices" e)) (values (textOf one)) → whole 1 1048576 (attr "SurfaceNumberOfVertices" e) ≡ true → Lists e
+      → listedBy e ≡ vertices (value (attr "SurfaceNumberOfVertices" e)) (values (textOf one))
+      → whole 1 1048576 (attr "SurfaceNumberOfVertices" e) ≡ true → Lists e
   lists-voxels : (one : Element) → elements (contentsOf e) ≡ one ∷ [] → all (digits 1 7) (words (textOf one)) ≡ true
       → listedBy e ≡ voxels (values (textOf one)) → Lists e
 
-only-text : (s : String) (k : ElementKind) (e : Element) (o : OnlyChild s k (elements (contentsOf e))) → eachIn (λ d. values (textOf d)) (children s e) ≡ values (textOf (o .one))
+only-text : (s : String) (k : ElementKind) (e : Element) (o : OnlyChild s k (elements (contentsOf e)))
+    → eachIn (λ d. values (textOf d)) (children s e) ≡ values (textOf (o .one))
 unfolding children those eachIn
 only-text s k e o = rw (o .alone, o .name) (append-nil (values (textOf (o .one))))
 
@@ -60,7 +63,8 @@ model-lists {e} (surface-model g h) =
     (rw h (ap (vertices (value (attr "SurfaceNumberOfVertices" e))) (only-text "VertexIndices" _ e o))) (surface-size g)
 model-lists {e} (voxel-model g h) =
     let o = voxels-child g in
-    lists-voxels (o .one) (o .alone) (wholes-digits 4095 (words (textOf (o .one))) (voxel-list (o .good))) (rw h (ap voxels (only-text "VoxelIndicesIJK" _ e o)))
+    lists-voxels (o .one) (o .alone) (wholes-digits 4095 (words (textOf (o .one))) (voxel-list (o .good)))
+    (rw h (ap voxels (only-text "VoxelIndicesIJK" _ e o)))
 
 -- its only child, and what that says
 pub record OnlyText (e : Element) : Type 0 where
@@ -83,6 +87,10 @@ pub record ListAt (text : List ℕ) (at : ℕ) (f : Found) : Type 0 where
   pub form : all (digits 1 7) (words (text-from text f)) ≡ true
   pub numbers : values (text-from text f) ≡ numbersOf ((modelOf (the text at)) .listed)
 
+-- what is answered where a model stands
+pub record StartOf (text : List ℕ) (at : ℕ) (f : Found) : Type 0 where
+  pub told : ModelAt text at → ListAt text at f
+
 pub listed-is : (e : Element) → (modelOf e) .listed ≡ listedBy e
 unfolding modelOf
 listed-is e = refl
@@ -91,23 +99,20 @@ module _ {text : List ℕ} {at : ℕ} (m : ModelAt text at) {kid : Kid} (e : kid
   only : OnlyText (the text at)
   only = model-text (m .good)
 
-  walk : Walk text kid
-  walk = rw e (walk-children (m .stands))
-
-  one-kid : kids text kid ≡ only .one ∷ []
-  one-kid = ap (kids text) e ∙ kids-children (m .stands) ∙ only .alone
+  go : Along text (λ l. l ≡ only .one ∷ []) kid
+  go = along-start (m .stands) (only .alone) e
 
   pub list-none : kid ≡ Done → ListAt text at Nothing
-  list-none q = absurd (let z : _≡_ {A = List Element} [] (only .one ∷ []) = sym (walk-none walk q) ∙ one-kid in let y : _≡_ {A = ℕ} 0 1 = cc in omega arith)
+  list-none q = absurd (let z = along-done go q in let y : _≡_ {A = ℕ} 0 1 = cc in omega arith)
 
   module _ {k : ℕ} (q : kid ≡ Child k) where
     there : the text k ≡ only .one
-    there = let z : the text k ∷ kids text (next text k) ≡ only .one ∷ [] = sym (turn-splits walk q) ∙ one-kid in cc
+    there = let z = along-here go q in cc
 
     pub list-there : {f : Found} → f ≡ inside text k → ListAt text at f
     unfolding text-of
     list-there {f} x =
-        let t : text-from text f ≡ textOf (only .one) = ap (text-from text) x ∙ text-law (turn-at walk q .stands) ∙ ap textOf there in
+        let t : text-from text f ≡ textOf (only .one) = ap (text-from text) x ∙ text-law (along-stands go q) ∙ ap textOf there in
         record {
           form = rw t (only .form);
           numbers = ap values t ∙ sym (only .numbers) ∙ ap numbersOf (sym (listed-is (the text at)));
@@ -118,7 +123,7 @@ module _ {text : List ℕ} {at : ℕ} (m : ModelAt text at) {kid : Kid} (e : kid
 pub record Known (text : List ℕ) (at size kind : ℕ) : Type 0 where
   pub model : ModelAt text at
   pub length-is : size ≡ (modelOf (the text at)) .count
-  pub kind-is : kind ≡ kindNumber (modelOf (the text at))
+  pub kind-is : kind ≡ typeAndStructure (modelOf (the text at))
 
 pub from-at : (text : List ℕ) (i : ℕ) → text-from text (At i) ≡ says (drop i text)
 unfolding text-from

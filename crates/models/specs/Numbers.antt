@@ -6,11 +6,11 @@ use Prim.Native.Nat.{ℕ, _<_, _≤_}
 use native.Mathlib.Omega.{arith}
 use lib.ListN.{length, drop}
 use Rattle.lists.specs.Lists.{all, each}
-use Rattle.grammar.specs.Facts.{and-left, and-right}
-use Rattle.nodes.specs.Says.{says}
+use Rattle.grammar.specs.Laws.Facts.{and-left, and-right}
+use Rattle.nodes.specs.TextBytes.{says}
 use Rattle.numbers.specs.Numbers.{digits, value, words, values}
 use Rattle.numbers.specs.Answers.{nextNumber}
-use Rattle.numbers.specs.Walk.{Handed, number-law, end-law, bad-law}
+use Rattle.numbers.specs.Laws.Walk.{Handed, number-law, end-law, bad-law}
 use Rattle.numbers.specs.declared.Next.{Next}
 use Rattle.numbers.specs.declared.Next.the-variants.{Number, End, Bad}
 use Rattle.models.specs.declared.listing.Triple.{Triple}
@@ -71,7 +71,11 @@ pub data Threes (text : List ℕ) (at : ℕ) : Triple → Type 0 where
   none-ahead : valuesAt text at ≡ [] → Threes text at triple.End
   cut-ahead : CutShort (valuesAt text at) → Threes text at triple.Cut
 
--- what a reader of voxels answers, by answer
+-- what a reader of voxels answers where the numbers are in form
+pub record NextVoxel (text : List ℕ) (at : ℕ) (r : Triple) : Type 0 where
+  pub told : InForm text at → Threes text at r
+
+-- by answer
 module _ {text : List ℕ} {at : ℕ} {r : Triple} (e : Threes text at r) where
   pub voxel-passes : {i j k behind : ℕ} → r ≡ triple.Voxel i j k behind → Passes3 text at i j k behind
   voxel-passes {i} {j} {k} {behind} q = go r e q

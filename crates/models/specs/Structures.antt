@@ -20,7 +20,8 @@ unfolding any numberIn
 number-below [] w h = let z : _≡_ {A = ℕ} 0 1 = cc in absurd (omega arith)
 number-below (s ∷ l) w h = go (is s w) h (number-below l w)
   where
-    go : (b : Bool) → (b || any (λ s. is s w) l) ≡ true → (any (λ s. is s w) l ≡ true → numberIn l w < length l) → cond b 0 (suc (numberIn l w)) < suc (length l)
+    go : (b : Bool) → (b || any (λ s. is s w) l) ≡ true → (any (λ s. is s w) l ≡ true → numberIn l w < length l)
+        → cond b 0 (suc (numberIn l w)) < suc (length l)
     go true k f = omega arith
     go false k f = omega (arith, f k)
 

@@ -1,4 +1,5 @@
--- What stands ahead in contents: behind comments and blanks (or, where words may stand, any characters) a child or the end tag. Total on any bytes.
+-- What stands ahead in contents: behind comments and blanks (or, where words may stand, any characters) a child or the end tag. Total
+-- on any bytes.
 use mathlib.Core.Path.{_≡_, refl, ap, _∙_}
 use mathlib.Core.List.{List, [], _++_}
 use Prim.Native.Nat.{ℕ, zero, suc, _-_, _≤_, _<_}
@@ -8,19 +9,19 @@ use lib.ListN.{length, drop, length-append}
 use Rattle.grammar.specs.Bytes.{blank, Each}
 use Rattle.grammar.specs.Read.{Read, fail, got, span, span-sound, Ok, good, ok-map}
 use Rattle.grammar.specs.Parser.{Look, at-close, at-comment, at-element, at-text, look, comment-at}
-use Rattle.nodes.specs.Deeper.{comment-eats}
+use Rattle.nodes.specs.Laws.Depth.{comment-eats}
 use Rattle.nodes.specs.Scan.{to-tag, to-tag-short, past-tag, tag-at}
 use Rattle.nodes.specs.declared.ahead.Ahead.{Ahead}
 use Rattle.nodes.specs.declared.ahead.Ahead.the-variants.{Child, End, Stray}
 
 -- what a gap is followed by: blanks alone, or all up to a `<`
-unfoldable pub behind : Read (List ℕ) → List ℕ
-behind fail = []
-behind (got w r) = r
+unfoldable pub afterGap : Read (List ℕ) → List ℕ
+afterGap fail = []
+afterGap (got w r) = r
 
 unfoldable pub past-gap : Bool → List ℕ → List ℕ
 past-gap true s = to-tag s
-past-gap false s = behind (span blank s)
+past-gap false s = afterGap (span blank s)
 
 unfoldable pub ending : ℕ → Read (Unit {0}) → Ahead
 ending n fail = Stray
@@ -52,8 +53,8 @@ first-by words n (got false r) = End (n - length r)
 unfoldable pub first-ahead : Bool → List ℕ → ℕ → Ahead
 first-ahead words text at = first-by words (length text) (tag-at (drop at text))
 
-behind-short : (s : List ℕ) (m : Read (List ℕ)) → Ok (λ w r. length r ≤ length s) m → length (behind m) ≤ length s
-unfolding behind
+behind-short : (s : List ℕ) (m : Read (List ℕ)) → Ok (λ w r. length r ≤ length s) m → length (afterGap m) ≤ length s
+unfolding afterGap
 behind-short s fail h = omega arith
 behind-short s (got w r) (good h) = h
 
@@ -66,31 +67,38 @@ gap-short false s = behind-short s (span blank s) (shorter (span-sound blank s))
     shorter h = ok-map h λ w r k. omega (arith, ap length (k .0), length-append w r)
 
 -- fuel changes nothing
-then-same : (m : Read (Unit {0})) (f g : List ℕ → Ahead) (s : List ℕ) → Ok (λ _ r. length r < length s) m → ((r : List ℕ) → length r < length s → f r ≡ g r) → ahead-then m f ≡ ahead-then m g
+then-same : (m : Read (Unit {0})) (f g : List ℕ → Ahead) (s : List ℕ) → Ok (λ _ r. length r < length s) m
+    → ((r : List ℕ) → length r < length s → f r ≡ g r) → ahead-then m f ≡ ahead-then m g
 unfolding ahead-then
 then-same fail f g s h k = refl
 then-same (got u r) f g s (good h) k = k r h
 
-by-same : (f g : List ℕ → Ahead) (l : Look) (n : ℕ) (s : List ℕ) → ((r : List ℕ) → length r < length s → f r ≡ g r) → ahead-by l f n s ≡ ahead-by l g n s
+by-same : (f g : List ℕ → Ahead) (l : Look) (n : ℕ) (s : List ℕ) → ((r : List ℕ) → length r < length s → f r ≡ g r)
+    → ahead-by l f n s ≡ ahead-by l g n s
 unfolding ahead-by
 by-same f g at-close n s h = refl
 by-same f g at-comment n s h = then-same (comment-at s) f g s (comment-eats s) h
 by-same f g at-element n s h = refl
 by-same f g at-text n s h = refl
 
-ahead-suc : (m : ℕ) (words : Bool) (n : ℕ) (s : List ℕ) → ahead-within (suc m) words n s ≡ ahead-by (look (past-gap words s)) (ahead-within m words n) n (past-gap words s)
+ahead-suc : (m : ℕ) (words : Bool) (n : ℕ) (s : List ℕ)
+    → ahead-within (suc m) words n s ≡ ahead-by (look (past-gap words s)) (ahead-within m words n) n (past-gap words s)
 unfolding ahead-within
 ahead-suc m words n s = refl
 
-ahead-enough : (m k : ℕ) (words : Bool) (n : ℕ) (s : List ℕ) → length s < m → length s < k → ahead-within m words n s ≡ ahead-within k words n s
+ahead-enough : (m k : ℕ) (words : Bool) (n : ℕ) (s : List ℕ) → length s < m → length s < k
+    → ahead-within m words n s ≡ ahead-within k words n s
 ahead-enough zero k words n s h j = absurd (omega arith)
 ahead-enough (suc m) zero words n s h j = absurd (omega arith)
 ahead-enough (suc m) (suc k) words n s h j =
     rw (ahead-suc m words n s, ahead-suc k words n s)
-    (by-same (ahead-within m words n) (ahead-within k words n) (look (past-gap words s)) n (past-gap words s) (λ r l. ahead-enough m k words n r (omega (arith, gap-short words s)) (omega (arith, gap-short words s))))
+    (by-same (ahead-within m words n) (ahead-within k words n) (look (past-gap words s)) n (past-gap words s)
+    (λ r l. ahead-enough m k words n r (omega (arith, gap-short words s)) (omega (arith, gap-short words s))))
 
-pub ahead-step : (words : Bool) (n : ℕ) (s : List ℕ) → ahead-at words n s ≡ ahead-by (look (past-gap words s)) (ahead-at words n) n (past-gap words s)
+pub ahead-step : (words : Bool) (n : ℕ) (s : List ℕ)
+    → ahead-at words n s ≡ ahead-by (look (past-gap words s)) (ahead-at words n) n (past-gap words s)
 unfolding ahead-at
 ahead-step words n s =
     ahead-suc (length s) words n s
-    ∙ by-same (ahead-within (length s) words n) (ahead-at words n) (look (past-gap words s)) n (past-gap words s) (λ r l. ahead-enough (length s) (suc (length r)) words n r (omega (arith, gap-short words s)) (omega arith))
+    ∙ by-same (ahead-within (length s) words n) (ahead-at words n) (look (past-gap words s)) n (past-gap words s)
+    (λ r l. ahead-enough (length s) (suc (length r)) words n r (omega (arith, gap-short words s)) (omega arith))

@@ -14,23 +14,24 @@ use Rattle.grammar.specs.Bytes.{ascii}
 use Rattle.grammar.specs.Document.{Attribute, attribute}
 use Rattle.grammar.specs.Grammar.{Gap, gap}
 use Rattle.grammar.specs.Look.{attributesOf, valueIn, is}
-use Rattle.grammar.specs.Read.{Read, fail, got, Reader, bind, _>>=_, _>>_, pure, test, all-of, many-step, Ok, good, ok-got, bind-ok, test-sound}
+use Rattle.grammar.specs.Read.{Read, fail, got, Reader, bind, _>>=_, _>>_, pure, test, all-of, many-step, Ok, good, ok-got, bind-ok}
+use Rattle.grammar.specs.Read.{test-sound}
 use Rattle.grammar.specs.Parser.{name-at, gap-at, equals-at, value-at, attribute-at, attributes-at, ends, closing, same, distinct}
-use Rattle.grammar.specs.Sound.{attribute-sound, gap-sound, name-sound, equals-sound, value-sound}
-use Rattle.grammar.specs.Tokens.{attribute-long}
+use Rattle.grammar.specs.Laws.Sound.{attribute-sound, gap-sound, name-sound, equals-sound, value-sound}
+use Rattle.grammar.specs.Laws.Tokens.{attribute-long}
 use Rattle.grammar.specs.Unfuelled.{less, no-more-than, all-of-step}
-use Rattle.tokens.specs.Step.{Tails, tails}
-use Rattle.tokens.specs.Until.{bind-assoc, bind-each}
-use Rattle.tokens.specs.Leaves.{name-tails}
+use Rattle.steps.specs.Step.{Tails, tails}
+use Rattle.steps.specs.Laws.Until.{bind-assoc, bind-each}
+use Rattle.steps.specs.Leaves.{name-tails}
 use Rattle.nodes.specs.Places.{Stands, the, pick, unbind, Tail, tail-of, tail-more, tail-read}
-use Rattle.nodes.specs.Views.{spelled}
+use Rattle.nodes.specs.Laws.ReadSteps.{spelled}
 use Rattle.nodes.specs.Names.{ending-attributes}
 use Rattle.nodes.specs.declared.Found.{Found}
 use Rattle.nodes.specs.declared.Found.the-variants.{At, Nothing}
 
 -- ON BYTES: blanks, a name and `=`
-unfoldable pub key-at : Reader (List ℕ)
-key-at = do
+unfoldable pub key-bytes : Reader (List ℕ)
+key-bytes = do
   gap-at
   n ← name-at
   equals-at
@@ -51,7 +52,7 @@ keys-by n (got w r) more = key w (n - length r) ∷ keys-then (value-at r) more
 
 unfoldable pub keys-within : ℕ → ℕ → List ℕ → List Key
 keys-within zero n s = []
-keys-within (suc m) n s = pick (ends closing s) [] (keys-by n (key-at s) (keys-within m n))
+keys-within (suc m) n s = pick (ends closing s) [] (keys-by n (key-bytes s) (keys-within m n))
 
 unfoldable pub keys-at : ℕ → List ℕ → List Key
 keys-at n s = keys-within (suc (length s)) n s
@@ -73,13 +74,22 @@ unfoldable pub place : List ℕ → ℕ → List ℕ → Found
 place text at w = place-in w (keys text at)
 
 -- fuel changes nothing
-pub key-eats : (s : List ℕ) → Ok (λ _ r. length r < length s) (key-at s)
-unfolding key-at
+pub key-eats : (s : List ℕ) → Ok (λ _ r. length r < length s) (key-bytes s)
+unfolding key-bytes
 key-eats s =
     bind-ok (gap-sound s) λ u r₁ h₁.
     bind-ok (name-sound r₁) λ n r₂ h₂.
     bind-ok (equals-sound r₂) λ _ r₃ h₃.
-    good (omega (arith, long (h₁ .1), length-append u r₁, ap length (h₁ .0), length-append n r₂, ap length (h₂ .0), length-append (h₃ .0) r₃, ap length (h₃ .1)))
+    good (omega (
+      arith,
+      long (h₁ .1),
+      length-append u r₁,
+      ap length (h₁ .0),
+      length-append n r₂,
+      ap length (h₂ .0),
+      length-append (h₃ .0) r₃,
+      ap length (h₃ .1),
+    ))
   where
     long : {u : List ℕ} → Gap u → 0 < length u
     long (gap h k) = omega arith
@@ -87,17 +97,20 @@ key-eats s =
 pub value-keeps : (s : List ℕ) → Ok (λ _ r. length r ≤ length s) (value-at s)
 value-keeps s = no-more-than (value-sound s)
 
-then-same : (m : Read (List ℕ)) (f g : List ℕ → List Key) (s : List ℕ) → Ok (λ _ r. length r ≤ length s) m → ((r : List ℕ) → length r ≤ length s → f r ≡ g r) → keys-then m f ≡ keys-then m g
+then-same : (m : Read (List ℕ)) (f g : List ℕ → List Key) (s : List ℕ) → Ok (λ _ r. length r ≤ length s) m
+    → ((r : List ℕ) → length r ≤ length s → f r ≡ g r) → keys-then m f ≡ keys-then m g
 unfolding keys-then
 then-same fail f g s h k = refl
 then-same (got x r) f g s (good h) k = k r h
 
-by-same : (n : ℕ) (m : Read (List ℕ)) (f g : List ℕ → List Key) (s : List ℕ) → Ok (λ _ r. length r < length s) m → ((r : List ℕ) → length r < length s → f r ≡ g r) → keys-by n m f ≡ keys-by n m g
+by-same : (n : ℕ) (m : Read (List ℕ)) (f g : List ℕ → List Key) (s : List ℕ) → Ok (λ _ r. length r < length s) m
+    → ((r : List ℕ) → length r < length s → f r ≡ g r) → keys-by n m f ≡ keys-by n m g
 unfolding keys-by
 by-same n fail f g s h k = refl
-by-same n (got w r) f g s (good h) k = ap (λ l. key w (n - length r) ∷ l) (then-same (value-at r) f g r (value-keeps r) (λ r₁ h₁. k r₁ (omega arith)))
+by-same n (got w r) f g s (good h) k = ap (λ l. key w (n - length r) ∷ l)
+    (then-same (value-at r) f g r (value-keeps r) (λ r₁ h₁. k r₁ (omega arith)))
 
-keys-suc : (m n : ℕ) (s : List ℕ) → keys-within (suc m) n s ≡ pick (ends closing s) [] (keys-by n (key-at s) (keys-within m n))
+keys-suc : (m n : ℕ) (s : List ℕ) → keys-within (suc m) n s ≡ pick (ends closing s) [] (keys-by n (key-bytes s) (keys-within m n))
 unfolding keys-within
 keys-suc m n s = refl
 
@@ -106,16 +119,20 @@ keys-enough zero k n s h j = absurd (omega arith)
 keys-enough (suc m) zero n s h j = absurd (omega arith)
 keys-enough (suc m) (suc k) n s h j =
     rw (keys-suc m n s, keys-suc k n s)
-    (ap (λ l. pick (ends closing s) [] l) (by-same n (key-at s) (keys-within m n) (keys-within k n) s (key-eats s) (λ r l. keys-enough m k n r (omega arith) (omega arith))))
+    (ap (λ l. pick (ends closing s) [] l)
+    (by-same n (key-bytes s) (keys-within m n) (keys-within k n) s (key-eats s)
+    (λ r l. keys-enough m k n r (omega arith) (omega arith))))
 
-pub keys-step : (n : ℕ) (s : List ℕ) → keys-at n s ≡ pick (ends closing s) [] (keys-by n (key-at s) (keys-at n))
+pub keys-step : (n : ℕ) (s : List ℕ) → keys-at n s ≡ pick (ends closing s) [] (keys-by n (key-bytes s) (keys-at n))
 unfolding keys-at
 keys-step n s =
     keys-suc (length s) n s
-    ∙ ap (λ l. pick (ends closing s) [] l) (by-same n (key-at s) (keys-within (length s) n) (keys-at n) s (key-eats s) (λ r l. keys-enough (length s) (suc (length r)) n r l (omega arith)))
+    ∙ ap (λ l. pick (ends closing s) [] l)
+    (by-same n (key-bytes s) (keys-within (length s) n) (keys-at n) s (key-eats s)
+    (λ r l. keys-enough (length s) (suc (length r)) n r l (omega arith)))
 
 -- A VALUE stands at a position
-pub record Value (text : List ℕ) (v : ℕ) (x : List ℕ) : Type 0 where
+pub record ValueAt (text : List ℕ) (v : ℕ) (x : List ℕ) : Type 0 where
   pub inside : v ≤ length text
   pub rest : List ℕ
   pub reads : value-at (drop v text) ≡ got x rest
@@ -123,13 +140,14 @@ pub record Value (text : List ℕ) (v : ℕ) (x : List ℕ) : Type 0 where
 -- THE LAW OF ATTRIBUTES: the keys hold the attributes, one by one
 pub data Hold (text : List ℕ) : List Key → List Attribute → Type 0 where
   no-key : Hold text [] []
-  one-key : {n : List ℕ} {v : ℕ} {x : List ℕ} {ks : List Key} {l : List Attribute} → Value text v x → Hold text ks l → Hold text (key n v ∷ ks) (attribute n x ∷ l)
+  one-key : {n : List ℕ} {v : ℕ} {x : List ℕ} {ks : List Key} {l : List Attribute} → ValueAt text v x → Hold text ks l
+      → Hold text (key n v ∷ ks) (attribute n x ∷ l)
 
 unfoldable pair-at : List ℕ → Reader Attribute
 pair-at n s = bind (value-at s) (λ v r. got (attribute n v) r)
 
-attribute-split : (s : List ℕ) → attribute-at s ≡ bind (key-at s) (λ n r. pair-at n r)
-unfolding attribute-at key-at pair-at bind
+attribute-split : (s : List ℕ) → attribute-at s ≡ bind (key-bytes s) (λ n r. pair-at n r)
+unfolding attribute-at key-bytes pair-at bind
 attribute-split s =
     rw (bind-assoc (gap-at s))
     (bind-each (gap-at s) _ _ λ _ r₁.
@@ -148,7 +166,8 @@ list-end : (s : List ℕ) → ends closing s ≡ true → list-at s ≡ got [] s
 unfolding many-step
 list-end s e = rw (list-step s, e)
 
-list-more : (s : List ℕ) → ends closing s ≡ false → list-at s ≡ bind (bind (key-at s) (λ n r. pair-at n r)) (λ a r. bind (list-at r) (λ l r₁. got (a ∷ l) r₁))
+list-more : (s : List ℕ) → ends closing s ≡ false
+    → list-at s ≡ bind (bind (key-bytes s) (λ n r. pair-at n r)) (λ a r. bind (list-at r) (λ l r₁. got (a ∷ l) r₁))
 unfolding many-step
 list-more s e = rw (list-step s, e, attribute-split s)
 
@@ -156,7 +175,7 @@ list-more s e = rw (list-step s, e, attribute-split s)
 record First (s : List ℕ) (l : List Attribute) : Type 0 where
   name : List ℕ
   behind-key : List ℕ
-  key-reads : key-at s ≡ got name behind-key
+  key-reads : key-bytes s ≡ got name behind-key
   says : List ℕ
   behind : List ℕ
   reads : value-at behind-key ≡ got says behind
@@ -168,8 +187,9 @@ record First (s : List ℕ) (l : List Attribute) : Type 0 where
 first-of : (s : List ℕ) (l : List Attribute) (r : List ℕ) → ends closing s ≡ false → list-at s ≡ got l r → First s l
 unfolding pair-at
 first-of s l r e h =
-    let b₁ = unbind (bind (key-at s) (λ n r. pair-at n r)) (λ a r. bind (list-at r) (λ l r₁. got (a ∷ l) r₁)) (sym (list-more s e) ∙ h) in
-    let b₀ = unbind (key-at s) (λ n r. pair-at n r) (b₁ .reads) in
+    let b₁ = unbind (bind (key-bytes s) (λ n r. pair-at n r)) (λ a r. bind (list-at r) (λ l r₁. got (a ∷ l) r₁))
+    (sym (list-more s e) ∙ h) in
+    let b₀ = unbind (key-bytes s) (λ n r. pair-at n r) (b₁ .reads) in
     let b₂ = unbind (value-at (b₀ .rest)) (λ v r. got (attribute (b₀ .value) v) r) (b₀ .then) in
     let b₃ = unbind (list-at (b₁ .rest)) (λ l r₁. got (b₁ .value ∷ l) r₁) (b₁ .then) in
     let z₂ = b₂ .then in
@@ -190,8 +210,8 @@ first-of s l r e h =
       same-list = sym (ap (λ a. a ∷ b₃ .value) q₂ ∙ q₃);
     }
 
-key-tails : (s : List ℕ) → Ok (Tails s) (key-at s)
-unfolding key-at
+key-tails : (s : List ℕ) → Ok (Tails s) (key-bytes s)
+unfolding key-bytes
 key-tails s =
     bind-ok (gap-sound s) λ u r₁ h₁.
     bind-ok (name-sound r₁) λ n r₂ h₂.
@@ -199,22 +219,28 @@ key-tails s =
     good (u ++ (n ++ h₃ .0), simp append-assoc (let e₁ = h₁ .0 in let e₂ = h₂ .0 in let e₃ = h₃ .1 in cc))
 
 module _ (text : List ℕ) where
-  hold-end : (s : List ℕ) (l : List Attribute) (r : List ℕ) → ends closing s ≡ true → list-at s ≡ got l r → Hold text (keys-at (length text) s) l
+  hold-end : (s : List ℕ) (l : List Attribute) (r : List ℕ) → ends closing s ≡ true → list-at s ≡ got l r
+      → Hold text (keys-at (length text) s) l
   hold-end s l r e h = let z = list-end s e in let w : l ≡ [] = cc in rw (keys-step (length text) s, e, w) no-key
 
-  hold-more : (s : List ℕ) (l : List Attribute) → Tail text s → ends closing s ≡ false → (f : First s l) → (Tail text (f .behind) → Hold text (keys-at (length text) (f .behind)) (f .more)) → Hold text (keys-at (length text) s) l
+  hold-more : (s : List ℕ) (l : List Attribute) → Tail text s → ends closing s ≡ false → (f : First s l)
+      → (Tail text (f .behind) → Hold text (keys-at (length text) (f .behind)) (f .more)) → Hold text (keys-at (length text) s) l
   unfolding keys-by keys-then
   hold-more s l tail e f ih =
       let t₁ : Tail text (f .behind-key) = tail-read (key-tails s) (f .key-reads) tail in
       let t₂ : Tail text (f .behind) = tail-read (tails (value-sound (f .behind-key))) (f .reads) t₁ in
-      let v : Value text (length text - length (f .behind-key)) (f .says) = record { inside = omega arith; rest = f .behind; reads = rw (t₁ .stands) (f .reads) } in
+      let v : ValueAt text (length text - length (f .behind-key)) (f .says) =
+      record { inside = omega arith; rest = f .behind; reads = rw (t₁ .stands) (f .reads) } in
       rw (keys-step (length text) s, e, f .key-reads, f .reads, f .same-list) (one-key v (ih t₂))
 
-  hold-within : (m : ℕ) (s : List ℕ) → length s < m → Tail text s → (l : List Attribute) (r : List ℕ) → list-at s ≡ got l r → Hold text (keys-at (length text) s) l
+  hold-within : (m : ℕ) (s : List ℕ) → length s < m → Tail text s → (l : List Attribute) (r : List ℕ) → list-at s ≡ got l r
+      → Hold text (keys-at (length text) s) l
   hold-within zero s h tail l r e = absurd (omega arith)
   hold-within (suc m) s h tail l r e = go (ends closing s) refl (λ s₁ k t₁ l₁ r₁ e₁. hold-within m s₁ k t₁ l₁ r₁ e₁)
     where
-      go : (t : Bool) → ends closing s ≡ t → ((s₁ : List ℕ) → length s₁ < m → Tail text s₁ → (l₁ : List Attribute) (r₁ : List ℕ) → list-at s₁ ≡ got l₁ r₁ → Hold text (keys-at (length text) s₁) l₁) → Hold text (keys-at (length text) s) l
+      go : (t : Bool) → ends closing s ≡ t
+          → ((s₁ : List ℕ) → length s₁ < m → Tail text s₁ → (l₁ : List Attribute) (r₁ : List ℕ) → list-at s₁ ≡ got l₁ r₁
+          → Hold text (keys-at (length text) s₁) l₁) → Hold text (keys-at (length text) s) l
       go true q ih = hold-end s l r q e
       go false q ih =
           let f = first-of s l r q e in
@@ -241,15 +267,8 @@ keys-law {text} {at} st =
     let t₁ = tail-more (60 ∷ []) (p .behind-open) (p .opens) (tail-of text at) in
     let t₂ = tail-read (name-tails (p .behind-open)) (p .names) t₁ in
     rw (q, p .names, ending-attributes (p .ending))
-    (hold-within text (suc (length (p .behind-name))) (p .behind-name) (omega arith) t₂ (p .attributes) (p .behind-all) (listed (p .behind-name) (p .attributes) (p .behind-all) (p .lists)))
-
--- the count
-held-count : {text : List ℕ} {ks : List Key} {l : List Attribute} → Hold text ks l → length ks ≡ length l
-held-count no-key = refl
-held-count (one-key v h) = ap suc (held-count h)
-
-pub count-law : {text : List ℕ} {at : ℕ} → Stands text at → length (keys text at) ≡ length (attributesOf (the text at))
-count-law st = held-count (keys-law st)
+    (hold-within text (suc (length (p .behind-name))) (p .behind-name) (omega arith) t₂ (p .attributes) (p .behind-all)
+    (listed (p .behind-name) (p .attributes) (p .behind-all) (p .lists)))
 
 -- one by its name: the value of the first attribute with the name
 unfoldable pub lookup : List ℕ → List Attribute → Option (List ℕ)
@@ -264,7 +283,7 @@ lookup-is s (attribute n v ∷ l) = ap (λ o. cond (same n (ascii s)) (some v) o
 -- what was found, and what the document has
 pub data Held (text : List ℕ) : Found → Option (List ℕ) → Type 0 where
   missing : Held text Nothing Option.none
-  held : {v : ℕ} {x : List ℕ} → Value text v x → Held text (At v) (some x)
+  held : {v : ℕ} {x : List ℕ} → ValueAt text v x → Held text (At v) (some x)
 
 held-place : {text : List ℕ} (w : List ℕ) {ks : List Key} {l : List Attribute} → Hold text ks l → Held text (place-in w ks) (lookup w l)
 unfolding place-in lookup
@@ -275,6 +294,7 @@ held-place {text} w (one-key {n} {v} {x} {ks} {l} k h) = go (same n w) (held-pla
     go true r = held k
     go false r = r
 
-pub attribute-law : {text : List ℕ} {at : ℕ} (w : List ℕ) → Stands text at → Held text (place text at w) (lookup w (attributesOf (the text at)))
+pub attribute-law : {text : List ℕ} {at : ℕ} (w : List ℕ) → Stands text at
+    → Held text (place text at w) (lookup w (attributesOf (the text at)))
 unfolding place
 attribute-law w st = held-place w (keys-law st)

@@ -6,19 +6,19 @@ use native.Mathlib.Omega.{arith}
 use mathlib.Core.Bool.{Bool, true, false}
 use lib.ListN.{length, drop, length-drop}
 use Rattle.grammar.specs.Bytes.{blank}
-use Rattle.grammar.specs.Document.{Attribute, Element, Contents, nothing, child, run, joined}
+use Rattle.grammar.specs.Document.{Attribute, Element, Contents, nothing, child, run, merged}
 use Rattle.grammar.specs.Look.{contentsOf, elements}
 use Rattle.grammar.specs.Read.{Read, fail, got, Ok, good}
 use Rattle.grammar.specs.Parser.{Look, at-close, at-comment, at-element, at-text, look, comment-at}
-use Rattle.grammar.specs.Sound.{comment-sound, attributes-sound}
+use Rattle.grammar.specs.Laws.Sound.{comment-sound, attributes-sound}
 use Rattle.grammar.specs.Unfuelled.{contents}
-use Rattle.tokens.specs.Step.{tails}
-use Rattle.tokens.specs.Leaves.{name-tails, span-tails}
+use Rattle.steps.specs.Step.{tails}
+use Rattle.steps.specs.Leaves.{name-tails, span-tails}
 use Rattle.nodes.specs.Places.{element₁₆, the, Stands, stands-read, the-read, Tail, tail-of, tail-more, tail-read}
-use Rattle.nodes.specs.Deeper.{comment-eats, element-tails}
-use Rattle.nodes.specs.Views.{Ending, bare, filled, Spelled, spelled, eats-child, Induction, induction}
+use Rattle.nodes.specs.Laws.Depth.{comment-eats, element-tails}
+use Rattle.nodes.specs.Laws.ReadSteps.{Ending, bare, filled, Spelled, spelled, eats-child, Induction, induction}
 use Rattle.nodes.specs.Scan.{to-tag, to-tag-short, tag-from, tag-at, tag-less, Less, skip-at}
-use Rattle.nodes.specs.Passing.{to-tag-free, text-free}
+use Rattle.nodes.specs.Laws.ScanEnds.{to-tag-free, text-free}
 use Rattle.nodes.specs.Skip.{tag-here, no-text, no-text-comment, no-text-element, tag-read, tag-bare, tag-filled, skip-element}
 use Rattle.nodes.specs.declared.Kid.{Kid}
 use Rattle.nodes.specs.declared.Kid.the-variants.{Child, Done}
@@ -60,17 +60,20 @@ left text Done = 0
 left text (Child k) = length text - k
 
 -- A ROW: the elements from a cursor on
-pub data Row (text : List ℕ) : Kid → List Element → Type 0 where
-  no-more : Row text Done []
-  one-more : {k : ℕ} {l : List Element} → Stands text k → left text (next text k) < left text (Child k) → Row text (next text k) l → Row text (Child k) (the text k ∷ l)
+pub data Siblings (text : List ℕ) : Kid → List Element → Type 0 where
+  no-more : Siblings text Done []
+  one-more : {k : ℕ} {l : List Element} → Stands text k → left text (next text k) < left text (Child k) → Siblings text (next text k) l
+      → Siblings text (Child k) (the text k ∷ l)
 
 -- fuel changes nothing
-then-same : (m : Read (Unit {0})) (f g : List ℕ → Kid) (s : List ℕ) → Ok (λ _ r. length r < length s) m → ((r : List ℕ) → length r < length s → f r ≡ g r) → kid-then m f ≡ kid-then m g
+then-same : (m : Read (Unit {0})) (f g : List ℕ → Kid) (s : List ℕ) → Ok (λ _ r. length r < length s) m
+    → ((r : List ℕ) → length r < length s → f r ≡ g r) → kid-then m f ≡ kid-then m g
 unfolding kid-then
 then-same fail f g s h k = refl
 then-same (got u r) f g s (good h) k = k r h
 
-by-same : (f g : List ℕ → Kid) (l : Look) (n : ℕ) (s : List ℕ) → ((r : List ℕ) → length r < length s → f r ≡ g r) → kid-by l f n s ≡ kid-by l g n s
+by-same : (f g : List ℕ → Kid) (l : Look) (n : ℕ) (s : List ℕ) → ((r : List ℕ) → length r < length s → f r ≡ g r)
+    → kid-by l f n s ≡ kid-by l g n s
 unfolding kid-by
 by-same f g at-close n s h = refl
 by-same f g at-comment n s h = then-same (comment-at s) f g s (comment-eats s) h
@@ -86,24 +89,28 @@ kid-enough zero k n s h j = absurd (omega arith)
 kid-enough (suc m) zero n s h j = absurd (omega arith)
 kid-enough (suc m) (suc k) n s h j =
     rw (kid-suc m n s, kid-suc k n s)
-    (by-same (kid-within m n) (kid-within k n) (look (to-tag s)) n (to-tag s) (λ r l. kid-enough m k n r (omega (arith, to-tag-short s)) (omega (arith, to-tag-short s))))
+    (by-same (kid-within m n) (kid-within k n) (look (to-tag s)) n (to-tag s)
+    (λ r l. kid-enough m k n r (omega (arith, to-tag-short s)) (omega (arith, to-tag-short s))))
 
 pub kid-step : (n : ℕ) (s : List ℕ) → kid-at n s ≡ kid-by (look (to-tag s)) (kid-at n) n (to-tag s)
 unfolding kid-at
 kid-step n s =
     kid-suc (length s) n s
-    ∙ by-same (kid-within (length s) n) (kid-at n) (look (to-tag s)) n (to-tag s) (λ r l. kid-enough (length s) (suc (length r)) n r (omega (arith, to-tag-short s)) (omega arith))
+    ∙ by-same (kid-within (length s) n) (kid-at n) (look (to-tag s)) n (to-tag s)
+    (λ r l. kid-enough (length s) (suc (length r)) n r (omega (arith, to-tag-short s)) (omega arith))
 
 pub kid-look : (n : ℕ) (s : List ℕ) (l : Look) → look s ≡ l → (l ≡ at-text → ⊥) → kid-at n s ≡ kid-by l (kid-at n) n s
 kid-look n s l e f = let z = tag-here s l e f in kid-step n s ∙ rw (z, e)
 
 -- a cursor that was found in the end `s` of a text is not before it
-then-left : (text : List ℕ) (m : Read (Unit {0})) (f : List ℕ → Kid) (s : List ℕ) → Ok (λ _ r. length r < length s) m → ((r : List ℕ) → left text (f r) ≤ length r) → left text (kid-then m f) ≤ length s
+then-left : (text : List ℕ) (m : Read (Unit {0})) (f : List ℕ → Kid) (s : List ℕ) → Ok (λ _ r. length r < length s) m
+    → ((r : List ℕ) → left text (f r) ≤ length r) → left text (kid-then m f) ≤ length s
 unfolding kid-then left
 then-left text fail f s h k = omega arith
 then-left text (got u r) f s (good h) k = omega (arith, k r)
 
-by-left : (text : List ℕ) (f : List ℕ → Kid) (l : Look) (s : List ℕ) → ((r : List ℕ) → left text (f r) ≤ length r) → left text (kid-by l f (length text) s) ≤ length s
+by-left : (text : List ℕ) (f : List ℕ → Kid) (l : Look) (s : List ℕ) → ((r : List ℕ) → left text (f r) ≤ length r)
+    → left text (kid-by l f (length text) s) ≤ length s
 unfolding kid-by left
 by-left text f at-close s k = omega arith
 by-left text f at-comment s k = then-left text (comment-at s) f s (comment-eats s) k
@@ -117,7 +124,8 @@ kid-zero n s = refl
 within-left : (m : ℕ) (text s : List ℕ) → left text (kid-within m (length text) s) ≤ length s
 unfolding left
 within-left zero text s = rw (kid-zero (length text) s) (omega arith)
-within-left (suc m) text s = rw (kid-suc m (length text) s) (omega (arith, to-tag-short s, by-left text (kid-within m (length text)) (look (to-tag s)) (to-tag s) (λ r. within-left m text r)))
+within-left (suc m) text s = rw (kid-suc m (length text) s)
+    (omega (arith, to-tag-short s, by-left text (kid-within m (length text)) (look (to-tag s)) (to-tag s) (λ r. within-left m text r)))
 
 pub kid-left : (text s : List ℕ) → left text (kid-at (length text) s) ≤ length s
 unfolding kid-at
@@ -127,12 +135,13 @@ left-child : (text : List ℕ) (k : ℕ) → left text (Child k) ≡ length text
 unfolding left
 left-child text k = refl
 
-pub next-read : (text : List ℕ) (at : ℕ) {e : Element} {r : List ℕ} → element₁₆ (drop at text) ≡ got e r → next text at ≡ kid-at (length text) r
+pub next-read : (text : List ℕ) (at : ℕ) {e : Element} {r : List ℕ} → element₁₆ (drop at text) ≡ got e r
+    → next text at ≡ kid-at (length text) r
 unfolding next kid-then
 next-read text at {e} {r} k = rw (skip-element (drop at text) e r k)
 
-pub elements-joined : (b : List ℕ) (c : Contents) → elements (joined b c) ≡ elements c
-unfolding elements joined
+pub elements-joined : (b : List ℕ) (c : Contents) → elements (merged b c) ≡ elements c
+unfolding elements merged
 elements-joined b nothing = refl
 elements-joined b (child e c) = refl
 elements-joined b (run a c) = refl
@@ -140,9 +149,9 @@ elements-joined b (run a c) = refl
 -- the row that contents hold
 module _ (text : List ℕ) where
   record Rowed (s : List ℕ) (c : Contents) (t : List ℕ) : Type 0 where
-    row : Tail text s → Row text (kid-at (length text) s) (elements c)
+    row : Tail text s → Siblings text (kid-at (length text) s) (elements c)
 
-  row-closed : (s : List ℕ) → look s ≡ at-close → Row text (kid-at (length text) s) (elements nothing)
+  row-closed : (s : List ℕ) → look s ≡ at-close → Siblings text (kid-at (length text) s) (elements nothing)
   unfolding kid-by elements
   row-closed s q = rw (kid-look (length text) s at-close q (no-text refl)) no-more
 
@@ -162,32 +171,40 @@ module _ (text : List ℕ) where
   tail-child s r x t e = tail-read (element-tails 16 s) e t
 
   row-child : (s r : List ℕ) (x : Element) (c : Contents) → Tail text s → look s ≡ at-element → element₁₆ s ≡ got x r
-      → Row text (kid-at (length text) r) (elements c) → Row text (kid-at (length text) s) (elements (child x c))
+      → Siblings text (kid-at (length text) r) (elements c) → Siblings text (kid-at (length text) s) (elements (child x c))
   unfolding elements
   row-child s r x c tail q e₀ more =
       let k : ℕ = length text - length s in
       let e₁ : element₁₆ (drop k text) ≡ got x r = rw (tail .stands) e₀ in
       let short : length r < length s = eats-child s e₀ in
-      let falls : left text (next text k) < left text (Child k) = rw (next-read text k e₁, left-child text k) (omega (arith, kid-left text r, tail .fits)) in
-      let rest : Row text (next text k) (elements c) = rw (next-read text k e₁) more in
+      let falls : left text (next text k) < left text (Child k) =
+      rw (next-read text k e₁, left-child text k) (omega (arith, kid-left text r, tail .fits)) in
+      let rest : Siblings text (next text k) (elements c) = rw (next-read text k e₁) more in
       rw (row-here s q, ← the-read text k e₁) (one-more (stands-read text k (omega (arith, tail .fits)) e₁) falls rest)
 
   rows : Induction Rowed
   rows = record {
     closed = λ s q. record { row = λ _. row-closed s q };
     remarked = λ s r c t q e h. record { row = λ tail. rw (row-remarked s r q e) (h .row (tail-read (tails (comment-sound s)) e tail)) };
-    lettered = λ b w r c t k h. record { row = λ tail. rw (row-lettered w r (to-tag-free (text-free k) r), elements-joined b c) (h .row (tail-more w r refl tail)) };
-    childed = λ s r x c t q e inside h. record { row = λ tail. row-child s r x c tail q e (inside r c t (eats-child s e) h .row (tail-child s r x tail e)) };
+    lettered = λ b w r c t k h. record {
+      row = λ tail. rw (row-lettered w r (to-tag-free (text-free k) r), elements-joined b c)
+          (h .row (tail-more w r refl tail));
+    };
+    childed = λ s r x c t q e inside h. record
+        { row = λ tail. row-child s r x c tail q e (inside r c t (eats-child s e) h .row (tail-child s r x tail e)) };
   }
 
-  contents-row : (s : List ℕ) → Tail text s → (c : Contents) (t : List ℕ) → contents 16 s ≡ got c t → Row text (kid-at (length text) s) (elements c)
+  contents-row : (s : List ℕ) → Tail text s → (c : Contents) (t : List ℕ) → contents 16 s ≡ got c t
+      → Siblings text (kid-at (length text) s) (elements c)
   contents-row s tail c t e = induction Rowed rows s c t e .row tail
 
 -- behind a tag: the element's children
-behind-row : (text n : List ℕ) {l : List Attribute} {s : List ℕ} {e : Element} {r : List ℕ} → Tail text s → Ending n l s e r → Row text (first-by (length text) (tag-from 0 s)) (elements (contentsOf e))
+behind-row : (text n : List ℕ) {l : List Attribute} {s : List ℕ} {e : Element} {r : List ℕ} → Tail text s → Ending n l s e r
+    → Siblings text (first-by (length text) (tag-from 0 s)) (elements (contentsOf e))
 unfolding first-by contentsOf elements
 behind-row text n {r = r} tail (bare k q) = rw (k, tag-bare r, q) no-more
-behind-row text n tail (filled {t} {behind} {c} k h z q) = rw (k, tag-filled t, q) (contents-row text t (tail-more (62 ∷ []) t k tail) c behind h)
+behind-row text n tail (filled {t} {behind} {c} k h z q) =
+    rw (k, tag-filled t, q) (contents-row text t (tail-more (62 ∷ []) t k tail) c behind h)
 
 -- what stands behind the start tag's blanks is an end of the text
 pub tail-behind : {text s : List ℕ} {e : Element} {r : List ℕ} (p : Spelled s e r) → Tail text s → Tail text (p .behind-blanks)
@@ -198,7 +215,7 @@ tail-behind {text} p t =
     tail-read (span-tails blank (p .behind-all)) (p .blank-so) t₃
 
 -- THE LAW OF CHILDREN: where an element stands, the row from its first child on is its children
-pub children : {text : List ℕ} {at : ℕ} → Stands text at → Row text (first text at) (elements (contentsOf (the text at)))
+pub children : {text : List ℕ} {at : ℕ} → Stands text at → Siblings text (first text at) (elements (contentsOf (the text at)))
 unfolding first
 children {text} {at} st =
     let p = spelled (drop at text) (the text at) (st .rest) (st .reads) in

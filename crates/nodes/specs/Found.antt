@@ -29,17 +29,20 @@ held-value missing = refl
 held-value (held h) = ap some (value-law h)
 
 -- THE LAWS of found values
-pub found-law : {text : List ℕ} {at : ℕ} (w : List ℕ) → Stands text at → found-value text (place text at w) ≡ lookup w (attributesOf (the text at))
+pub found-law : {text : List ℕ} {at : ℕ} (w : List ℕ) → Stands text at
+    → found-value text (place text at w) ≡ lookup w (attributesOf (the text at))
 found-law w st = held-value (attribute-law w st)
 
-pub valueIn-law : {text : List ℕ} {at : ℕ} (s : String) → Stands text at → found-value text (place text at (ascii s)) ≡ valueIn s (attributesOf (the text at))
+pub valueIn-law : {text : List ℕ} {at : ℕ} (s : String) → Stands text at
+    → found-value text (place text at (ascii s)) ≡ valueIn s (attributesOf (the text at))
 valueIn-law {text} {at} s st = found-law (ascii s) st ∙ lookup-is s (attributesOf (the text at))
 
 pub attr-law : {text : List ℕ} {at : ℕ} (s : String) → Stands text at → value-at-name text at (ascii s) ≡ attr s (the text at)
 unfolding value-at-name attr
 attr-law s st = ap orEmpty (valueIn-law s st)
 
-pub has-law : {text : List ℕ} {at : ℕ} (s v : String) → Stands text at → same (value-at-name text at (ascii s)) (ascii v) ≡ has s v (the text at)
+pub has-law : {text : List ℕ} {at : ℕ} (s v : String) → Stands text at
+    → same (value-at-name text at (ascii s)) (ascii v) ≡ has s v (the text at)
 unfolding has is
 has-law s v st = ap (λ x. same x (ascii v)) (attr-law s st)
 

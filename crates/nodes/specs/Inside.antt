@@ -8,7 +8,7 @@ use Rattle.grammar.specs.Document.{Attribute, Element}
 use Rattle.grammar.specs.Look.{withinOf}
 use Rattle.grammar.specs.Read.{Read, fail, got, before}
 use Rattle.nodes.specs.Places.{Stands, the}
-use Rattle.nodes.specs.Views.{Ending, bare, filled, spelled}
+use Rattle.nodes.specs.Laws.ReadSteps.{Ending, bare, filled, spelled}
 use Rattle.nodes.specs.Scan.{tag-from, tag-at, scan}
 use Rattle.nodes.specs.Skip.{tag-read, tag-bare, tag-filled, closes, scan-ends, scan-contents, name-of}
 use Rattle.grammar.specs.Grammar.{Name}
@@ -23,10 +23,11 @@ within-by fail = []
 within-by (got true r) = up-to r (scan 0 r)
 within-by (got false r) = []
 
-unfoldable pub within : List ℕ → ℕ → List ℕ
-within text at = within-by (tag-at (drop at text))
+unfoldable pub between-tags : List ℕ → ℕ → List ℕ
+between-tags text at = within-by (tag-at (drop at text))
 
-ending-within : (n : List ℕ) → Name n → {l : List Attribute} {s : List ℕ} {e : Element} {r : List ℕ} → Ending n l s e r → within-by (tag-from 0 s) ≡ withinOf e
+ending-within : (n : List ℕ) → Name n → {l : List Attribute} {s : List ℕ} {e : Element} {r : List ℕ} → Ending n l s e r
+    → within-by (tag-from 0 s) ≡ withinOf e
 unfolding within-by withinOf up-to
 ending-within n h₀ {r = r} (bare k q) = rw (k, tag-bare r, q)
 ending-within n h₀ (filled {t} {behind} {c} k h z q) =
@@ -34,8 +35,8 @@ ending-within n h₀ (filled {t} {behind} {c} k h z q) =
     rw (k, tag-filled t, q, m)
 
 -- THE LAW OF WHAT IS WITHIN
-pub within-law : {text : List ℕ} {at : ℕ} → Stands text at → within text at ≡ withinOf (the text at)
-unfolding within
+pub within-law : {text : List ℕ} {at : ℕ} → Stands text at → between-tags text at ≡ withinOf (the text at)
+unfolding between-tags
 within-law {text} {at} st =
     let p = spelled (drop at text) (the text at) (st .rest) (st .reads) in
     rw (tag-read p) (ending-within (p .name) (name-of p) (p .ending))

@@ -12,7 +12,7 @@ use Rattle.grammar.specs.Look.{nameOf, attributesOf, is}
 use Rattle.grammar.specs.Read.{Read, fail, got}
 use Rattle.grammar.specs.Parser.{name-at, same}
 use Rattle.nodes.specs.Places.{pick, the, Stands}
-use Rattle.nodes.specs.Views.{Ending, bare, filled, spelled}
+use Rattle.nodes.specs.Laws.ReadSteps.{Ending, bare, filled, spelled}
 
 -- ON BYTES: whether the element at a position has the name
 unfoldable pub named-in : List ℕ → Read (List ℕ) → Bool

@@ -8,12 +8,12 @@ use lib.Dec.{leb}
 use borrow.Author.Tests.{leb-true, leb-false}
 use lib.ListN.{length, drop, length-append, length-drop, drop-of-length-le}
 use lib.Seq.{drop-drop, drop-append-seam, drop-length}
-use Rattle.lists.specs.Booleans.{clash}
+use Rattle.lists.specs.Laws.Booleans.{clash}
 use Rattle.grammar.specs.Document.{Element, element, nothing}
 use Rattle.grammar.specs.Read.{Read, fail, got, Reader, bind, Ok, ok-got}
 use Rattle.grammar.specs.Parser.{element-at}
 use Rattle.grammar.specs.Unfuelled.{contents}
-use Rattle.tokens.specs.Step.{Tails}
+use Rattle.steps.specs.Step.{Tails}
 
 -- an element, at most sixteen deep
 unfoldable pub element₁₆ : Reader Element
@@ -33,7 +33,8 @@ pub record Stands (text : List ℕ) (at : ℕ) : Type 0 where
   pub rest : List ℕ
   pub reads : element₁₆ (drop at text) ≡ got (the text at) rest
 
-pub stands-read : (text : List ℕ) (at : ℕ) {e : Element} {r : List ℕ} → at < length text → element₁₆ (drop at text) ≡ got e r → Stands text at
+pub stands-read : (text : List ℕ) (at : ℕ) {e : Element} {r : List ℕ} → at < length text → element₁₆ (drop at text) ≡ got e r
+    → Stands text at
 unfolding the found-in
 stands-read text at {e} {r} h k = record { here = h; rest = r; reads = rw k }
 

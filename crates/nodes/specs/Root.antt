@@ -5,14 +5,14 @@ use mathlib.Core.Option.{some}
 use Prim.Native.Nat.{ℕ, _-_, _<_}
 use native.Mathlib.Omega.{arith}
 use lib.ListN.{length, drop}
-use Rattle.lists.specs.Booleans.{clash}
+use Rattle.lists.specs.Laws.Booleans.{clash}
 use Rattle.grammar.specs.Document.{Element}
 use Rattle.grammar.specs.Read.{Read, fail, got, bind, all-of}
 use Rattle.grammar.specs.Parser.{declaration-at, no-aside, aside-at, element-at, contents-at, document-at, end-at, answer, parse}
 use Rattle.grammar.specs.Unfuelled.{contents, element-enough}
-use Rattle.markup.specs.Prologue.{asides-at, prologue-at, prologue-tails}
+use Rattle.steps.specs.Prologue.{asides-at, prologue-at, prologue-tails}
 use Rattle.nodes.specs.Places.{element₁₆, Stands, the, stands-read, the-read, unbind, Tail, tail-read}
-use Rattle.nodes.specs.Views.{eats-child}
+use Rattle.nodes.specs.Laws.ReadSteps.{eats-child}
 use Rattle.nodes.specs.declared.Kid.{Kid}
 use Rattle.nodes.specs.declared.Kid.the-variants.{Child, Done}
 
@@ -39,7 +39,8 @@ unfolding answer
 answered fail e h = clash (cc)
 answered (got x r) e h = (r, let q : x ≡ e = cc in ap (λ x. got x r) q)
 
-rooted-at : (text s₂ s₃ : List ℕ) (e : Element) (bs : List (List ℕ)) → prologue-at text ≡ got bs s₂ → Tail text s₂ → element₁₆ s₂ ≡ got e s₃ → Rooted text e
+rooted-at : (text s₂ s₃ : List ℕ) (e : Element) (bs : List (List ℕ)) → prologue-at text ≡ got bs s₂ → Tail text s₂
+    → element₁₆ s₂ ≡ got e s₃ → Rooted text e
 unfolding root root-by
 rooted-at text s₂ s₃ e bs p t k =
     let i : ℕ = length text - length s₂ in
@@ -51,7 +52,8 @@ sixteen : (s : List ℕ) → element₁₆ s ≡ element-at contents 16 s
 unfolding element₁₆
 sixteen s = refl
 
-prologue-is : (text s₁ s₂ : List ℕ) (u : Unit {0}) (bs : List (List ℕ)) → declaration-at text ≡ got u s₁ → all-of no-aside aside-at s₁ ≡ got bs s₂ → prologue-at text ≡ got bs s₂
+prologue-is : (text s₁ s₂ : List ℕ) (u : Unit {0}) (bs : List (List ℕ)) → declaration-at text ≡ got u s₁
+    → all-of no-aside aside-at s₁ ≡ got bs s₂ → prologue-at text ≡ got bs s₂
 unfolding prologue-at asides-at bind
 prologue-is text s₁ s₂ u bs p q = rw (p, q)
 
@@ -68,5 +70,6 @@ root-law text e h =
     let q : b₃ .value ≡ e = let z = b₅ .then in cc in
     let p = prologue-is text (b₁ .rest) (b₂ .rest) (b₁ .value) (b₂ .value) (b₁ .reads) (b₂ .reads) in
     let t : Tail text (b₂ .rest) = tail-read (prologue-tails text) p (whole-tail text) in
-    let k : element-at contents 16 (b₂ .rest) ≡ got (b₃ .value) (b₃ .rest) = sym (element-enough (length text) 16 (b₂ .rest) (t .fits)) ∙ b₃ .reads in
+    let k : element-at contents 16 (b₂ .rest) ≡ got (b₃ .value) (b₃ .rest) = sym (element-enough (length text) 16 (b₂ .rest) (t .fits))
+    ∙ b₃ .reads in
     subst (λ (x : Element). Rooted text x) q (rooted-at text (b₂ .rest) (b₃ .rest) (b₃ .value) (b₂ .value) p t (sixteen (b₂ .rest) ∙ k))

@@ -9,11 +9,11 @@ use lib.ListN.{length, drop, length-append}
 use Rattle.grammar.specs.Bytes.{ascii, quote}
 use Rattle.grammar.specs.Read.{Read, fail, got, Reader, bind, mark, Ok, failed, good, ok-map, bind-ok, mark-sound}
 use Rattle.grammar.specs.Parser.{closing, comment-at, Look, at-close, at-comment, at-element, at-text, look}
-use Rattle.grammar.specs.Sound.{comment-sound}
+use Rattle.grammar.specs.Laws.Sound.{comment-sound}
 use Rattle.grammar.specs.Unfuelled.{bind-same}
-use Rattle.tokens.specs.Step.{Tails}
+use Rattle.steps.specs.Step.{Tails}
 use Rattle.nodes.specs.Places.{pick}
-use Rattle.nodes.specs.Deeper.{comment-eats}
+use Rattle.nodes.specs.Laws.Depth.{comment-eats}
 
 -- from the first `<` on
 unfoldable pub to-tag : List ℕ → List ℕ
@@ -115,7 +115,8 @@ pub record Less {A : Type 0} (s : List ℕ) (a : A) (r : List ℕ) : Type 0 wher
   pub falls : length r < length s
 
 less-cons : {A : Type 0} {s : List ℕ} (b : ℕ) {m : Read A} → Ok (Less s) m → Ok (Less (b ∷ s)) m
-less-cons {s = s} b h = ok-map h λ a r k. record { front = b ∷ k .front; whole = ap (λ l. b ∷ l) (k .whole); falls = omega (arith, k .falls) }
+less-cons {s = s} b h = ok-map h λ a r k. record
+    { front = b ∷ k .front; whole = ap (λ l. b ∷ l) (k .whole); falls = omega (arith, k .falls) }
 
 one-less : {A : Type 0} (b : ℕ) (a : A) (s : List ℕ) → Less (b ∷ s) a s
 one-less b a s = record { front = b ∷ []; whole = refl; falls = omega arith }
@@ -135,7 +136,8 @@ finish-less a s = go (eqb a 62)
   where
     go : (t : Bool) → Ok (Less (a ∷ s)) (pick t (got true s) (bind (mark (ascii ">") s) (λ _ r. got false r)))
     go true = good (one-less a true s)
-    go false = bind-ok (mark-sound (ascii ">") s) λ _ r e. good (record { front = a ∷ 62 ∷ []; whole = ap (λ l. a ∷ l) e; falls = omega (arith, ap length e) })
+    go false = bind-ok (mark-sound (ascii ">") s) λ _ r e. good
+        (record { front = a ∷ 62 ∷ []; whole = ap (λ l. a ∷ l) e; falls = omega (arith, ap length e) })
 
 tag-from-less : (q : ℕ) (s : List ℕ) → Ok (Less s) (tag-from q s)
 unfolding tag-from
@@ -152,7 +154,8 @@ tag-less [] = failed
 tag-less (a ∷ s) = less-cons a (tag-from-less 0 s)
 
 -- fuel changes nothing
-by-same : (f g : ℕ → Reader (Unit {0})) (l : Look) (d : ℕ) (s : List ℕ) → ((d : ℕ) (r : List ℕ) → length r < length s → f d r ≡ g d r) → scan-by l f d s ≡ scan-by l g d s
+by-same : (f g : ℕ → Reader (Unit {0})) (l : Look) (d : ℕ) (s : List ℕ) → ((d : ℕ) (r : List ℕ) → length r < length s → f d r ≡ g d r)
+    → scan-by l f d s ≡ scan-by l g d s
 unfolding scan-by
 by-same f g at-close zero s h = refl
 by-same f g at-close (suc d) s h = bind-same _ _ (past-tag-less s) λ _ r k. h d r (k .falls)
@@ -173,18 +176,21 @@ scan-enough zero m d s h k = absurd (omega arith)
 scan-enough (suc n) zero d s h k = absurd (omega arith)
 scan-enough (suc n) (suc m) d s h k =
     rw (scan-suc n d s, scan-suc m d s)
-    (by-same (scan-within n) (scan-within m) (look (to-tag s)) d (to-tag s) (λ d r l. scan-enough n m d r (omega (arith, to-tag-short s)) (omega (arith, to-tag-short s))))
+    (by-same (scan-within n) (scan-within m) (look (to-tag s)) d (to-tag s)
+    (λ d r l. scan-enough n m d r (omega (arith, to-tag-short s)) (omega (arith, to-tag-short s))))
 
 pub scan-step : (d : ℕ) (s : List ℕ) → scan d s ≡ scan-by (look (to-tag s)) scan d (to-tag s)
 unfolding scan
 scan-step d s =
     scan-suc (length s) d s
-    ∙ by-same (scan-within (length s)) scan (look (to-tag s)) d (to-tag s) (λ d r l. scan-enough (length s) (suc (length r)) d r (omega (arith, to-tag-short s)) (omega arith))
+    ∙ by-same (scan-within (length s)) scan (look (to-tag s)) d (to-tag s)
+    (λ d r l. scan-enough (length s) (suc (length r)) d r (omega (arith, to-tag-short s)) (omega arith))
 
 joined-tails : {B : Type 0} {s r : List ℕ} {m : Read B} (w : List ℕ) → s ≡ w ++ r → Ok (Tails r) m → Ok (Tails s) m
 joined-tails {s = s} {r} w e h = ok-map h λ b r₁ k. (w ++ k .0, e ∙ ap (λ l. w ++ l) (k .1) ∙ sym (append-assoc w (k .0) r₁))
 
-by-tails : (f : ℕ → Reader (Unit {0})) → ((d : ℕ) (s : List ℕ) → Ok (Tails s) (f d s)) → (l : Look) (d : ℕ) (s : List ℕ) → Ok (Tails s) (scan-by l f d s)
+by-tails : (f : ℕ → Reader (Unit {0})) → ((d : ℕ) (s : List ℕ) → Ok (Tails s) (f d s)) → (l : Look) (d : ℕ) (s : List ℕ)
+    → Ok (Tails s) (scan-by l f d s)
 unfolding scan-by
 by-tails f ih at-close zero s = good ([], refl)
 by-tails f ih at-close (suc d) s = bind-ok (past-tag-less s) λ _ r k. joined-tails (k .front) (k .whole) (ih d r)
@@ -210,7 +216,11 @@ passed-less false s = good ([], refl)
 pub skip-less : (s : List ℕ) → Ok (Less s) (skip-at s)
 unfolding skip-at
 skip-less s = bind-ok (tag-less s) λ wide r k. ok-map (passed-less wide r) λ _ r₁ j.
-    record { front = k .front ++ j .0; whole = k .whole ∙ ap (λ l. k .front ++ l) (j .1) ∙ sym (append-assoc (k .front) (j .0) r₁); falls = omega (arith, k .falls, ap length (j .1), length-append (j .0) r₁) }
+    record {
+      front = k .front ++ j .0;
+      whole = k .whole ∙ ap (λ l. k .front ++ l) (j .1) ∙ sym (append-assoc (k .front) (j .0) r₁);
+      falls = omega (arith, k .falls, ap length (j .1), length-append (j .0) r₁);
+    }
 
 pub less-tails : {A : Type 0} {s : List ℕ} {m : Read A} → Ok (Less s) m → Ok (Tails s) m
 less-tails h = ok-map h λ a r k. (k .front, k .whole)

@@ -6,19 +6,21 @@ use native.Mathlib.Omega.{arith}
 use mathlib.Core.Bool.{Bool, true, false}
 use lib.Dec.{eqb}
 use lib.ListN.{length, length-append}
-use Rattle.lists.specs.Booleans.{clash}
+use Rattle.lists.specs.Laws.Booleans.{clash}
 use Rattle.grammar.specs.Bytes.{ascii, blank}
 use Rattle.grammar.specs.Document.{Attribute, Element, Contents}
 use Rattle.grammar.specs.Read.{Read, got, bind, mark, span, ok-got, mark-sound, span-sound, test}
 use Rattle.grammar.specs.Grammar.{Name}
 use Rattle.grammar.specs.Parser.{Look, at-close, at-comment, at-element, at-text, look, look-if, look₂, look-by, comment-at, closing}
-use Rattle.grammar.specs.Sound.{name-sound, attributes-sound}
+use Rattle.grammar.specs.Laws.Sound.{name-sound, attributes-sound}
 use Rattle.grammar.specs.Unfuelled.{contents}
-use Rattle.markup.specs.Tags.{close-at}
+use Rattle.steps.specs.Tags.{close-at}
 use Rattle.nodes.specs.Places.{element₁₆, unbind, pick}
-use Rattle.nodes.specs.Views.{Ending, bare, filled, Spelled, spelled, eats-child, Induction, induction}
-use Rattle.nodes.specs.Scan.{to-tag, past-tag, finishes, finish, tag-from, tag-at, scan-by, scan, scan-step, passed, skip-at, leave-at}
-use Rattle.nodes.specs.Passing.{to-tag-free, text-free, past-free, past-end, name-free, blanks-free, tag-name, tag-blanks, tag-attributes}
+use Rattle.nodes.specs.Laws.ReadSteps.{Ending, bare, filled, Spelled, spelled, eats-child, Induction, induction}
+use Rattle.nodes.specs.Scan.{to-tag, past-tag, finishes, finish, tag-from, tag-at, scan-by, scan, scan-step, passed, skip-at}
+use Rattle.nodes.specs.Scan.{leave-at}
+use Rattle.nodes.specs.Laws.ScanEnds.{to-tag-free, text-free, past-free, past-end, name-free, blanks-free, tag-name, tag-blanks}
+use Rattle.nodes.specs.Laws.ScanEnds.{tag-attributes}
 
 -- a `<`, or nothing, is where the scan looks next
 pub tag-here : (s : List ℕ) (l : Look) → look s ≡ l → (l ≡ at-text → ⊥) → to-tag s ≡ s
@@ -46,7 +48,8 @@ tag-read p =
     let n = ok-got (rw (p .names) at (name-sound (p .behind-open))) in
     let a = ok-got (rw (p .lists) at (attributes-sound (p .behind-name))) in
     let u = ok-got (rw (p .blank-so) at (span-sound blank (p .behind-all))) in
-    ap tag-at (p .opens) ∙ ap (tag-from 0) (n .0) ∙ tag-name (n .1) (p .behind-name) ∙ ap (tag-from 0) (a .1) ∙ tag-attributes (a .2) (p .behind-all)
+    ap tag-at (p .opens) ∙ ap (tag-from 0) (n .0) ∙ tag-name (n .1) (p .behind-name) ∙ ap (tag-from 0) (a .1)
+    ∙ tag-attributes (a .2) (p .behind-all)
     ∙ ap (tag-from 0) (u .0) ∙ tag-blanks (u .1) (p .behind-blanks)
 
 pub tag-bare : (r : List ℕ) → tag-from 0 (47 ∷ 62 ∷ r) ≡ got false r
@@ -98,7 +101,8 @@ record Scans (s : List ℕ) (c : Contents) (t : List ℕ) : Type 0 where
 pub name-of : {s : List ℕ} {e : Element} {r : List ℕ} (p : Spelled s e r) → Name (p .name)
 name-of p = ok-got (rw (p .names) at (name-sound (p .behind-open))) .1
 
-scan-tag : (d : ℕ) (s : List ℕ) {e : Element} {r : List ℕ} (p : Spelled s e r) → look s ≡ at-element → scan d s ≡ bind (tag-from 0 (p .behind-blanks)) (λ wide r. scan (pick wide (suc d) d) r)
+scan-tag : (d : ℕ) (s : List ℕ) {e : Element} {r : List ℕ} (p : Spelled s e r) → look s ≡ at-element
+    → scan d s ≡ bind (tag-from 0 (p .behind-blanks)) (λ wide r. scan (pick wide (suc d) d) r)
 unfolding scan-by
 scan-tag d s p q = scan-at d s at-element q (no-text-element refl) ∙ rw (tag-read p)
 
@@ -117,12 +121,24 @@ behind-shorter p =
     let n = ok-got (rw (p .names) at (name-sound (p .behind-open))) in
     let a = ok-got (rw (p .lists) at (attributes-sound (p .behind-name))) in
     let u = ok-got (rw (p .blank-so) at (span-sound blank (p .behind-all))) in
-    omega (arith, ap length (p .opens), ap length (n .0), length-append (p .name) (p .behind-name), ap length (a .1), length-append (a .0) (p .behind-all), ap length (u .0), length-append (p .blanks) (p .behind-blanks))
+    omega (
+      arith,
+      ap length (p .opens),
+      ap length (n .0),
+      length-append (p .name) (p .behind-name),
+      ap length (a .1),
+      length-append (a .0) (p .behind-all),
+      ap length (u .0),
+      length-append (p .blanks) (p .behind-blanks),
+    )
 
-scan-child : (s r : List ℕ) (x : Element) → look s ≡ at-element → element₁₆ s ≡ got x r → ((s₁ : List ℕ) (c₁ : Contents) (t₁ : List ℕ) → length s₁ < length s → contents 16 s₁ ≡ got c₁ t₁ → Scans s₁ c₁ t₁) → (d : ℕ) → scan d s ≡ scan d r
+scan-child : (s r : List ℕ) (x : Element) → look s ≡ at-element → element₁₆ s ≡ got x r
+    → ((s₁ : List ℕ) (c₁ : Contents) (t₁ : List ℕ) → length s₁ < length s → contents 16 s₁ ≡ got c₁ t₁ → Scans s₁ c₁ t₁) → (d : ℕ)
+    → scan d s ≡ scan d r
 scan-child s r x q e ih d =
     let p = spelled s x r e in
-    scan-tag d s p q ∙ scan-ending d (p .name) (name-of p) (p .ending) (λ t c u l h. ih t c u (omega (arith, behind-shorter p)) h .same-end (suc d))
+    scan-tag d s p q ∙ scan-ending d (p .name) (name-of p) (p .ending)
+    (λ t c u l h. ih t c u (omega (arith, behind-shorter p)) h .same-end (suc d))
 
 scan-remark : (s r : List ℕ) → look s ≡ at-comment → comment-at s ≡ got tt r → (d : ℕ) → scan d s ≡ scan d r
 unfolding scan-by bind
@@ -136,7 +152,8 @@ scanning = record {
   closed = λ s q. record { same-end = λ d. refl };
   remarked = λ s r c t q e h. record { same-end = λ d. scan-remark s r q e d ∙ h .same-end d };
   lettered = λ b w r c t k h. record { same-end = λ d. scan-text w r (to-tag-free (text-free k) r) d ∙ h .same-end d };
-  childed = λ s r x c t q e inside h. record { same-end = λ d. scan-child s r x q e inside d ∙ inside r c t (eats-child s e) h .same-end d };
+  childed = λ s r x c t q e inside h. record
+      { same-end = λ d. scan-child s r x q e inside d ∙ inside r c t (eats-child s e) h .same-end d };
 }
 
 pub scan-contents : (s : List ℕ) (c : Contents) (t : List ℕ) → contents 16 s ≡ got c t → (d : ℕ) → scan d s ≡ scan d t
@@ -147,7 +164,8 @@ pub scan-element : (d : ℕ) (s : List ℕ) (x : Element) (r : List ℕ) → loo
 scan-element d s x r q e = scan-child s r x q e (λ s₁ c₁ t₁ l h. record { same-end = λ n. scan-contents s₁ c₁ t₁ h n }) d
 
 -- an element
-skip-ending : (n : List ℕ) → Name n → {l : List Attribute} {s : List ℕ} {e : Element} {r : List ℕ} → Ending n l s e r → bind (tag-from 0 s) (λ wide r. passed wide r) ≡ got tt r
+skip-ending : (n : List ℕ) → Name n → {l : List Attribute} {s : List ℕ} {e : Element} {r : List ℕ} → Ending n l s e r
+    → bind (tag-from 0 s) (λ wide r. passed wide r) ≡ got tt r
 unfolding bind passed leave-at
 skip-ending n h {r = r} (bare k _) = rw (k, tag-bare r)
 skip-ending n h (filled {t} {behind} {c} k e z _) =

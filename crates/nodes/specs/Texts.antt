@@ -5,20 +5,21 @@ use Prim.Native.Nat.{ℕ, _+_, _-_, _≤_, _<_}
 use native.Mathlib.Omega.{arith}
 use mathlib.Core.Bool.{Bool, true, false}
 use lib.ListN.{length, drop, length-drop}
-use Rattle.lists.specs.Booleans.{clash}
+use Rattle.lists.specs.Laws.Booleans.{clash}
 use Rattle.grammar.specs.Document.{Attribute, Element}
 use Rattle.grammar.specs.Look.{contentsOf, characters, textOf}
 use Rattle.grammar.specs.Read.{Read, fail, got, Ok, good}
 use Rattle.grammar.specs.Parser.{reference-at, comment-at, Look, at-close, at-comment, at-element, at-text, look}
-use Rattle.grammar.specs.Sound.{comment-sound}
-use Rattle.tokens.specs.Step.{Tails, tails}
-use Rattle.tokens.specs.Leaves.{reference-tails}
+use Rattle.grammar.specs.Laws.Sound.{comment-sound}
+use Rattle.steps.specs.Step.{Tails, tails}
+use Rattle.steps.specs.Leaves.{reference-tails}
 use Rattle.nodes.specs.Places.{Stands, the, Tail, tail-of, tail-more}
-use Rattle.nodes.specs.Views.{Ending, bare, filled, spelled}
+use Rattle.nodes.specs.Laws.ReadSteps.{Ending, bare, filled, spelled}
 use Rattle.nodes.specs.Scan.{tag-from, tag-at, skip-at, skip-less, less-tails}
 use Rattle.nodes.specs.Skip.{tag-read, tag-bare, tag-filled}
 use Rattle.nodes.specs.Children.{tail-behind}
-use Rattle.nodes.specs.Says.{Move, stop, skip, char, past, referring, step-by, step, say, says, says-step, Shorter, skip-short, char-short, step-short, contents-say}
+use Rattle.nodes.specs.TextBytes.{Move, stop, skip, char, past, referring, step-by, step, say, says, says-step, Shorter, skip-short}
+use Rattle.nodes.specs.TextBytes.{char-short, step-short, contents-say}
 use Rattle.nodes.specs.declared.Found.{Found}
 use Rattle.nodes.specs.declared.Found.the-variants.{At, Nothing}
 use Rattle.nodes.specs.declared.Text.{Text}
@@ -41,7 +42,8 @@ text-from text (At i) = says (drop i text)
 unfoldable pub text-of : List ℕ → ℕ → List ℕ
 text-of text at = text-from text (inside text at)
 
-ending-text : (text n : List ℕ) {l : List Attribute} {s : List ℕ} {e : Element} {r : List ℕ} → Tail text s → Ending n l s e r → text-from text (inside-by (length text) (tag-from 0 s)) ≡ textOf e
+ending-text : (text n : List ℕ) {l : List Attribute} {s : List ℕ} {e : Element} {r : List ℕ} → Tail text s → Ending n l s e r
+    → text-from text (inside-by (length text) (tag-from 0 s)) ≡ textOf e
 unfolding inside-by text-from textOf contentsOf characters
 ending-text text n {r = r} tail (bare k q) = rw (k, tag-bare r, q)
 ending-text text n tail (filled {t} {behind} {c} k h z q) =
@@ -75,7 +77,8 @@ unfolding past
 past-tailed text s fail t h = stop-tailed
 past-tailed text s (got u r) t (good h) = skip-tailed (tail-more (h .0) r (h .1) t)
 
-referring-tailed : (text s : List ℕ) (m : Read (List ℕ)) (x : Move) → Tail text s → Ok (Tails s) m → Tailed text x → Tailed text (referring m x)
+referring-tailed : (text s : List ℕ) (m : Read (List ℕ)) (x : Move) → Tail text s → Ok (Tails s) m → Tailed text x
+    → Tailed text (referring m x)
 unfolding referring
 referring-tailed text s fail x t h k = k
 referring-tailed text s (got b r) x t (good h) k = char-tailed (tail-more (h .0) r (h .1) t)
@@ -86,7 +89,8 @@ by-tailed text at-close s t = stop-tailed
 by-tailed text at-element s t = past-tailed text s (skip-at s) t (less-tails (skip-less s))
 by-tailed text at-comment s t = past-tailed text s (comment-at s) t (tails (comment-sound s))
 by-tailed text at-text [] t = stop-tailed
-by-tailed text at-text (a ∷ s) t = referring-tailed text (a ∷ s) (reference-at (a ∷ s)) (char a s) t (reference-tails (a ∷ s)) (char-tailed (tail-more (a ∷ []) s refl t))
+by-tailed text at-text (a ∷ s) t = referring-tailed text (a ∷ s) (reference-at (a ∷ s)) (char a s) t (reference-tails (a ∷ s))
+    (char-tailed (tail-more (a ∷ []) s refl t))
 
 step-tailed : (text s : List ℕ) → Tail text s → Tailed text (step s)
 unfolding step
@@ -98,13 +102,15 @@ pub record Steps (text : List ℕ) (i : ℕ) (front : List ℕ) (j : ℕ) : Type
   pub ahead : i < j
   pub splits : says (drop i text) ≡ front ++ says (drop j text)
 
-steps-by : (text : List ℕ) (i : ℕ) (front r : List ℕ) (j : ℕ) → j ≡ length text - length r → Tail text r → length r < length (drop i text) → says (drop i text) ≡ front ++ says r → Steps text i front j
+steps-by : (text : List ℕ) (i : ℕ) (front r : List ℕ) (j : ℕ) → j ≡ length text - length r → Tail text r
+    → length r < length (drop i text) → says (drop i text) ≡ front ++ says r → Steps text i front j
 steps-by text i front r j p t s e =
     let k : length (drop i text) ≡ length text - i = length-drop i text in
     let u : drop j text ≡ r = rw p (t .stands) in
     record { inside-text = omega arith; ahead = omega (arith, t .fits); splits = rw u e }
 
-letter-law : (text : List ℕ) (i : ℕ) (x : Move) → step (drop i text) ≡ x → Tailed text x → Shorter (drop i text) x → {b j : ℕ} → as-text (length text) x ≡ Letter b j → Steps text i (b ∷ []) j
+letter-law : (text : List ℕ) (i : ℕ) (x : Move) → step (drop i text) ≡ x → Tailed text x → Shorter (drop i text) x → {b j : ℕ}
+    → as-text (length text) x ≡ Letter b j → Steps text i (b ∷ []) j
 unfolding as-text say
 letter-law text i stop e t s h = clash (cc)
 letter-law text i (skip r) e t s h = clash (cc)
@@ -112,7 +118,8 @@ letter-law text i (char c r) e (char-tailed t) (char-short s) {b} {j} h =
     let w : c ≡ b = cc in
     steps-by text i (b ∷ []) r j (cc) t s (rw (says-step (drop i text), e, w))
 
-skip-law : (text : List ℕ) (i : ℕ) (x : Move) → step (drop i text) ≡ x → Tailed text x → Shorter (drop i text) x → {j : ℕ} → as-text (length text) x ≡ Skip j → Steps text i [] j
+skip-law : (text : List ℕ) (i : ℕ) (x : Move) → step (drop i text) ≡ x → Tailed text x → Shorter (drop i text) x → {j : ℕ}
+    → as-text (length text) x ≡ Skip j → Steps text i [] j
 unfolding as-text say
 skip-law text i stop e t s h = clash (cc)
 skip-law text i (char c r) e t s h = clash (cc)
@@ -128,11 +135,13 @@ stop-law s n (char b r) e h = clash (cc)
 module _ (text : List ℕ) (i : ℕ) {a : Text} (e : a ≡ text-step text i) where
   pub text-letter : {b j : ℕ} → a ≡ Letter b j → Steps text i (b ∷ []) j
   unfolding text-step
-  text-letter z = letter-law text i (step (drop i text)) refl (step-tailed text (drop i text) (tail-of text i)) (step-short (drop i text)) (sym e ∙ z)
+  text-letter z = letter-law text i (step (drop i text)) refl (step-tailed text (drop i text) (tail-of text i))
+      (step-short (drop i text)) (sym e ∙ z)
 
   pub text-skip : {j : ℕ} → a ≡ Skip j → Steps text i [] j
   unfolding text-step
-  text-skip z = skip-law text i (step (drop i text)) refl (step-tailed text (drop i text) (tail-of text i)) (step-short (drop i text)) (sym e ∙ z)
+  text-skip z = skip-law text i (step (drop i text)) refl (step-tailed text (drop i text) (tail-of text i)) (step-short (drop i text))
+      (sym e ∙ z)
 
   pub text-stop : a ≡ Stop → says (drop i text) ≡ []
   unfolding text-step

@@ -1,4 +1,5 @@
--- The decoded bytes of a value, one by one. Behind the first byte of a character stand bytes of 128 and more, so that bytes can be decoded for characters.
+-- The decoded bytes of a value, one by one. Behind the first byte of a character stand bytes of 128 and more, so that bytes can be
+-- decoded for characters.
 use mathlib.Core.Path.{_≡_, refl, ap, sym, _∙_}
 use mathlib.Core.List.{List, [], _∷_, _++_}
 use Prim.Native.Nat.{ℕ, zero, suc, _+_, _-_, _≤_, _<_}
@@ -7,7 +8,7 @@ use mathlib.Core.Bool.{Bool, true, false}
 use lib.Dec.{eqb}
 use borrow.Author.Tests.{ne-eqb}
 use lib.ListN.{length, drop, getD, length-drop}
-use Rattle.lists.specs.Booleans.{and-left, or-right, clash}
+use Rattle.lists.specs.Laws.Booleans.{and-left, or-right, clash}
 use Rattle.grammar.specs.Bytes.{blank, quote, special, begins}
 use Rattle.grammar.specs.Characters.{Character, utf8-1, utf8-2, utf8-3, utf8-4}
 use Rattle.grammar.specs.Document.{together}
@@ -15,16 +16,17 @@ use Rattle.grammar.specs.Grammar
 use Rattle.grammar.specs.Grammar.{ValueCharacter, Reference}
 use Rattle.grammar.specs.Read.{Read, fail, got, Reader, bind, byte, mark, all-of, many-step, Ok, good, ok-got, byte-sound}
 use Rattle.grammar.specs.Parser.{reference-at, value-character-at, value-at}
-use Rattle.grammar.specs.Sound.{reference-sound, value-character-sound}
-use Rattle.grammar.specs.Tokens.{reference-complete, reference-other, reference-ampersand, Ampersand, ampersand, value-character-long, high-no-blank}
+use Rattle.grammar.specs.Laws.Sound.{reference-sound, value-character-sound}
+use Rattle.grammar.specs.Laws.Tokens.{reference-complete, reference-other, reference-ampersand, Ampersand, ampersand}
+use Rattle.grammar.specs.Laws.Tokens.{value-character-long, high-no-blank}
 use lib.Seq.{drop-drop, getD-drop}
-use Rattle.grammar.specs.Facts.{blank-in, quote-in}
+use Rattle.grammar.specs.Laws.Facts.{blank-in, quote-in}
 use Rattle.grammar.specs.Unfuelled.{less, all-of-step}
-use Rattle.tokens.specs.Step.{Tails}
-use Rattle.tokens.specs.Leaves.{first-byte, reference-tails}
-use Rattle.nodes.specs.Passing.{continues-high, lead3-high, lead4-high}
+use Rattle.steps.specs.Step.{Tails}
+use Rattle.steps.specs.Leaves.{first-byte, reference-tails}
+use Rattle.nodes.specs.Laws.ScanEnds.{continues-high, lead3-high, lead4-high}
 use Rattle.nodes.specs.Places.{pick, unbind, Tail, tail-of, tail-more}
-use Rattle.nodes.specs.Attributes.{Value}
+use Rattle.nodes.specs.Attributes.{ValueAt}
 use Rattle.nodes.specs.declared.Char.{Char}
 use Rattle.nodes.specs.declared.Char.the-variants.{Byte, End}
 
@@ -46,22 +48,23 @@ unfoldable pub tell : Next → (List ℕ → List ℕ) → List ℕ
 tell no-byte f = []
 tell (a-byte b r) f = b ∷ f r
 
-unfoldable pub told : ℕ → ℕ → List ℕ → List ℕ
-told q zero s = []
-told q (suc n) s = tell (next-byte q s) (told q n)
+unfoldable pub decodedAs : ℕ → ℕ → List ℕ → List ℕ
+decodedAs q zero s = []
+decodedAs q (suc n) s = tell (next-byte q s) (decodedAs q n)
 
 unfoldable pub tells : ℕ → List ℕ → List ℕ
-tells q s = told q (suc (length s)) s
+tells q s = decodedAs q (suc (length s)) s
 
 -- the decoded bytes of the value at a position: any bytes
 unfoldable pub value-there : List ℕ → ℕ → List ℕ
 value-there text v = tells (getD text v 0) (drop (v + 1) text)
 
-pub data Shorter (s : List ℕ) : Next → Type 0 where
-  none-short : Shorter s no-byte
-  one-short : {b : ℕ} {r : List ℕ} → length r < length s → Shorter s (a-byte b r)
+pub data ShorterNext (s : List ℕ) : Next → Type 0 where
+  none-short : ShorterNext s no-byte
+  one-short : {b : ℕ} {r : List ℕ} → length r < length s → ShorterNext s (a-byte b r)
 
-or-else-short : (s : List ℕ) (m : Read (List ℕ)) (n : Next) → Ok (λ _ r. length r < length s) m → Shorter s n → Shorter s (or-else m n)
+or-else-short : (s : List ℕ) (m : Read (List ℕ)) (n : Next) → Ok (λ _ r. length r < length s) m → ShorterNext s n
+    → ShorterNext s (or-else m n)
 unfolding or-else
 or-else-short s fail n h k = k
 or-else-short s (got b r) n (good h) k = one-short h
@@ -69,38 +72,42 @@ or-else-short s (got b r) n (good h) k = one-short h
 ampersand-long : {w : List ℕ} → Ampersand w → 0 < length w
 ampersand-long (ampersand w) = omega arith
 
-pub next-short : (q : ℕ) (s : List ℕ) → Shorter s (next-byte q s)
+pub next-short : (q : ℕ) (s : List ℕ) → ShorterNext s (next-byte q s)
 unfolding next-byte
 next-short q [] = none-short
 next-short q (a ∷ s) = go (eqb a q)
   where
-    inner : Shorter (a ∷ s) (or-else (reference-at (a ∷ s)) (a-byte (pick (blank a) 32 a) s))
-    inner = or-else-short (a ∷ s) (reference-at (a ∷ s)) _ (less (λ b w h. ampersand-long (reference-ampersand h)) (reference-sound (a ∷ s))) (one-short (omega arith))
+    inner : ShorterNext (a ∷ s) (or-else (reference-at (a ∷ s)) (a-byte (pick (blank a) 32 a) s))
+    inner = or-else-short (a ∷ s) (reference-at (a ∷ s)) _
+        (less (λ b w h. ampersand-long (reference-ampersand h)) (reference-sound (a ∷ s))) (one-short (omega arith))
 
-    go : (t : Bool) → Shorter (a ∷ s) (pick t no-byte (or-else (reference-at (a ∷ s)) (a-byte (pick (blank a) 32 a) s)))
+    go : (t : Bool) → ShorterNext (a ∷ s) (pick t no-byte (or-else (reference-at (a ∷ s)) (a-byte (pick (blank a) 32 a) s)))
     go true = none-short
     go false = inner
 
-tell-same : (s : List ℕ) (n : Next) (f g : List ℕ → List ℕ) → Shorter s n → ((r : List ℕ) → length r < length s → f r ≡ g r) → tell n f ≡ tell n g
+tell-same : (s : List ℕ) (n : Next) (f g : List ℕ → List ℕ) → ShorterNext s n → ((r : List ℕ) → length r < length s → f r ≡ g r)
+    → tell n f ≡ tell n g
 unfolding tell
 tell-same s no-byte f g h k = refl
 tell-same s (a-byte b r) f g (one-short h) k = ap (λ l. b ∷ l) (k r h)
 
-told-suc : (q n : ℕ) (s : List ℕ) → told q (suc n) s ≡ tell (next-byte q s) (told q n)
-unfolding told
+told-suc : (q n : ℕ) (s : List ℕ) → decodedAs q (suc n) s ≡ tell (next-byte q s) (decodedAs q n)
+unfolding decodedAs
 told-suc q n s = refl
 
-told-enough : (q n m : ℕ) (s : List ℕ) → length s < n → length s < m → told q n s ≡ told q m s
+told-enough : (q n m : ℕ) (s : List ℕ) → length s < n → length s < m → decodedAs q n s ≡ decodedAs q m s
 told-enough q zero m s h k = absurd (omega arith)
 told-enough q (suc n) zero s h k = absurd (omega arith)
 told-enough q (suc n) (suc m) s h k =
-    rw (told-suc q n s, told-suc q m s) (tell-same s (next-byte q s) (told q n) (told q m) (next-short q s) (λ r l. told-enough q n m r (omega arith) (omega arith)))
+    rw (told-suc q n s, told-suc q m s) (tell-same s (next-byte q s) (decodedAs q n) (decodedAs q m) (next-short q s)
+    (λ r l. told-enough q n m r (omega arith) (omega arith)))
 
 pub tells-step : (q : ℕ) (s : List ℕ) → tells q s ≡ tell (next-byte q s) (tells q)
 unfolding tells
 tells-step q s =
     told-suc q (length s) s
-    ∙ tell-same s (next-byte q s) (told q (length s)) (λ r. told q (suc (length r)) r) (next-short q s) (λ r l. told-enough q (length s) (suc (length r)) r (omega arith) (omega arith))
+    ∙ tell-same s (next-byte q s) (decodedAs q (length s)) (λ r. decodedAs q (suc (length r)) r) (next-short q s)
+    (λ r l. told-enough q (length s) (suc (length r)) r (omega arith) (omega arith))
 
 plain : (q a : ℕ) (s : List ℕ) → eqb a q ≡ false → eqb a 38 ≡ false → blank a ≡ false → tells q (a ∷ s) ≡ a ∷ tells q s
 unfolding next-byte or-else tell
@@ -118,14 +125,18 @@ high q a s h k =
     let low = quote-in q h .0 in
     plain q a s (ne-eqb a q λ e. omega arith) (ne-eqb a 38 λ e. omega arith) (high-no-blank a (omega arith))
 
-character-tells : (q : ℕ) → quote q ≡ true → {a : ℕ} {w : List ℕ} → Character a w → eqb a q ≡ false → eqb a 38 ≡ false → blank a ≡ false → (s : List ℕ) → tells q (a ∷ (w ++ s)) ≡ a ∷ (w ++ tells q s)
+character-tells : (q : ℕ) → quote q ≡ true → {a : ℕ} {w : List ℕ} → Character a w → eqb a q ≡ false → eqb a 38 ≡ false → blank a ≡ false
+    → (s : List ℕ) → tells q (a ∷ (w ++ s)) ≡ a ∷ (w ++ tells q s)
 character-tells q h {a} (utf8-1 k) e₁ e₂ e₃ s = plain q a s e₁ e₂ e₃
 character-tells q h {a} (utf8-2 {b = b} k₁ k₂) e₁ e₂ e₃ s =
     plain q a (b ∷ s) e₁ e₂ e₃ ∙ ap (λ l. a ∷ l) (high q b s h (continues-high b k₂))
 character-tells q h {a} (utf8-3 {b = b} {c} k₁ k₂ k₃) e₁ e₂ e₃ s =
-    plain q a (b ∷ c ∷ s) e₁ e₂ e₃ ∙ ap (λ l. a ∷ l) (high q b (c ∷ s) h (lead3-high a b k₁) ∙ ap (λ l. b ∷ l) (high q c s h (continues-high c k₂)))
+    plain q a (b ∷ c ∷ s) e₁ e₂ e₃ ∙ ap (λ l. a ∷ l)
+    (high q b (c ∷ s) h (lead3-high a b k₁) ∙ ap (λ l. b ∷ l) (high q c s h (continues-high c k₂)))
 character-tells q h {a} (utf8-4 {b = b} {c} {d} k₁ k₂ k₃) e₁ e₂ e₃ s =
-    plain q a (b ∷ c ∷ d ∷ s) e₁ e₂ e₃ ∙ ap (λ l. a ∷ l) (high q b (c ∷ d ∷ s) h (lead4-high a b k₁) ∙ ap (λ l. b ∷ l) (high q c (d ∷ s) h (continues-high c k₂) ∙ ap (λ l. c ∷ l) (high q d s h (continues-high d k₃))))
+    plain q a (b ∷ c ∷ d ∷ s) e₁ e₂ e₃ ∙ ap (λ l. a ∷ l)
+    (high q b (c ∷ d ∷ s) h (lead4-high a b k₁)
+    ∙ ap (λ l. b ∷ l) (high q c (d ∷ s) h (continues-high c k₂) ∙ ap (λ l. c ∷ l) (high q d s h (continues-high d k₃))))
 
 by-reference : (q b : ℕ) (t s : List ℕ) → quote q ≡ true → reference-at (38 ∷ t) ≡ got (b ∷ []) s → tells q (38 ∷ t) ≡ b ∷ tells q s
 unfolding next-byte or-else tell first-byte
@@ -141,7 +152,8 @@ referred q h Grammar.apos s = by-reference q 39 _ s h (reference-complete Gramma
 value-tells : (q : ℕ) → quote q ≡ true → {b w : List ℕ} → ValueCharacter q b w → (s : List ℕ) → tells q (w ++ s) ≡ b ++ tells q s
 unfolding special
 value-tells q h (ValueCharacter.literal {a} k e₁ e₂ e₃) s = character-tells q h k e₂ (or-right (eqb a 60) (eqb a 38) e₁) e₃ s
-value-tells q h (ValueCharacter.space {a} k) s = let low = blank-in a k in let up = quote-in q h .0 in spaced q a s (ne-eqb a q λ e. omega arith) k
+value-tells q h (ValueCharacter.space {a} k) s = let low = blank-in a k in let up = quote-in q h .0 in
+    spaced q a s (ne-eqb a q λ e. omega arith) k
 value-tells q h (ValueCharacter.reference k) s = referred q h k s
 
 values-at : ℕ → Reader (List (List ℕ))
@@ -149,13 +161,15 @@ values-at q = all-of (begins (q ∷ [])) (value-character-at q)
 
 values-step : (q : ℕ) (s : List ℕ) → values-at q s ≡ many-step (begins (q ∷ []) s) (value-character-at q) (values-at q) s
 unfolding values-at
-values-step q s = all-of-step (value-character-at q) (begins (q ∷ [])) (λ s. less (λ _ w h. value-character-long q h) (value-character-sound q s)) s
+values-step q s = all-of-step (value-character-at q) (begins (q ∷ []))
+    (λ s. less (λ _ w h. value-character-long q h) (value-character-sound q s)) s
 
 values-end : (q : ℕ) (s : List ℕ) → begins (q ∷ []) s ≡ true → values-at q s ≡ got [] s
 unfolding many-step
 values-end q s e = rw (values-step q s, e)
 
-values-more : (q : ℕ) (s : List ℕ) → begins (q ∷ []) s ≡ false → values-at q s ≡ bind (value-character-at q s) (λ b r. bind (values-at q r) (λ l r₁. got (b ∷ l) r₁))
+values-more : (q : ℕ) (s : List ℕ) → begins (q ∷ []) s ≡ false
+    → values-at q s ≡ bind (value-character-at q s) (λ b r. bind (values-at q r) (λ l r₁. got (b ∷ l) r₁))
 unfolding many-step
 values-more q s e = rw (values-step q s, e)
 
@@ -169,18 +183,23 @@ one-character q h s b r e =
     let k = ok-got (rw e at (value-character-sound q s)) in
     rw (k .1) (value-tells q h (k .2) r)
 
-values-tell : (n q : ℕ) → quote q ≡ true → (s : List ℕ) → length s < n → (bs : List (List ℕ)) (r : List ℕ) → values-at q s ≡ got bs r → tells q s ≡ together bs
+values-tell : (n q : ℕ) → quote q ≡ true → (s : List ℕ) → length s < n → (bs : List (List ℕ)) (r : List ℕ) → values-at q s ≡ got bs r
+    → tells q s ≡ together bs
 values-tell zero q h s l bs r e = absurd (omega arith)
 values-tell (suc n) q h s l bs r e = go (begins (q ∷ []) s) refl (λ s₁ k bs₁ r₁ e₁. values-tell n q h s₁ k bs₁ r₁ e₁)
   where
-    go : (t : Bool) → begins (q ∷ []) s ≡ t → ((s₁ : List ℕ) → length s₁ < n → (bs₁ : List (List ℕ)) (r₁ : List ℕ) → values-at q s₁ ≡ got bs₁ r₁ → tells q s₁ ≡ together bs₁) → tells q s ≡ together bs
+    go : (t : Bool) → begins (q ∷ []) s ≡ t
+        → ((s₁ : List ℕ) → length s₁ < n → (bs₁ : List (List ℕ)) (r₁ : List ℕ) → values-at q s₁ ≡ got bs₁ r₁ → tells q s₁ ≡ together bs₁)
+        → tells q s ≡ together bs
     go true q₁ ih = let z = values-end q s q₁ in let w : bs ≡ [] = cc in rw w (ended q s q₁)
     go false q₁ ih =
         let b₁ = unbind (value-character-at q s) _ (sym (values-more q s q₁) ∙ e) in
         let b₂ = unbind (values-at q (b₁ .rest)) _ (b₁ .then) in
         let w : b₁ .value ∷ b₂ .value ≡ bs = let z = b₂ .then in cc in
-        let short : length (b₁ .rest) < length s = ok-got (rw (b₁ .reads) at (less (λ _ w h. value-character-long q h) (value-character-sound q s))) in
-        one-character q h s (b₁ .value) (b₁ .rest) (b₁ .reads) ∙ ap (λ l. b₁ .value ++ l) (ih (b₁ .rest) (omega arith) (b₂ .value) (b₂ .rest) (b₂ .reads)) ∙ ap together w
+        let short : length (b₁ .rest) < length s =
+        ok-got (rw (b₁ .reads) at (less (λ _ w h. value-character-long q h) (value-character-sound q s))) in
+        one-character q h s (b₁ .value) (b₁ .rest) (b₁ .reads)
+        ∙ ap (λ l. b₁ .value ++ l) (ih (b₁ .rest) (omega arith) (b₂ .value) (b₂ .rest) (b₂ .reads)) ∙ ap together w
 
 read-value : (s x r : List ℕ) → value-at s ≡ got x r → (q : ℕ) × (s₁ : List ℕ) × (s ≡ q ∷ s₁) × (tells q s₁ ≡ x)
 unfolding value-at values-at
@@ -194,7 +213,7 @@ read-value s x r e =
     (q, b₁ .rest, k .0, values-tell (suc (length (b₁ .rest))) q (k .1) (b₁ .rest) (omega arith) (b₂ .value) (b₂ .rest) (b₂ .reads) ∙ w)
 
 -- THE LAW OF VALUES: where a value stands, these are its decoded bytes
-pub value-law : {text : List ℕ} {v : ℕ} {x : List ℕ} → Value text v x → value-there text v ≡ x
+pub value-law : {text : List ℕ} {v : ℕ} {x : List ℕ} → ValueAt text v x → value-there text v ≡ x
 unfolding value-there
 value-law {text} {v} {x} h =
     let k = read-value (drop v text) x (h .rest) (h .reads) in
@@ -240,7 +259,8 @@ pub record Decodes (text : List ℕ) (q i b j : ℕ) : Type 0 where
   pub ahead : i < j
   pub splits : tells q (drop i text) ≡ b ∷ tells q (drop j text)
 
-char-law : (text : List ℕ) (q i : ℕ) (n : Next) → next-byte q (drop i text) ≡ n → Tailed text n → Shorter (drop i text) n → {b j : ℕ} → as-char (length text) n ≡ Byte b j → Decodes text q i b j
+char-law : (text : List ℕ) (q i : ℕ) (n : Next) → next-byte q (drop i text) ≡ n → Tailed text n → ShorterNext (drop i text) n → {b j : ℕ}
+    → as-char (length text) n ≡ Byte b j → Decodes text q i b j
 unfolding as-char tell
 char-law text q i no-byte e t s h = clash (cc)
 char-law text q i (a-byte c r) e (one-tailed t) (one-short s) {b} {j} h =
@@ -256,7 +276,8 @@ char-law text q i (a-byte c r) e (one-tailed t) (one-short s) {b} {j} h =
 
 pub decoded-byte : (text : List ℕ) (q i : ℕ) {c : Char} → c ≡ decoded-at text i q → {b j : ℕ} → c ≡ Byte b j → Decodes text q i b j
 unfolding decoded-at
-decoded-byte text q i e z = char-law text q i (next-byte q (drop i text)) refl (next-tailed text q (drop i text) (tail-of text i)) (next-short q (drop i text)) (sym e ∙ z)
+decoded-byte text q i e z = char-law text q i (next-byte q (drop i text)) refl (next-tailed text q (drop i text) (tail-of text i))
+    (next-short q (drop i text)) (sym e ∙ z)
 
 end-law : (q : ℕ) (s : List ℕ) (k : ℕ) (n : Next) → next-byte q s ≡ n → as-char k n ≡ End → tells q s ≡ []
 unfolding as-char tell

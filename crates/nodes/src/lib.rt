@@ -1,4 +1,5 @@
-// The elements of a text, as positions: the layer above walks them and never sees a byte of markup.
+// The elements of a text, as positions: the layers above walk them and never see a byte of markup. Definitions, laws and types; no
+// functions.
 
 // A cursor in a row of children.
 pub enum Kid {
@@ -25,10 +26,7 @@ pub enum Text {
     Stop,
 }
 
-pub mod ahead;
-pub mod attributes;
-pub mod children;
-pub mod names;
+// What passing over a text meets.
 pub mod scan;
-pub mod texts;
-pub mod values;
+// The next child, or the end of its parent.
+pub mod ahead;

@@ -7,8 +7,9 @@ use lib.ListN.{length, drop, getD}
 use Rattle.grammar.specs.Bytes.{blank, between}
 use Rattle.grammar.specs.Look.{Word}
 use Rattle.lists.specs.Lists.{count}
-use Rattle.nodes.specs.Says.{says}
-use Rattle.numbers.specs.Numbers.{digits, value, whole, words, Sign, plus, minus, withSign, dimensionList, commaValues, volumeDimensions, exponent, exponentValue, decimal, decimalValue}
+use Rattle.nodes.specs.TextBytes.{says}
+use Rattle.numbers.specs.Numbers.{digits, value, whole, words, Sign, plus, minus, withSign, dimensionList, commaValues}
+use Rattle.numbers.specs.Numbers.{volumeDimensions, exponent, exponentValue, decimal, decimalValue}
 use Rattle.numbers.specs.Stream.{behind, leading}
 use Rattle.numbers.specs.declared.Source.the-variants.{Contents}
 use Rattle.numbers.specs.declared.Whole.{Whole}

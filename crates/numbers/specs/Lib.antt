@@ -1,14 +1,8 @@
 pub mod Numbers
-pub mod Cuts
 pub mod Stream
-pub mod StreamLaws
 pub mod Parted
-pub mod Forms
 pub mod Answers
-pub mod Listed
-pub mod Walk
-pub mod Nth
 pub mod Spelled
 pub mod Sixteen
-pub mod Theorems
-pub mod Examples
+pub mod Laws
+pub mod Tests

@@ -146,5 +146,6 @@ unfoldable pub sixteen : Word → Bool
 sixteen w = let l = words w in all decimal l && lastRow (drop 12 l)
 
 unfoldable pub numbers : Unit {0}
-unfolding blank digit digits number value onFirst parts comma point filled words whole three volumeDimensions dimensionList commaValues unsigned withSign exponent exponentValue decimalParts decimal decimalValue isWhole equalTo wholes values lastRow sixteen
+unfolding blank digit digits number value onFirst parts comma point filled words whole three volumeDimensions dimensionList commaValues
+    unsigned withSign exponent exponentValue decimalParts decimal decimalValue isWhole equalTo wholes values lastRow sixteen
 numbers = tt

@@ -1,4 +1,5 @@
--- What the reader of one number among commas finds: the number and the place behind its comma, or the last number, or that its part is no such number.
+-- What the reader of one number among commas finds: the number and the place behind its comma, or the last number, or that its part is no
+-- such number.
 use mathlib.Core.Path.{_≡_, refl, sym, ap, _∙_}
 use mathlib.Core.List.{List, [], _∷_, _++_, append-nil}
 use mathlib.Core.Bool.{Bool, true, false, _&&_}
@@ -17,7 +18,10 @@ unfoldable pub numeral : (most lo hi : ℕ) → Word → Bool
 numeral most lo hi w = digits 1 most w && between lo hi (value w)
 
 pub data Parted (source : Source) (text : List ℕ) (most lo hi at : ℕ) : Part → Type 0 where
-  part-comma : (x : Word) {j : ℕ} → numeral most lo hi x ≡ true → parts comma (stream source text at) ≡ x ∷ parts comma (stream source text j) → at < j → j ≤ length text
+  part-comma : (x : Word) {j : ℕ} → numeral most lo hi x ≡ true → parts comma (stream source text at) ≡ x
+      ∷ parts comma (stream source text j) → at < j → j ≤ length text
       → Parted source text most lo hi at (Comma (value x) j)
-  part-last : (x : Word) → numeral most lo hi x ≡ true → parts comma (stream source text at) ≡ x ∷ [] → Parted source text most lo hi at (Last (value x))
-  part-no : (x : Word) (l : List Word) → numeral most lo hi x ≡ false → parts comma (stream source text at) ≡ x ∷ l → Parted source text most lo hi at No
+  part-last : (x : Word) → numeral most lo hi x ≡ true → parts comma (stream source text at) ≡ x ∷ []
+      → Parted source text most lo hi at (Last (value x))
+  part-no : (x : Word) (l : List Word) → numeral most lo hi x ≡ false → parts comma (stream source text at) ≡ x ∷ l
+      → Parted source text most lo hi at No

@@ -8,11 +8,12 @@ use lib.Dec.{eqb, leb}
 use lib.ListN.{length, drop, length-append}
 use borrow.Author.Tests.{le-leb, leb-true}
 use Rattle.grammar.specs.Document.{together}
-use Rattle.grammar.specs.Facts.{and-left, and-right}
+use Rattle.grammar.specs.Laws.Facts.{and-left, and-right}
 use Rattle.grammar.specs.Look.{Word}
 use Rattle.lists.specs.Lists.{all}
-use Rattle.numbers.specs.Numbers.{digits, parts, point, unsigned, decimalParts, decimal, decimalValue, isWhole, equalTo, words, lastRow, sixteen}
-use Rattle.numbers.specs.Cuts.{digits-split}
+use Rattle.numbers.specs.Numbers.{digits, parts, point, unsigned, decimalParts, decimal, decimalValue, isWhole, equalTo, words}
+use Rattle.numbers.specs.Numbers.{lastRow, sixteen}
+use Rattle.numbers.specs.Laws.Cuts.{digits-split}
 use Rattle.numbers.specs.declared.Decimal.{Decimal}
 
 -- the last four are 0 0 0 1, whatever stands before them
@@ -66,10 +67,12 @@ unfolding sixteenFrom all lastRow
 last-four [] = refl
 last-four (a ∷ []) = and-false (all decimal (a ∷ [])) ∙ sym (drops (decimal a) (R 3 a))
 last-four (a ∷ b ∷ []) = and-false (all decimal (a ∷ b ∷ [])) ∙ sym (rw (drops (decimal b) (R 2 b)) (drops (decimal a) (R 3 a)))
-last-four (a ∷ b ∷ c ∷ []) = and-false (all decimal (a ∷ b ∷ c ∷ [])) ∙ sym (rw (drops (decimal c) (R 1 c), drops (decimal b) (R 2 b)) (drops (decimal a) (R 3 a)))
+last-four (a ∷ b ∷ c ∷ []) = and-false (all decimal (a ∷ b ∷ c ∷ []))
+    ∙ sym (rw (drops (decimal c) (R 1 c), drops (decimal b) (R 2 b)) (drops (decimal a) (R 3 a)))
 last-four (a ∷ b ∷ c ∷ d ∷ []) =
     rw (right-zero d, right-one c, right-two b, right-three a)
-    (swap (decimal a) (equalTo 0 a) (all decimal (b ∷ c ∷ d ∷ [])) (equalTo 0 b && (equalTo 0 c && equalTo 1 d)) ∙ ap (λ z. decimal a && (equalTo 0 a && z))
+    (swap (decimal a) (equalTo 0 a) (all decimal (b ∷ c ∷ d ∷ [])) (equalTo 0 b && (equalTo 0 c && equalTo 1 d))
+    ∙ ap (λ z. decimal a && (equalTo 0 a && z))
     (swap (decimal b) (equalTo 0 b) (all decimal (c ∷ d ∷ [])) (equalTo 0 c && equalTo 1 d) ∙ ap (λ z. decimal b && (equalTo 0 b && z))
     (swap (decimal c) (equalTo 0 c) (all decimal (d ∷ [])) (equalTo 1 d) ∙ ap (λ z. decimal c && (equalTo 0 c && z))
     (regroup (decimal d) true (equalTo 1 d) ∙ ap (λ z. decimal d && z) (sym (and-true (equalTo 1 d)))))))

@@ -9,11 +9,14 @@ use lib.ListN.{length, drop, length-append}
 use borrow.Author.Tests.{le-leb, lt-leb, leb-true, ne-eqb, eqb-true}
 use Rattle.grammar.specs.Bytes.{blank}
 use Rattle.grammar.specs.Document.{together}
-use Rattle.grammar.specs.Facts.{and-left, and-right, refute, blank-in}
+use Rattle.grammar.specs.Laws.Facts.{and-left, and-right, refute, blank-in}
 use Rattle.grammar.specs.Look.{Word}
 use Rattle.lists.specs.Lists.{all}
-use Rattle.numbers.specs.Numbers.{digit, digits, number, value, parts, onFirst, point, Sign, plus, minus, Signed, unsigned, withSign, decimalParts, decimal, decimalValue}
-use Rattle.numbers.specs.Cuts.{Uncut, none, more, Parts, parts-some, parts-end, parts-cut, parts-join, digit-no-blank, digit-no-point, digits-uncut, digits-are, digits-few, digits-stopped, digits-split, number-append}
+use Rattle.numbers.specs.Numbers.{digit, digits, number, value, parts, onFirst, point, Sign, plus, minus, Signed, unsigned}
+use Rattle.numbers.specs.Numbers.{withSign, decimalParts, decimal, decimalValue}
+use Rattle.numbers.specs.Laws.Cuts.{Uncut, none, more, Parts, parts-some, parts-end, parts-cut, parts-join, digit-no-blank}
+use Rattle.numbers.specs.Laws.Cuts.{digit-no-point, digits-uncut, digits-are, digits-few, digits-stopped, digits-split}
+use Rattle.numbers.specs.Laws.Cuts.{number-append}
 use Rattle.numbers.specs.Stream.{stream, wordEnds}
 use Rattle.numbers.specs.declared.Source.{Source}
 use Rattle.numbers.specs.declared.Decimal.{Decimal}
@@ -26,22 +29,29 @@ pureValue s w = record { amount = withSign s (value (together (parts point w)));
 
 -- What is found from a place on, the sign being read: a decimal and the place behind it, or a word that is none.
 pub data Pure (source : Source) (text : List ℕ) (at : ℕ) (s : Sign) : Spelling → Type 0 where
-  pure-reads : (x : Word) {j : ℕ} {d : Decimal} → decimalParts (parts point x) ≡ true → d ≡ pureValue s x → Uncut blank x → stream source text at ≡ x ++ stream source text j
+  pure-reads : (x : Word) {j : ℕ} {d : Decimal} → decimalParts (parts point x) ≡ true → d ≡ pureValue s x → Uncut blank x
+      → stream source text at ≡ x ++ stream source text j
       → wordEnds (stream source text j) ≡ true → Pure source text at s (Reads d j)
-  pure-fails : (x y : Word) → decimalParts (parts point x) ≡ false → Uncut blank x → stream source text at ≡ x ++ y → wordEnds y ≡ true → Pure source text at s Fails
+  pure-fails : (x y : Word) → decimalParts (parts point x) ≡ false → Uncut blank x → stream source text at ≡ x ++ y → wordEnds y ≡ true
+      → Pure source text at s Fails
 
 -- What is found behind the point, where `count` digits stand in front of it, which write `before`.
 pub data Pointed (source : Source) (text : List ℕ) (at before count : ℕ) (s : Sign) : Spelling → Type 0 where
-  pointed-reads : (v : Word) {j : ℕ} {d : Decimal} → all digit v ≡ true → 1 ≤ length v → length v ≤ 15 - count → d ≡ record { amount = withSign s (number before v); places = length v }
-      → stream source text at ≡ v ++ stream source text j → wordEnds (stream source text j) ≡ true → Pointed source text at before count s (Reads d j)
-  pointed-fails : (x y : Word) → ((u : Word) → length u ≡ count → decimalParts (u ∷ parts point x) ≡ false) → Uncut blank x → stream source text at ≡ x ++ y → wordEnds y ≡ true
+  pointed-reads : (v : Word) {j : ℕ} {d : Decimal} → all digit v ≡ true → 1 ≤ length v → length v ≤ 15 - count
+      → d ≡ record { amount = withSign s (number before v); places = length v }
+      → stream source text at ≡ v ++ stream source text j → wordEnds (stream source text j) ≡ true
+      → Pointed source text at before count s (Reads d j)
+  pointed-fails : (x y : Word) → ((u : Word) → length u ≡ count → decimalParts (u ∷ parts point x) ≡ false) → Uncut blank x
+      → stream source text at ≡ x ++ y → wordEnds y ≡ true
       → Pointed source text at before count s Fails
 
 -- The same, with the sign.
 pub data Spelled (source : Source) (text : List ℕ) (at : ℕ) : Spelling → Type 0 where
-  spelled-reads : (x : Word) {j : ℕ} {d : Decimal} → decimal x ≡ true → d ≡ decimalValue x → Uncut blank x → stream source text at ≡ x ++ stream source text j
+  spelled-reads : (x : Word) {j : ℕ} {d : Decimal} → decimal x ≡ true → d ≡ decimalValue x → Uncut blank x → stream source text at ≡ x
+      ++ stream source text j
       → wordEnds (stream source text j) ≡ true → Spelled source text at (Reads d j)
-  spelled-fails : (x y : Word) → decimal x ≡ false → Uncut blank x → stream source text at ≡ x ++ y → wordEnds y ≡ true → Spelled source text at Fails
+  spelled-fails : (x y : Word) → decimal x ≡ false → Uncut blank x → stream source text at ≡ x ++ y → wordEnds y ≡ true
+      → Spelled source text at Fails
 
 -- A word is cut off at the first blank.
 pub record Cut (w : Word) : Type 0 where
@@ -58,7 +68,13 @@ cut-word (a ∷ w) = go (blank a) refl (cut-word w)
   where
     go : (t : Bool) → blank a ≡ t → Cut w → Cut (a ∷ w)
     go true h k = record { front = []; rest = a ∷ w; splits = refl; uncut = none; ends = h }
-    go false h k = record { front = a ∷ k .front; rest = k .rest; splits = ap (λ l. a ∷ l) (k .splits); uncut = more h (k .uncut); ends = k .ends }
+    go false h k = record {
+      front = a ∷ k .front;
+      rest = k .rest;
+      splits = ap (λ l. a ∷ l) (k .splits);
+      uncut = more h (k .uncut);
+      ends = k .ends;
+    }
 
 pub uncut-join : {p : ℕ → Bool} {u v : Word} → Uncut p u → Uncut p v → Uncut p (u ++ v)
 uncut-join none k = k
@@ -84,7 +100,8 @@ digits-only (a ∷ w) h = go (point a) refl (λ k. digits-only w k)
         let k = parts-some point w in
         let q : ((digit a && all digit (k .first)) && all (all digit) (k .others)) ≡ true = sym (rw (e, k .are) refl) ∙ h in
         let d = and-left (digit a && all digit (k .first)) _ q in
-        let r : all (all digit) (parts point w) ≡ true = rw (k .are, and-right (digit a) _ d, and-right (digit a && all digit (k .first)) _ q) refl in
+        let r : all (all digit) (parts point w) ≡ true =
+        rw (k .are, and-right (digit a) _ d, and-right (digit a && all digit (k .first)) _ q) refl in
         more (digit-no-blank a (and-left (digit a) _ d)) (ih r)
 
 parts-digits : (l : List Word) → decimalParts l ≡ true → all (all digit) l ≡ true
@@ -115,7 +132,8 @@ decimal-uncut (a ∷ w) h = go (eqb a 45) refl (eqb a 43) refl
     go false e false f = digits-only (a ∷ w) (parts-digits (parts point (a ∷ w)) (sym (rw (e, f) refl) ∙ h))
 
 pub decimal-blank : (x : Word) (b : ℕ) (y : Word) → blank b ≡ true → decimal (x ++ (b ∷ y)) ≡ false
-decimal-blank x b y h = refute (decimal (x ++ (b ∷ y))) λ k. (let q = uncut-at blank x b y (decimal-uncut (x ++ (b ∷ y)) k) in let z : _≡_ {A = ℕ} 0 1 = cc in omega arith)
+decimal-blank x b y h = refute (decimal (x ++ (b ∷ y))) λ k.
+    (let q = uncut-at blank x b y (decimal-uncut (x ++ (b ∷ y)) k) in let z : _≡_ {A = ℕ} 0 1 = cc in omega arith)
 
 -- parts that make no decimal
 pub wrong-one : (a : Word) (l : List Word) → digits 1 15 a ≡ false → decimalParts (a ∷ l) ≡ false

@@ -8,7 +8,7 @@ use lib.ListN.{length, drop}
 use Rattle.grammar.specs.Bytes.{blank}
 use Rattle.grammar.specs.Look.{Word}
 use Rattle.nodes.specs.Values.{tells, decoded-at, Decodes, decoded-byte, decoded-end}
-use Rattle.nodes.specs.Says.{says}
+use Rattle.nodes.specs.TextBytes.{says}
 use Rattle.nodes.specs.Texts.{text-step, Steps, text-letter, text-skip, text-stop}
 use Rattle.nodes.specs.declared.Char.{Char}
 use Rattle.nodes.specs.declared.Char.the-variants.{Byte, End}

@@ -1,4 +1,3 @@
-pub mod Table
-pub mod Agree
 pub mod Opening
-pub mod Unique
+pub mod Unread
+pub mod Laws

@@ -20,20 +20,21 @@ use Rattle.grammar.specs.Parser.{parse}
 use Rattle.nodes.specs.Places.{Stands, the}
 use Rattle.nodes.specs.Children.{first, next}
 use Rattle.nodes.specs.Root.{root}
-use Rattle.nodes.specs.Walk.{kids, Walk, Turn, walk-children, kids-children, walk-none, turn-at, turn-splits}
+use Rattle.nodes.specs.Laws.Walk.{kids, Walk, Turn, walk-children, kids-children, walk-none, turn-at, turn-splits}
 use Rattle.nodes.specs.declared.Kid.{Kid}
 use Rattle.nodes.specs.declared.Kid.the-variants.{Child, Done}
 use Rattle.schema.specs.Schema.{everywhere, shaped, numbered}
 use Rattle.cifti.specs.Rows.{cifti, matrix, rows}
 use Rattle.cifti.specs.Maps.{Map, mapOf, mapElements, mapsOf}
 use Rattle.cifti.specs.Conditions as C
-use Rattle.cifti.specs.Conditions.{_when_, lengthsWrong, textTooLong, noDocument, rootWrong, kindNotRead, shapeWrong, numberWrong, conditionsOfHeader}
-use Rattle.opening.specs.Agree.{rootFault, Judged, ChecksCifti}
+use Rattle.cifti.specs.Conditions.{_when_, lengthsWrong, textTooLong, noDocument, rootWrong, kindNotRead, shapeWrong, numberWrong}
+use Rattle.cifti.specs.Conditions.{conditionsOfHeader}
+use Rattle.vocabulary.specs.Checks.{rootFault, Judged, ChecksCifti}
 use Rattle.shape.specs.declared.Checked.{Checked}
-use Rattle.lists.specs.Booleans.{never-some}
-use Rattle.maps.specs.Good.{Good}
-use Rattle.maps.specs.Kinds.{root-child}
-use Rattle.maps.specs.Ready.{mapsIn}
+use Rattle.lists.specs.Laws.Booleans.{never-some}
+use Rattle.maps.specs.Laws.Good.{Good}
+use Rattle.maps.specs.Laws.Kinds.{root-child}
+use Rattle.maps.specs.Ready.{matrixMaps}
 use Rattle.maps.specs.Unread.{all-read}
 use Rattle.opening.specs.declared.header.Opening.{Opening}
 
@@ -96,8 +97,8 @@ good-root : (e : Element) → shapeWrong e ≡ false → numberWrong e ≡ false
 unfolding shapeWrong numberWrong
 good-root e h k = record { shape = not-false _ h; number = not-false _ k }
 
-maps-one : (e m : Element) → elements (contentsOf e) ≡ m ∷ [] → is "Matrix" (nameOf m) ≡ true → mapsOf e ≡ mapsIn m
-unfolding mapsOf mapElements mapsIn children those eachIn
+maps-one : (e m : Element) → elements (contentsOf e) ≡ m ∷ [] → is "Matrix" (nameOf m) ≡ true → mapsOf e ≡ matrixMaps m
+unfolding mapsOf mapElements matrixMaps children those eachIn
 maps-one e m h n = rw (h, n, append-nil (children "MatrixIndicesMap" m))
 
 matrix-one : (e m : Element) → elements (contentsOf e) ≡ m ∷ [] → is "Matrix" (nameOf m) ≡ true → children "Matrix" e ≡ m ∷ []
@@ -115,20 +116,20 @@ pub record Passed (text lengths : List ℕ) (m : ℕ) : Type 0 where
   pub numbers : numberWrong document ≡ false
   pub stands : Stands text m
   pub good : Good matrix (the text m)
-  pub maps : mapsOf document ≡ mapsIn (the text m)
+  pub maps : mapsOf document ≡ matrixMaps (the text m)
   pub only : children "Matrix" document ≡ the text m ∷ []
 
 -- the first of the header's conditions that applies
 abbrev pub headerNumber : (text lengths : List ℕ) → ℕ
 headerNumber text lengths = C.first (conditionsOfHeader lengths (length text) (parse text))
 
-unfoldable pub placeOf : Kid → ℕ
-placeOf (Child k) = k
-placeOf Done = 0
+unfoldable pub kidPlace : Kid → ℕ
+kidPlace (Child k) = k
+kidPlace Done = 0
 
 -- where the first child of the root begins
 unfoldable pub matrixPlace : List ℕ → ℕ
-matrixPlace text = placeOf (first text (placeOf (root text)))
+matrixPlace text = kidPlace (first text (kidPlace (root text)))
 
 -- the number is that of the first of 1 to 7 that applies; where none does, the matrix is the root's only child
 pub record Opens (text lengths : List ℕ) (r : Opening) : Type 0 where
@@ -173,11 +174,13 @@ module _ (text lengths : List ℕ) where
 
       module _ (e : Element) (p : parse text ≡ some e) where
         pub header-document : headerNumber text lengths
-            ≡ rootNumber e (C.first (8 when C.ofMaps (C.dimensionsWrong lengths) (some e) ∷ 9 when C.ofMaps (C.lengthWrong lengths) (some e) ∷ []))
+            ≡ rootNumber e (C.first (8 when C.ofMaps (C.dimensionsWrong lengths) (some e)
+            ∷ 9 when C.ofMaps (C.lengthWrong lengths) (some e) ∷ []))
         unfolding conditionsOfHeader noDocument isSome there
         header-document =
             ap (λ d. C.first (conditionsOfHeader lengths (length text) d)) p
-            ∙ root-rows (lengthsWrong lengths) (textTooLong (length text)) false (rootWrong e) (kindNotRead e) (shapeWrong e) (numberWrong e) _
+            ∙ root-rows (lengthsWrong lengths) (textTooLong (length text)) false (rootWrong e) (kindNotRead e) (shapeWrong e)
+            (numberWrong e) _
             ∙ rw (fine, short)
 
 -- ---- The root.
@@ -186,7 +189,7 @@ module _ (text lengths : List ℕ) where
 pub record Found (text : List ℕ) (r : ℕ) (o : Opening) : Type 0 where
   pub among : o .number ≤ 7
   pub nowhere : (o .number ≡ 0 → ⊥) → o .matrix ≡ 0
-  pub there-it-is : o .number ≡ 0 → o .matrix ≡ placeOf (first text r)
+  pub there-it-is : o .number ≡ 0 → o .matrix ≡ kidPlace (first text r)
   pub refused : (o .number ≡ 0 → ⊥) → (n : ℕ) → rootNumber (the text r) n ≡ o .number
   pub right-root : o .number ≡ 0 → rootWrong (the text r) ≡ false
   pub read-kinds : o .number ≡ 0 → kindNotRead (the text r) ≡ false
@@ -194,7 +197,7 @@ pub record Found (text : List ℕ) (r : ℕ) (o : Opening) : Type 0 where
   pub numbers : o .number ≡ 0 → numberWrong (the text r) ≡ false
   pub stands : o .number ≡ 0 → Stands text (o .matrix)
   pub good : o .number ≡ 0 → Good matrix (the text (o .matrix))
-  pub maps : o .number ≡ 0 → mapsOf (the text r) ≡ mapsIn (the text (o .matrix))
+  pub maps : o .number ≡ 0 → mapsOf (the text r) ≡ matrixMaps (the text (o .matrix))
   pub only : o .number ≡ 0 → children "Matrix" (the text r) ≡ the text (o .matrix) ∷ []
 
 refuses : {text : List ℕ} {r : ℕ} (o : Opening) → (o .number ≡ 0 → ⊥) → o .number ≤ 7 → o .matrix ≡ 0
@@ -228,7 +231,9 @@ module _ {text : List ℕ} {r n : ℕ} (j : Judged text r n) where
     pub root-fault : {c : Bool} → c ≡ kindNotRead (the text r) → c ≡ false → (n ≡ 0 → ⊥) → (o : Opening) → o .number ≡ n → o .matrix ≡ 0
         → Found text r o
     unfolding rootFault
-    root-fault q g k o t z₀ = refuses o (λ z. k (sym t ∙ z)) (rw (t ∙ j .fault-is) (few (shapeWrong (the text r)) (numberWrong (the text r)))) z₀ (λ m. rw (sym p ∙ f, sym q ∙ g) (go m (shapeWrong (the text r)) (numberWrong (the text r)) refl refl))
+    root-fault q g k o t z₀ = refuses o (λ z. k (sym t ∙ z))
+        (rw (t ∙ j .fault-is) (few (shapeWrong (the text r)) (numberWrong (the text r)))) z₀
+        (λ m. rw (sym p ∙ f, sym q ∙ g) (go m (shapeWrong (the text r)) (numberWrong (the text r)) refl refl))
       where
         few : (x y : Bool) → cond x 6 (cond y 7 0) ≤ 7
         few true y = omega arith
@@ -255,13 +260,14 @@ module _ {text : List ℕ} {r n : ℕ} (j : Judged text r n) where
 
       pub root-passes : {m : ℕ} {kid : Kid} → kid ≡ first text r → kid ≡ Child m → (o : Opening) → o .number ≡ 0 → o .matrix ≡ m
           → Found text r o
-      unfolding placeOf
+      unfolding kidPlace
       root-passes {m} {kid} e h o u v =
           let w : Walk text (first text r) = walk-children (j .stands) in
           let is-child : first text r ≡ Child m = sym e ∙ h in
           let t = turn-at w is-child in
           let only = root-child good-here in
-          let same : the text m ∷ kids text (next text m) ≡ only .one ∷ [] = sym (turn-splits w is-child) ∙ kids-children (j .stands) ∙ only .alone in
+          let same : the text m ∷ kids text (next text m) ≡ only .one ∷ [] = sym (turn-splits w is-child) ∙ kids-children (j .stands)
+          ∙ only .alone in
           let here : the text m ≡ only .one = cc in
           let list : elements (contentsOf (the text r)) ≡ the text m ∷ [] = only .alone ∙ ap (λ x. x ∷ []) (sym here) in
           record {
@@ -341,13 +347,13 @@ module _ {text : List ℕ} (lengths : List ℕ) {a : Bool} (p : a ≡ lengthsWro
           refused-as 3 (λ z. omega arith) (omega arith) (header-unwritten text lengths (sym p ∙ f) (not-long text short) (not-written w g))
 
       pub open-document : (c .number ≡ 3 → ⊥) → {o : Opening} → Found text (c .root) o → Opens text lengths o
-      unfolding matrixPlace placeOf
+      unfolding matrixPlace kidPlace
       open-document t {o} d =
           let j = open-judged w t in
           record {
             among = d .among;
             nowhere = d .nowhere;
-            there-it-is = λ z. d .there-it-is z ∙ sym (ap (λ k. placeOf (first text (placeOf k))) (j .placed));
+            there-it-is = λ z. d .there-it-is z ∙ sym (ap (λ k. kidPlace (first text (kidPlace k))) (j .placed));
             refused =
                 λ k. sym (header-document text lengths (sym p ∙ f) (not-long text short) (the text (c .root)) (j .parsed) ∙ d .refused k _);
             passed = λ z. record {

@@ -1,12 +1,13 @@
 // Conditions 1 to 7, in the paper's order.
 use super::root::root_wrong;
 use super::unread::kind_not_read;
-use super::vocabulary;
+use elements::children::first_child;
+use maps::limits::MOST_BYTES;
+use maps::limits::MOST_RECORDS;
 use nodes::Kid;
-use nodes::children::first_child;
 ghost use mathlib.Core.Path.{_≡_};
 ghost use Rattle.cifti.specs.Conditions.{lengthsWrong};
-ghost use Rattle.opening.specs.Agree.{Judged};
+ghost use Rattle.vocabulary.specs.Checks.{Judged};
 ghost use Rattle.opening.specs.Opening.{Opens, Found};
 
 // The number of the first that applies; where it is 0, the matrix begins at `matrix`.
@@ -30,7 +31,7 @@ fn lengths_wrong(lengths: &[u64]) -> bool
         if lengths[i] == 0 {
             return true;
         }
-        if 1_048_576 < lengths[i] {
+        if MOST_RECORDS < lengths[i] {
             return true;
         }
         i += 1;
@@ -82,7 +83,7 @@ pub fn opened(text: &[u8], lengths: &[u64]) -> Opening
             matrix: 0,
         };
     }
-    if 16_777_216 < text.len() {
+    if MOST_BYTES < text.len() {
         return Opening {
             number: 2,
             matrix: 0,

@@ -1,6 +1,6 @@
 // Condition 4: the root is not CIFTI with Version `2`.
-use nodes::names::name_is;
-use nodes::values::attribute_is;
+use inside::names::name_is;
+use inside::values::attribute_is;
 ghost use mathlib.Core.Path.{_≡_};
 ghost use Rattle.nodes.specs.Places.{Stands, the};
 ghost use Rattle.cifti.specs.Conditions.{rootWrong};

@@ -1,16 +1,19 @@
 // Condition 5: a MatrixIndicesMap in a Matrix in the root is of kind PARCELS or LABELS.
+use elements::children::first_child;
+use elements::children::next_child;
+use inside::attributes::attribute;
+use inside::names::name_is;
+use inside::values::value_is;
 use nodes::Found;
 use nodes::Kid;
-use nodes::attributes::attribute;
-use nodes::children::first_child;
-use nodes::children::next_child;
-use nodes::names::name_is;
-use nodes::values::value_is;
 ghost use mathlib.Core.Path.{_≡_};
+ghost use Rattle.grammar.specs.Bytes.{ascii};
+ghost use Rattle.nodes.specs.Names.{named};
 ghost use Rattle.nodes.specs.Places.{Stands, the};
-ghost use Rattle.cifti.specs.Conditions.{kindNotRead};
-ghost use Rattle.maps.specs.Unread.{unreadWord, notRead, anyNotRead};
 ghost use Rattle.nodes.specs.Values.{value-there};
+ghost use Rattle.cifti.specs.Conditions.{kindNotRead};
+ghost use Rattle.maps.specs.Unread.{unreadWord, notRead};
+ghost use Rattle.opening.specs.Unread.{levelName, levelNotRead};
 
 fn kind_unread(text: &[u8], v: usize) -> bool
     ensures { λ r. ⌜ r ≡ unreadWord (value-there (now (text .entry)) v) ⌝ }
@@ -31,17 +34,31 @@ fn map_not_read(text: &[u8], at: usize) -> bool
     }
 }
 
-fn matrix_not_read(text: &[u8], at: usize) -> bool
-    requires { ⌜ Stands (now text) at ⌝ }
-    ensures { λ r. ⌜ r ≡ anyNotRead (the (now (text .entry)) at) ⌝ }
+// The element at `at` has the name of those that stand so many levels above maps.
+fn level_named(text: &[u8], at: usize, level: u64) -> bool
+    ensures { λ r. ⌜ r ≡ named (now (text .entry)) at (ascii (levelName level)) ⌝ }
 {
+    if level == 0 {
+        return name_is(text, at, b"MatrixIndicesMap");
+    }
+    name_is(text, at, b"Matrix")
+}
+
+// A map so many levels below the element at `at` is not read.
+fn level_not_read(text: &[u8], at: usize, level: u64) -> bool
+    requires { ⌜ Stands (now text) at ⌝ }
+    ensures { λ r. ⌜ r ≡ levelNotRead level (the (now (text .entry)) at) ⌝ }
+{
+    if level == 0 {
+        return map_not_read(text, at);
+    }
     let mut kid = first_child(text, at);
     loop {
         match kid {
             Kid::Child(k) => {
                 kid = next_child(text, k);
-                if name_is(text, k, b"MatrixIndicesMap") {
-                    if map_not_read(text, k) {
+                if level_named(text, k, level - 1) {
+                    if level_not_read(text, k, level - 1) {
                         return true;
                     }
                 }
@@ -57,20 +74,5 @@ pub(crate) fn kind_not_read(text: &[u8], root: usize) -> bool
     requires { ⌜ Stands (now text) root ⌝ }
     ensures { λ r. ⌜ r ≡ kindNotRead (the (now (text .entry)) root) ⌝ }
 {
-    let mut kid = first_child(text, root);
-    loop {
-        match kid {
-            Kid::Child(k) => {
-                kid = next_child(text, k);
-                if name_is(text, k, b"Matrix") {
-                    if matrix_not_read(text, k) {
-                        return true;
-                    }
-                }
-            }
-            Kid::Done => {
-                return false;
-            }
-        }
-    }
+    level_not_read(text, root, 2)
 }

@@ -1,5 +1,2 @@
-pub mod Surveying
-pub mod Naming
-pub mod Judging
 pub mod Later
-pub mod Reading
+pub mod Laws

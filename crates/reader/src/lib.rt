@@ -1,29 +1,10 @@
 // The reader: the header text in, the brain location of every matrix index out, or the one right refusal.
-mod agree;
-mod dimensions;
-mod dims;
-mod fields;
-mod fill;
-mod gather;
-mod judge;
-mod kind;
+// 10 to 14 in their order.
 mod later;
-mod lengths;
-mod listing;
-mod map;
-mod names;
-mod ranges;
+// The table: 1 to 14, then the records and the answer.
 mod reading;
-mod said;
-mod series;
-mod stretch;
-mod stretching;
-mod structures;
-mod survey;
-mod surveying;
-mod twice;
-mod verdict;
-mod volume;
+// The name of a map: 1 to 9, then 18.
+mod names;
 
 pub use names::map_name;
 pub use names::map_name_number;

@@ -1,7 +1,7 @@
 // The name of a map: the number of its refusal, where its name stands in the text, and the part of the text that is the name.
-use super::surveying::surveyed;
 use map_names::NamePlace;
 use map_names::place_of;
+use survey::surveyed;
 ghost use Rattle.cifti.specs.Names.{NameNumber, NamePart};
 ghost use Rattle.map_names.specs.Placed.{NamePlaced};
 

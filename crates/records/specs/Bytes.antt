@@ -9,8 +9,8 @@ unfoldable pub bytesOf : ℕ → ℕ → List ℕ
 bytesOf w n = parted (replicate w 8) n
 
 -- the number that bytes write
-unfoldable pub numberOf : List ℕ → ℕ
-numberOf bs = joined (replicate (length bs) 8) bs
+unfoldable pub numberWritten : List ℕ → ℕ
+numberWritten bs = joined (replicate (length bs) 8) bs
 
 -- numbers one after the other, w bytes each
 unfoldable pub body : ℕ → List ℕ → List ℕ
@@ -20,7 +20,7 @@ body w (n ∷ ns) = bytesOf w n ++ body w ns
 -- the first n numbers that bytes write, w bytes each
 unfoldable pub numbersIn : ℕ → ℕ → List ℕ → List ℕ
 numbersIn w zero s = []
-numbersIn w (suc n) s = numberOf (take w s) ∷ numbersIn w n (drop w s)
+numbersIn w (suc n) s = numberWritten (take w s) ∷ numbersIn w n (drop w s)
 
 -- all numbers of a list are below b
 abbrev pub Below : ℕ → List ℕ → Type 0
@@ -28,5 +28,5 @@ Below b s = (k : ℕ) → getD s k 0 < b
 
 -- opens every definition above
 unfoldable pub byteWords : Unit {0}
-unfolding bits joined parted bytesOf numberOf body numbersIn
+unfolding bits joined parted bytesOf numberWritten body numbersIn
 byteWords = tt

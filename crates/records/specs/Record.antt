@@ -61,13 +61,13 @@ pub data SamePlace : Location → Location → Type 0 where
   sameVoxel : {s s' i j k : ℕ} → SamePlace (inVolume s i j k) (inVolume s' i j k)
 
 -- a voxel without its structure
-unfoldable pub plain : Location → Location
-plain (onSurface s v) = onSurface s v
-plain (inVolume s i j k) = inVolume 0 i j k
+unfoldable pub unstructured : Location → Location
+unstructured (onSurface s v) = onSurface s v
+unstructured (inVolume s i j k) = inVolume 0 i j k
 
 -- a number that records share exactly where they name the same place
 unfoldable pub keyIn : Width → ℕ → ℕ
-keyIn w r = recordIn w (plain (locationIn w r))
+keyIn w r = recordIn w (unstructured (locationIn w r))
 
 -- ---- Of the 40 bits that are read and written today.
 
@@ -77,8 +77,8 @@ recordOf l = recordIn width40 l
 abbrev pub Fits : Location → Type 0
 Fits l = FitsIn width40 l
 
-abbrev pub within : Location → Location
-within l = withinIn width40 l
+abbrev pub wrapped : Location → Location
+wrapped l = withinIn width40 l
 
 abbrev pub isVoxel : ℕ → Bool
 isVoxel r = isVoxelIn width40 r
@@ -110,5 +110,5 @@ keyOf r = keyIn width40 r
 
 -- opens every definition above
 unfoldable pub recordWords : Unit {0}
-unfolding bits joined parted recordIn withinIn isVoxelIn structureIn payloadIn iIn jIn kIn locationIn locationOf legalIn plain keyIn
+unfolding bits joined parted recordIn withinIn isVoxelIn structureIn payloadIn iIn jIn kIn locationIn locationOf legalIn unstructured keyIn
 recordWords = tt

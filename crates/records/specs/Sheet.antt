@@ -10,7 +10,7 @@ use Rattle.lists.specs.Refusals.{_when_, first}
 use Rattle.records.specs.Limits.{mostRecords}
 use Rattle.records.specs.Width.{Width, width40}
 use Rattle.records.specs.Record.{legalIn}
-use Rattle.records.specs.Bytes.{bytesOf, numberOf, body, numbersIn}
+use Rattle.records.specs.Bytes.{bytesOf, numberWritten, body, numbersIn}
 use Rattle.records.specs.Fill.{wrote}
 use Rattle.records.specs.Outcome.{unless, outcome}
 use Rattle.records.specs.declared.outcome.Outcome.{Outcome}
@@ -25,7 +25,7 @@ sheetOf b ns = headOf b (length ns) ++ body b ns
 
 -- what the head says, and the numbers after it
 unfoldable pub countOf : List ℕ → ℕ
-countOf s = numberOf (take 3 (drop 1 s))
+countOf s = numberWritten (take 3 (drop 1 s))
 
 unfoldable pub recordsIn : ℕ → List ℕ → List ℕ
 recordsIn b s = numbersIn b (countOf s) (drop 4 s)

@@ -1,30 +1,16 @@
-// Records of locations: the three counters, the 40 bits of a record, sheets of records, finding one, and whether two
-// name the same place.
+// Records of locations: the three counters, and what is answered of records, sheets and repeats. Definitions, laws and types; no functions.
+
+// An index, a vertex and a place, which are told apart.
 mod counters;
+// The paper's number and a count.
 mod outcome;
-mod record;
-mod repeat;
+// The first place of a record, and whether there is one.
 mod search;
-mod sheet;
+// The least and the greatest number of a part.
+pub mod repeat;
 
 pub use counters::Index;
 pub use counters::Place;
 pub use counters::Vertex;
 pub use outcome::Outcome;
-pub use record::i_of;
-pub use record::is_voxel;
-pub use record::j_of;
-pub use record::k_of;
-pub use record::key;
-pub use record::legal;
-pub use record::structure_of;
-pub use record::surface_record;
-pub use record::vertex_of;
-pub use record::voxel_record;
-pub use repeat::clear;
-pub use repeat::repeats_in;
-pub use repeat::twice;
 pub use search::Found;
-pub use search::find;
-pub use sheet::pack;
-pub use sheet::unpack;

@@ -1,28 +1,7 @@
-// The first place of a number in the records.
 use super::counters::Place;
-ghost use Rattle.records.specs.Find.{Finds};
 
 // 0 and the place, or 19 and place 0.
 pub struct Found {
     pub number: u64,
     pub place: Place,
-}
-
-pub fn find(records: &[u64], number: u64) -> Found
-    ensures { λ r. ⌜ Finds (now (records .entry)) number r ⌝ }
-{
-    let mut i = 0;
-    while i < records.len() {
-        if records[i] == number {
-            return Found {
-                number: 0,
-                place: Place(i),
-            };
-        }
-        i += 1;
-    }
-    Found {
-        number: 19,
-        place: Place(0),
-    }
 }

@@ -1,5 +1,4 @@
 pub mod Schema
 pub mod Walk
-pub mod Erased
-pub mod Renamed
 pub mod Words
+pub mod Laws

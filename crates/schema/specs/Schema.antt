@@ -1,4 +1,5 @@
--- A SCHEMA: tables that say what each kind of element holds, and what it is for a document to be as the tables say. Nothing here is CIFTI's.
+-- A SCHEMA: tables that say what each kind of element holds, and what it is for a document to be as the tables say. Nothing here is
+-- CIFTI's.
 use mathlib.Core.List.{List, [], _∷_}
 use mathlib.Core.Option.{Option, some}
 use mathlib.Core.Option
@@ -29,7 +30,8 @@ pub data TextForm : Type 0 where
   anyText : TextForm
   numbers : (Word → Bool) → TextForm
 
--- How often a child stands: 1, 0..1, 0..N, 1..N; or 0..1, and 1 where an element of the name stands anywhere below a child of the same parent.
+-- How often a child stands: 1, 0..1, 0..N, 1..N; or 0..1, and 1 where an element of the name stands anywhere below a child of the same
+-- parent.
 pub data Times : Type 0 where
   once atMostOnce anyTimes atLeastOnce : Times
   neededBelow : (name : String) → Times
@@ -183,5 +185,6 @@ module _ {K : Type 0} where
   numbered (leaf a t) l c = all (attributeNumbered l) a && isText t (characters c)
 
 unfoldable pub schema : Unit {0}
-unfolding kindAmong kindChosen orElse kindBy kindOf childRows everywhere rowName isNamed isWord attributeShaped attributesShaped below standsSo childShaped rowPlace inOrderOf orderly childrenShaped shaped isNumber isText attributeNumbered numbered
+unfolding kindAmong kindChosen orElse kindBy kindOf childRows everywhere rowName isNamed isWord attributeShaped attributesShaped below
+    standsSo childShaped rowPlace inOrderOf orderly childrenShaped shaped isNumber isText attributeNumbered numbered
 schema = tt

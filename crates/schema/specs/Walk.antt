@@ -20,7 +20,8 @@ module _ {K : Type 0} (rows : K → Row K) (test : Row K → List Attribute → 
   walk-in r (inside e c) = ap (λ b. atChild r e && b) (walk-in r c)
 
   pub walk-step : (k : K) (e : Element)
-      → everywhere rows test k e ≡ (test (rows k) (attributesOf e) (contentsOf e) && all (atChild (childRows (rows k))) (elements (contentsOf e)))
+      → everywhere rows test k e ≡ (test (rows k) (attributesOf e) (contentsOf e)
+      && all (atChild (childRows (rows k))) (elements (contentsOf e)))
   unfolding everywhere attributesOf contentsOf
   walk-step k (element n l c w) = ap (λ b. test (rows k) l c && b) (walk-in (childRows (rows k)) c)
 

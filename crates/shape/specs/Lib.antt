@@ -1,14 +1,11 @@
 pub mod Letters
 pub mod Table
-pub mod Cell
 pub mod Faults
 pub mod Parts
-pub mod Asked
 pub mod Lines
-pub mod AskedLines
+pub mod Asked
 pub mod Tallied
-pub mod AskedTally
 pub mod Walked
 pub mod Checked
-pub mod Sample
-pub mod Unique
+pub mod Laws
+pub mod Tests

@@ -7,10 +7,12 @@ use mathlib.Core.Bool.{Bool, true, cond}
 use Prim.Native.Nat.{ℕ, zero, suc, _<_}
 use Prim.Native.String.{String}
 use lib.Dec.{leb, ltb}
+use Rattle.lists.specs.Lists.{countUp}
 use Rattle.grammar.specs.Document.{Element}
 use Rattle.grammar.specs.Look.{Word, is, attributesOf, valueIn}
 use Rattle.schema.specs.Schema.{ChildRow, kindChosen, kindOf, orElse, rowPlace, inOrderOf}
-use Rattle.shape.specs.Table.{wordAt, lineCell, choiceCell, casesOf, orderAt, linesOfKind}
+use Rattle.schema.specs.Words.{numberIn}
+use Rattle.shape.specs.Table.{wordAt, entryWord, choiceCell, casesOf, orderAt, linesOfKind}
 
 -- a kind by number; 2^32 and above are none
 unfoldable pub kindOrNone : ℕ → Option ℕ
@@ -41,13 +43,18 @@ module _ (t l : List ℕ) where
   abbrev pub chosenAt : ℕ → Element → Option ℕ
   chosenAt c e = kindChosen (casesOf t l c) (valueIn (wordAt t l (choiceCell t c 0)) (attributesOf e))
 
-  unfoldable pub lineName : ℕ → String
-  lineName i = wordAt t l (lineCell t i 0)
+  abbrev pub lineName : ℕ → String
+  lineName = entryWord t l 2 4
 
-  -- the place, among n lines from i on, of the first with the name
-  unfoldable pub linePlace : Word → ℕ → ℕ → ℕ
-  linePlace w i zero = 0
-  linePlace w i (suc n) = cond (is (lineName i) w) 0 (suc (linePlace w (suc i) n))
+  -- the place, among n entries from i on, of the first with the name: of any part, of lines, of attributes
+  abbrev pub entryPlace : (part size : ℕ) → Word → ℕ → ℕ → ℕ
+  entryPlace part size w i n = numberIn (countUp (entryWord t l part size) i n) w
+
+  abbrev pub linePlace : Word → ℕ → ℕ → ℕ
+  linePlace = entryPlace 2 4
+
+  abbrev pub attributePlace : Word → ℕ → ℕ → ℕ
+  attributePlace = entryPlace 1 3
 
   -- the kind of a child, which has none where it is out of turn
   unfoldable pub kindNext : (kind last : ℕ) → Element → Option ℕ

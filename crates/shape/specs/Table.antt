@@ -7,7 +7,9 @@ use lib.Dec.{eqb, leb}
 use lib.ListN.{getD, length, take, drop}
 use Rattle.lists.specs.Lists.{countUp}
 use Rattle.numbers.specs.Numbers.{whole, volumeDimensions, dimensionList, exponent, decimal, wholes, sixteen}
-use Rattle.schema.specs.Schema.{Form, anyValue, word, number, AttributeRow, required, optional, TextForm, anyText, numbers, Times, once, atMostOnce, anyTimes, atLeastOnce, neededBelow, Case, _⇒_, Which, always, chosen, chosenElse, ChildRow, child, Order, anyOrder, inOrder, Row, branch, leaf}
+use Rattle.schema.specs.Schema.{Form, anyValue, word, number, AttributeRow, required, optional, TextForm, anyText, numbers, Times, once}
+use Rattle.schema.specs.Schema.{atMostOnce, anyTimes, atLeastOnce, neededBelow, Case, _⇒_, Which, always, chosen, chosenElse, ChildRow}
+use Rattle.schema.specs.Schema.{child, Order, anyOrder, inOrder, Row, branch, leaf}
 use Rattle.shape.specs.Letters.{lettered}
 
 -- The first seven numbers are where each part begins; the eighth is the word that is watched. The parts, and how many numbers an entry has:
@@ -22,25 +24,25 @@ use Rattle.shape.specs.Letters.{lettered}
 unfoldable pub entry : (t : List ℕ) (part size row column : ℕ) → ℕ
 entry t p n r c = getD t (getD t p 0 + n * r + c) 0
 
-unfoldable pub kindCell : List ℕ → ℕ → ℕ → ℕ
+abbrev pub kindCell : List ℕ → ℕ → ℕ → ℕ
 kindCell t k c = entry t 0 6 k c
 
-unfoldable pub attributeCell : List ℕ → ℕ → ℕ → ℕ
+abbrev pub attributeCell : List ℕ → ℕ → ℕ → ℕ
 attributeCell t a c = entry t 1 3 a c
 
-unfoldable pub lineCell : List ℕ → ℕ → ℕ → ℕ
+abbrev pub lineCell : List ℕ → ℕ → ℕ → ℕ
 lineCell t i c = entry t 2 4 i c
 
-unfoldable pub choiceCell : List ℕ → ℕ → ℕ → ℕ
+abbrev pub choiceCell : List ℕ → ℕ → ℕ → ℕ
 choiceCell t i c = entry t 3 4 i c
 
-unfoldable pub caseCell : List ℕ → ℕ → ℕ → ℕ
+abbrev pub caseCell : List ℕ → ℕ → ℕ → ℕ
 caseCell t i c = entry t 4 2 i c
 
-unfoldable pub bound : List ℕ → ℕ → ℕ
+abbrev pub bound : List ℕ → ℕ → ℕ
 bound t w = entry t 5 1 w 0
 
-unfoldable pub formCell : List ℕ → ℕ → ℕ → ℕ
+abbrev pub formCell : List ℕ → ℕ → ℕ → ℕ
 formCell t f c = entry t 6 4 f c
 
 unfoldable pub watched : List ℕ → ℕ
@@ -69,10 +71,15 @@ linesTo t k =
 
 -- WORDS: no letters where the bounds are not in the text of letters
 unfoldable pub lettersOf : (t l : List ℕ) → ℕ → List ℕ
-lettersOf t l w = cond (leb (bound t w) (bound t (w + 1)) && leb (bound t (w + 1)) (length l)) (take (bound t (w + 1) - bound t w) (drop (bound t w) l)) []
+lettersOf t l w = cond (leb (bound t w) (bound t (w + 1)) && leb (bound t (w + 1)) (length l))
+    (take (bound t (w + 1) - bound t w) (drop (bound t w) l)) []
 
 unfoldable pub wordAt : (t l : List ℕ) → ℕ → String
 wordAt t l w = lettered (lettersOf t l w)
+
+-- the word of an entry, of a part whose entries have so many numbers
+unfoldable pub entryWord : (t l : List ℕ) (part size row : ℕ) → String
+entryWord t l p n i = wordAt t l (entry t p n i 0)
 
 -- TEXTS
 unfoldable pub textFormBy : (form most : ℕ) → TextForm
@@ -165,5 +172,7 @@ module _ (t l : List ℕ) where
   rowsOf k = rowBy (textAt t k) (orderAt t k) (attributesOfKind k) (linesOfKind k)
 
 unfoldable pub tableWords : Unit {0}
-unfolding entry kindCell attributeCell lineCell choiceCell caseCell bound formCell watched attributesFrom attributesTo linesFrom linesTo textAt orderAt lettersOf wordAt textFormBy textFormAt attributeBy choiceBy orderBy formBy formAt wordsAt attributeAt attributesOfKind watchedWord timesAt caseAt casesOf whichBy whichAt lineAt linesOfKind rowBy rowsOf
+unfolding entry watched attributesFrom attributesTo linesFrom linesTo textAt orderAt lettersOf wordAt entryWord textFormBy textFormAt
+    attributeBy choiceBy orderBy formBy formAt wordsAt attributeAt attributesOfKind watchedWord timesAt caseAt casesOf whichBy whichAt
+    lineAt linesOfKind rowBy rowsOf
 tableWords = tt

@@ -11,7 +11,7 @@ use Rattle.grammar.specs.Look.{Word, is, nameOf}
 use Rattle.schema.specs.Schema.{rowPlace, below}
 use Rattle.shape.specs.Lines.{kindOrNone, kindNext, lineName}
 use Rattle.shape.specs.Table.{lineCell, linesOfKind, watchedWord}
-use Rattle.shape.specs.declared.tally.Tally.{Tally}
+use Rattle.shape.specs.declared.Tally.{Tally}
 
 -- n children are as many as may be; what makes a line needed is met or not
 unfoldable pub standsBy : ℕ → ℕ → Bool → Bool

@@ -5,10 +5,10 @@ use mathlib.Core.List.{List}
 use mathlib.Core.Bool.{Bool, true, false}
 use Prim.Native.Nat.{ℕ}
 use Rattle.nodes.specs.Places.{the}
-use Rattle.nodes.specs.Leaving.{Behind}
+use Rattle.nodes.specs.ElementEnd.{Behind}
 use Rattle.shape.specs.Faults.{faultOf}
 use Rattle.shape.specs.Tallied.{holding}
-use Rattle.shape.specs.declared.walk.Walked.{Walked}
+use Rattle.shape.specs.declared.Walked.{Walked}
 
 pub record Walks (t l text : List ℕ) (at kind : ℕ) (r : Walked) : Type 0 where
   pub fault-is : r .fault ≡ faultOf t l kind (the text at)

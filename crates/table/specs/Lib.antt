@@ -1,7 +1,8 @@
 pub mod Listing
 pub mod Model
 pub mod Placing
-pub mod Volumes
 pub mod Ready
+pub mod Stretch
 pub mod Twice
-pub mod Nth
+pub mod Stretches
+pub mod Laws

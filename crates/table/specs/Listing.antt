@@ -7,14 +7,15 @@ use native.Mathlib.Omega.{arith}
 use lib.ListN.{length, set, length-set}
 use borrow.Author.Needs.{needs}
 use Rattle.lists.specs.Lists.{each}
-use Rattle.records.specs.Record.{Location, onSurface, inVolume, recordOf, within, Fits}
-use Rattle.records.specs.RecordLaws.{within-fits}
+use Rattle.records.specs.Record.{Location, onSurface, inVolume, recordOf, wrapped, Fits}
+use Rattle.records.specs.Laws.Record.{within-fits}
 use Rattle.records.specs.Fill.{wrote, wrote-none, wrote-one, wrote-on}
 use Rattle.cifti.specs.Maps.{threes, voxelAt}
 use Rattle.numbers.specs.Answers.{nextNumber}
 use Rattle.numbers.specs.declared.Next.{Next}
 use Rattle.numbers.specs.declared.Next.the-variants.{Number, End, Bad}
-use Rattle.models.specs.Numbers.{valuesAt, InForm, Passes, number-passes, number-ends, number-bad, Threes, Passes3, voxel-passes, voxels-end, voxels-cut}
+use Rattle.models.specs.Numbers.{valuesAt, InForm, Passes, number-passes, number-ends, number-bad, Threes, NextVoxel, Passes3}
+use Rattle.models.specs.Numbers.{voxel-passes, voxels-end, voxels-cut}
 use Rattle.models.specs.declared.listing.Triple.{Triple}
 use Rattle.models.specs.declared.listing.Triple.the-variants as triple
 
@@ -23,8 +24,8 @@ unfoldable pub located : (inVoxels : Bool) (structure : ℕ) → List ℕ → Li
 located true s l = each (voxelAt s) (threes l)
 located false s l = each (onSurface s) l
 
-unfoldable pub recordsIn : (inVoxels : Bool) (structure : ℕ) → List ℕ → List ℕ
-recordsIn v s l = each recordOf (located v s l)
+unfoldable pub recordsListed : (inVoxels : Bool) (structure : ℕ) → List ℕ → List ℕ
+recordsListed v s l = each recordOf (located v s l)
 
 pub data AllFit : List Location → Type 0 where
   none-to-fit : AllFit []
@@ -34,13 +35,15 @@ pub data AllFit : List Location → Type 0 where
 pub record Writable (inVoxels : Bool) (structure : ℕ) (text : List ℕ) (start at : ℕ) (out : List ℕ) : Type 0 where
   pub form : InForm text start
   pub fits : AllFit (located inVoxels structure (valuesAt text start))
-  pub room : at + length (recordsIn inVoxels structure (valuesAt text start)) ≤ length out
+  pub room : at + length (recordsListed inVoxels structure (valuesAt text start)) ≤ length out
 
 -- what a loop has still to write
-pub record Writing (inVoxels : Bool) (structure : ℕ) (text : List ℕ) (start at : ℕ) (before : List ℕ) (i p : ℕ) (out : List ℕ) : Type 0 where
+pub record Writing (inVoxels : Bool) (structure : ℕ) (text : List ℕ) (start at : ℕ) (before : List ℕ) (i p : ℕ) (out : List ℕ) :
+    Type 0 where
   pub ahead : Writable inVoxels structure text i p out
   pub kept : length out ≡ length before
-  pub same : wrote at (recordsIn inVoxels structure (valuesAt text start)) before ≡ wrote p (recordsIn inVoxels structure (valuesAt text i)) out
+  pub same : wrote at (recordsListed inVoxels structure (valuesAt text start)) before
+      ≡ wrote p (recordsListed inVoxels structure (valuesAt text i)) out
 
 wrote-cons : (p r : ℕ) (vs s : List ℕ) → p < length s → wrote p (r ∷ vs) s ≡ wrote (p + 1) vs (set s p r)
 wrote-cons p r vs s h = sym (ap (λ l. wrote (p + 1) vs l) (wrote-one p r s h) ∙ wrote-on p (p + 1) (r ∷ []) vs s refl (omega arith))
@@ -51,46 +54,50 @@ fit-first (one-fits h k) = h
 fit-rest : {a : Location} {l : List Location} → AllFit (a ∷ l) → AllFit l
 fit-rest (one-fits h k) = k
 
-pub writing-start : {v : Bool} {s : ℕ} {text : List ℕ} {start at : ℕ} {out : List ℕ} → Writable v s text start at out → Writing v s text start at out start at out
+pub writing-start : {v : Bool} {s : ℕ} {text : List ℕ} {start at : ℕ} {out : List ℕ} → Writable v s text start at out
+    → Writing v s text start at out start at out
 writing-start h = record { ahead = h; kept = refl; same = refl }
 
-module _ {v : Bool} {s : ℕ} {text : List ℕ} {start at : ℕ} {before : List ℕ} {i p : ℕ} {out : List ℕ} (go : Writing v s text start at before i p out) where
+module _ {v : Bool} {s : ℕ} {text : List ℕ} {start at : ℕ} {before : List ℕ} {i p : ℕ} {out : List ℕ}
+    (go : Writing v s text start at before i p out) where
   pub writing-kept : length out ≡ length before
   writing-kept = go .kept
 
-  ends : located v s (valuesAt text i) ≡ [] → out ≡ wrote at (recordsIn v s (valuesAt text start)) before
-  unfolding recordsIn each
+  ends : located v s (valuesAt text i) ≡ [] → out ≡ wrote at (recordsListed v s (valuesAt text start)) before
+  unfolding recordsListed each
   ends e = sym (go .same ∙ ap (λ l. wrote p (each recordOf l) out) e ∙ wrote-none p out)
 
   -- one location more
   module _ {a : Location} {j : ℕ} (e : located v s (valuesAt text i) ≡ a ∷ located v s (valuesAt text j)) (f : InForm text j) where
-    splits : recordsIn v s (valuesAt text i) ≡ recordOf a ∷ recordsIn v s (valuesAt text j)
-    unfolding recordsIn each
+    splits : recordsListed v s (valuesAt text i) ≡ recordOf a ∷ recordsListed v s (valuesAt text j)
+    unfolding recordsListed each
     splits = ap (each recordOf) e
 
     fitting : AllFit (a ∷ located v s (valuesAt text j))
     fitting = rw e at (go .ahead .fits)
 
-    room : p + 1 + length (recordsIn v s (valuesAt text j)) ≤ length out
+    room : p + 1 + length (recordsListed v s (valuesAt text j)) ≤ length out
     room = omega (arith, go .ahead .room, ap length splits)
 
-    goes-on : {r : ℕ} → r ≡ recordOf (within a) → Writing v s text start at before j (p + 1) (set out p r)
+    goes-on : {r : ℕ} → r ≡ recordOf (wrapped a) → Writing v s text start at before j (p + 1) (set out p r)
     goes-on {r} h =
         let x : r ≡ recordOf a = h ∙ ap recordOf (within-fits (fit-first fitting)) in
         record {
           ahead = record { form = f; fits = fit-rest fitting; room = omega (arith, room, length-set out p r) };
           kept = length-set out p r ∙ go .kept;
-          same = go .same ∙ ap (λ l. wrote p l out) (splits ∙ ap (λ n. n ∷ recordsIn v s (valuesAt text j)) (sym x)) ∙ wrote-cons p r (recordsIn v s (valuesAt text j)) out (omega (arith, room));
+          same = go .same ∙ ap (λ l. wrote p l out) (splits ∙ ap (λ n. n ∷ recordsListed v s (valuesAt text j)) (sym x))
+              ∙ wrote-cons p r (recordsListed v s (valuesAt text j)) out (omega (arith, room));
         }
 
 -- ---- Vertices.
 
-module _ {s : ℕ} {text : List ℕ} {start at : ℕ} {before : List ℕ} {i p : ℕ} {out : List ℕ} (go : Writing false s text start at before i p out) {r : Next} (e : r ≡ nextNumber text i) where
-  pub vertices-end : r ≡ End → out ≡ wrote at (recordsIn false s (valuesAt text start)) before
+module _ {s : ℕ} {text : List ℕ} {start at : ℕ} {before : List ℕ} {i p : ℕ} {out : List ℕ}
+    (go : Writing false s text start at before i p out) {r : Next} (e : r ≡ nextNumber text i) where
+  pub vertices-end : r ≡ End → out ≡ wrote at (recordsListed false s (valuesAt text start)) before
   unfolding located each
   vertices-end q = ends go (ap (each (onSurface s)) (number-ends (go .ahead .form) e q))
 
-  pub vertices-bad : r ≡ Bad → out ≡ wrote at (recordsIn false s (valuesAt text start)) before
+  pub vertices-bad : r ≡ Bad → out ≡ wrote at (recordsListed false s (valuesAt text start)) before
   vertices-bad q = absurd (number-bad (go .ahead .form) e q)
 
   module _ {x j : ℕ} (q : r ≡ Number x j) where
@@ -107,15 +114,19 @@ module _ {s : ℕ} {text : List ℕ} {start at : ℕ} {before : List ℕ} {i p :
     pub vertex-less : length text - j < length text - i
     vertex-less = omega (arith, here .ahead, here .inside)
 
-    pub vertex-on : {n : ℕ} → n ≡ recordOf (within (onSurface s x)) → Writing false s text start at before j (p + 1) (set out p n)
+    pub vertex-on : {n : ℕ} → n ≡ recordOf (wrapped (onSurface s x)) → Writing false s text start at before j (p + 1) (set out p n)
     vertex-on h = goes-on go splits-vertex (here .form) h
 
 pub ruleset overVertices = (writing-start, writing-kept, vertices-end, vertices-bad, vertex-room, vertex-less, vertex-on, needs)
 
 -- ---- Voxels.
 
-module _ {s : ℕ} {text : List ℕ} {start at : ℕ} {before : List ℕ} {i p : ℕ} {out : List ℕ} (go : Writing true s text start at before i p out) {r : Triple} (e : Threes text i r) where
-  pub voxels-stop : r ≡ triple.End → out ≡ wrote at (recordsIn true s (valuesAt text start)) before
+module _ {s : ℕ} {text : List ℕ} {start at : ℕ} {before : List ℕ} {i p : ℕ} {out : List ℕ}
+    (go : Writing true s text start at before i p out) {r : Triple} (next : NextVoxel text i r) where
+  e : Threes text i r
+  e = next .told (go .ahead .form)
+
+  pub voxels-stop : r ≡ triple.End → out ≡ wrote at (recordsListed true s (valuesAt text start)) before
   unfolding located each threes
   voxels-stop q = ends go (ap (λ l. each (voxelAt s) (threes l)) (voxels-end e q))
 
@@ -126,7 +137,7 @@ module _ {s : ℕ} {text : List ℕ} {start at : ℕ} {before : List ℕ} {i p :
   few-threes (a ∷ b ∷ []) h = refl
   few-threes (a ∷ b ∷ c ∷ l) h = absurd (omega arith)
 
-  pub voxels-short : r ≡ triple.Cut → out ≡ wrote at (recordsIn true s (valuesAt text start)) before
+  pub voxels-short : r ≡ triple.Cut → out ≡ wrote at (recordsListed true s (valuesAt text start)) before
   unfolding located each
   voxels-short q = ends go (ap (each (voxelAt s)) (few-threes (valuesAt text i) (voxels-cut e q .few)))
 
@@ -144,7 +155,7 @@ module _ {s : ℕ} {text : List ℕ} {start at : ℕ} {before : List ℕ} {i p :
     pub voxel-less : length text - behind < length text - i
     voxel-less = omega (arith, passed .ahead, passed .inside)
 
-    pub voxel-on : {n : ℕ} → n ≡ recordOf (within (inVolume s x y z)) → Writing true s text start at before behind (p + 1) (set out p n)
+    pub voxel-on : {n : ℕ} → n ≡ recordOf (wrapped (inVolume s x y z)) → Writing true s text start at before behind (p + 1) (set out p n)
     voxel-on h = goes-on go splits-voxel (passed .form) h
 
 pub ruleset overVoxels = (writing-start, writing-kept, voxels-stop, voxels-short, voxel-room, voxel-less, voxel-on, needs)

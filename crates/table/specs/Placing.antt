@@ -11,10 +11,10 @@ use Rattle.lists.specs.Lists.{total}
 use Rattle.nodes.specs.Places.{the}
 use Rattle.records.specs.Fill.{wrote, length-wrote}
 use Rattle.cifti.specs.Maps.{Model, modelOf, locations}
-use Rattle.maps.specs.Fill.{filled}
+use Rattle.maps.specs.Laws.Fill.{filled}
 use Rattle.maps.specs.Table.{recordsOf}
 use Rattle.models.specs.Held.{Holding, modelAt, modelsAt}
-use Rattle.models.specs.Tables.{size-of-table, entry-of-table}
+use Rattle.lists.specs.Laws.Tables.{size-of-table, entry-of-table}
 use Rattle.models.specs.declared.gather.Models.{Models}
 use Rattle.table.specs.Listing.{AllFit}
 use Rattle.table.specs.Model.{Fillable}
@@ -62,7 +62,8 @@ pub record PlacedTo (text : List ℕ) (m : Models) (before : List ℕ) (start n 
   pub same : filled recordsOf start (modelsAt text m) before ≡ filled recordsOf start (drop i (modelsAt text m)) out
   pub counted : n + total (λ b. b .count) (drop i (modelsAt text m)) ≡ total (λ b. b .count) (modelsAt text m)
 
-pub placed-start : {text : List ℕ} {m : Models} {out : List ℕ} {start : ℕ} → Placing text m (length out) start → PlacedTo text m out start 0 0 out
+pub placed-start : {text : List ℕ} {m : Models} {out : List ℕ} {start : ℕ} → Placing text m (length out) start
+    → PlacedTo text m out start 0 0 out
 placed-start {text} {m} h = record { placing = h; within = omega arith; kept = refl; same = refl; counted = omega arith }
 
 module _ {text : List ℕ} {m : Models} {before : List ℕ} {start n i : ℕ} {out : List ℕ} (go : PlacedTo text m before start n i out) where
@@ -90,7 +91,8 @@ module _ {text : List ℕ} {m : Models} {before : List ℕ} {start n i : ℕ} {o
 
     sums : total (λ b. b .count) (drop i (modelsAt text m)) ≡ getD (m .length) i 0 + total (λ b. b .count) (drop (i + 1) (modelsAt text m))
     unfolding total
-    sums = ap (total (λ b. b .count)) (ahead text m i h) ∙ ap (λ k. k + total (λ b. b .count) (drop (i + 1) (modelsAt text m))) (sym (go .placing .holding .holds i h .length-is))
+    sums = ap (total (λ b. b .count)) (ahead text m i h)
+        ∙ ap (λ k. k + total (λ b. b .count) (drop (i + 1) (modelsAt text m))) (sym (go .placing .holding .holds i h .length-is))
 
     pub placed-sum : n + getD (m .length) i 0 ≤ length before
     placed-sum = omega (arith, sums, go .counted, go .placing .sum)
@@ -103,14 +105,17 @@ module _ {text : List ℕ} {m : Models} {before : List ℕ} {start n i : ℕ} {o
       room = omega (arith, offset-is, go .placing .place i h, go .kept);
     }
 
-    pub placed-on : {after : List ℕ} → after ≡ wrote (start + getD (m .offset) i 0) (recordsOf (nthModel text m i)) out → PlacedTo text m before start (n + getD (m .length) i 0) (i + 1) after
+    pub placed-on : {after : List ℕ} → after ≡ wrote (start + getD (m .offset) i 0) (recordsOf (nthModel text m i)) out
+        → PlacedTo text m before start (n + getD (m .length) i 0) (i + 1) after
     unfolding filled
     placed-on {after} e = record {
       placing = go .placing;
       within = omega arith;
-      kept = ap length e ∙ length-wrote (start + getD (m .offset) i 0) (recordsOf (nthModel text m i)) out (omega (arith, offset-is, go .placing .place i h, go .kept)) ∙ go .kept;
+      kept = ap length e ∙ length-wrote (start + getD (m .offset) i 0) (recordsOf (nthModel text m i)) out
+          (omega (arith, offset-is, go .placing .place i h, go .kept)) ∙ go .kept;
       same = go .same ∙ ap (λ l. filled recordsOf start l out) (ahead text m i h)
-          ∙ ap (λ o. filled recordsOf start (drop (i + 1) (modelsAt text m)) (wrote (start + o) (recordsOf (nthModel text m i)) out)) (sym offset-is)
+          ∙ ap (λ o. filled recordsOf start (drop (i + 1) (modelsAt text m)) (wrote (start + o) (recordsOf (nthModel text m i)) out))
+          (sym offset-is)
           ∙ ap (filled recordsOf start (drop (i + 1) (modelsAt text m))) (sym e);
       counted = omega (arith, sums, go .counted);
     }

@@ -1,1 +1,1 @@
-// The laws of the table of a brain map, and of condition 14, that the reader's code is proved by. No code: see specs/.
+// The laws of the records of the brain maps, and of condition 14, that `filling` is proved by. No code: see specs/.

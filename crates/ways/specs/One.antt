@@ -7,20 +7,20 @@ use Prim.Native.Nat.{ℕ, _+_, _-_, _≤_, _<_}
 use native.Mathlib.Omega.{arith}
 use lib.ListN.{length, take, drop, length-append}
 use lib.Seq.{drop-append-seam, take-append-seam}
-use Rattle.lists.specs.Booleans.{clash}
+use Rattle.lists.specs.Laws.Booleans.{clash}
 use Rattle.grammar.specs.Bytes.{_⊹_, Sequence}
 use Rattle.grammar.specs.Document.{Element}
 use Rattle.grammar.specs.Grammar.{Declaration, Aside}
 use Rattle.grammar.specs.Look.{withinOf}
 use Rattle.grammar.specs.Parser.{parse}
 use Rattle.grammar.specs.Read.{Read, fail, got}
-use Rattle.markup.specs.Prologue.{prologue-at}
+use Rattle.steps.specs.Prologue.{prologue-at}
 use Rattle.nodes.specs.Places.{element₁₆, Stands, the, stands-read, the-read, Tail, tail-more}
 use Rattle.nodes.specs.Scan.{tag-at}
-use Rattle.nodes.specs.Signs.{tagged}
+use Rattle.nodes.specs.ScanSteps.{tagged}
 use Rattle.nodes.specs.Root.{root, root-by, whole-tail}
-use Rattle.nodes.specs.Inside.{within, within-law}
-use Rattle.nodes.specs.Views.{eats-child}
+use Rattle.nodes.specs.Inside.{between-tags, within-law}
+use Rattle.nodes.specs.Laws.ReadSteps.{eats-child}
 use Rattle.nodes.specs.declared.Kid.{Kid}
 use Rattle.nodes.specs.declared.Kid.the-variants.{Child, Done}
 use Rattle.nodes.specs.declared.Found.{Found}
@@ -28,23 +28,23 @@ use Rattle.nodes.specs.declared.Found.the-variants.{At, Nothing}
 use Rattle.nodes.specs.declared.scan.Tag.{Tag}
 use Rattle.nodes.specs.declared.scan.Tag.the-variants.{Open, Bare, No}
 use Rattle.ways.specs.Way.{Step, reached, Leads, here, down, Tagged, between, nothing-between, Place, place}
-use Rattle.ways.specs.Written.{element-opens, before-reads}
+use Rattle.ways.specs.Laws.Written.{element-opens, before-reads}
 use Rattle.ways.specs.Walked.{walked, walkedFrom, wayAt, Agrees, not-there, stands-there, way-agrees}
-use Rattle.ways.specs.Along.{start-read, only-read, leads-writes, Ends, along}
-use Rattle.ways.specs.There.{there}
+use Rattle.ways.specs.Laws.Along.{start-read, only-read, leads-writes, Ends, along}
+use Rattle.ways.specs.Laws.There.{there}
 
 -- behind the start tag, or the only tag, of the element at a place; any bytes
-unfoldable pub behind : Tag → ℕ
-behind (Open i) = i
-behind (Bare i) = i
-behind No = 0
+unfoldable pub behindTag : Tag → ℕ
+behindTag (Open i) = i
+behindTag (Bare i) = i
+behindTag No = 0
 
 unfoldable pub tagEnd : List ℕ → ℕ → ℕ
-tagEnd text k = behind (tagged (length text) (tag-at (drop k text)))
+tagEnd text k = behindTag (tagged (length text) (tag-at (drop k text)))
 
 tag-ends : {part tag s : List ℕ} → Tagged part tag s → (text : List ℕ) (k : ℕ) (r : List ℕ) → drop k text ≡ s ++ r
     → k + length (s ++ r) ≡ length text → tagEnd text k ≡ k + length tag
-unfolding tagEnd behind tagged
+unfolding tagEnd behindTag tagged
 tag-ends {part} (between {tag} rest h) text k r e n =
     let z : (tag ++ (part ++ rest)) ++ r ≡ tag ++ ((part ++ rest) ++ r) = append-assoc tag (part ++ rest) r in
     let m : length ((tag ++ (part ++ rest)) ++ r) ≡ length tag + length ((part ++ rest) ++ r) =
@@ -54,12 +54,13 @@ tag-ends (nothing-between {tag} h q) text k r e n =
     let m : length (tag ++ r) ≡ length tag + length r = length-append tag r in
     rw (e, only-read h r) (omega arith)
 
--- the place of the way, by places: the walk finds an element there, its start tag ends where the part starts, and the part is within it
+-- the place of the way, by places: the walk finds an element there, its start tag ends where the part starts, and the part is
+-- within it
 pub record Met (way : List Step) (part text : List ℕ) (start : ℕ) : Type 0 where
   pub at : ℕ
   pub finds : wayAt way text ≡ At at
   pub starts : start ≡ tagEnd text at
-  pub within-is : part ≡ within text at
+  pub within-is : part ≡ between-tags text at
 
 root-at : {p u w : List ℕ} {bs : List (List ℕ)} {way : List Step} {d : ℕ} {e x : Element} {before s : List ℕ} → Declaration p
     → Sequence Aside bs u → Leads way d e w before x s → (v : List ℕ)
@@ -101,7 +102,7 @@ place-unique {text = text} a b =
     let f = p .finds in
     let g = q .finds in
     let z : p .at ≡ q .at = cc in
-    (p .starts ∙ ap (tagEnd text) z ∙ sym (q .starts), p .within-is ∙ ap (within text) z ∙ sym (q .within-is))
+    (p .starts ∙ ap (tagEnd text) z ∙ sym (q .starts), p .within-is ∙ ap (between-tags text) z ∙ sym (q .within-is))
 
 -- ---- The text is what stands before, the tag, the part, and the rest.
 
@@ -134,21 +135,22 @@ place-cut {part = part} (place {p} {u} {w} {v} {before} {tag} {s} h k l z q g) =
     cut (p ++ (u ++ (before ++ tag))) part (rest ++ (after ++ v)) (p ++ (u ++ (w ++ v)))
     (ap (λ x. p ++ (u ++ (x ++ v))) (a ∙ ap (λ x. before ++ (x ++ after)) b) ∙ simp append-assoc refl)
 
--- THE WALK FINDS THE PLACE: what the way reaches in the document of a text has its place behind the tag of the element that the walk finds
+-- THE WALK FINDS THE PLACE: what the way reaches in the document of a text has its place behind the tag of the element that the walk
+-- finds
 pub place-found : (way : List Step) {text : List ℕ} {e : Element} {k : ℕ} → parse text ≡ some e → wayAt way text ≡ At k
-    → Place way (within text k) text (tagEnd text k)
+    → Place way (between-tags text k) text (tagEnd text k)
 place-found way {text} {e} {k} h f = by (way-agrees way text h) refl refl
   where
-    at-place : {x : Element} → reached way e ≡ some x → Place way (within text k) text (tagEnd text k)
+    at-place : {x : Element} → reached way e ≡ some x → Place way (between-tags text k) text (tagEnd text k)
     at-place q =
         let (start, pl) = there way h q in
         let m = place-met pl in
         let g = m .finds in
         let z : m .at ≡ k = cc in
-        subst (λ (n : ℕ). Place way (within text k) text n) (m .starts ∙ ap (tagEnd text) z)
-        (subst (λ (l : List ℕ). Place way l text start) (m .within-is ∙ ap (within text) z) pl)
+        subst (λ (n : ℕ). Place way (between-tags text k) text n) (m .starts ∙ ap (tagEnd text) z)
+        (subst (λ (l : List ℕ). Place way l text start) (m .within-is ∙ ap (between-tags text) z) pl)
 
     by : {r : Found} {o : Option Element} → Agrees text r o → wayAt way text ≡ r → reached way e ≡ o
-        → Place way (within text k) text (tagEnd text k)
+        → Place way (between-tags text k) text (tagEnd text k)
     by not-there p q = clash (cc)
     by (stands-there st) p q = at-place q

@@ -9,7 +9,7 @@ use native.Mathlib.Omega.{arith}
 use lib.ListN.{length, drop, length-drop}
 use borrow.Author.Needs.{needs}
 use Rattle.lists.specs.Lists.{those}
-use Rattle.lists.specs.Booleans.{clash}
+use Rattle.lists.specs.Laws.Booleans.{clash}
 use Rattle.grammar.specs.Bytes.{ascii}
 use Rattle.grammar.specs.Document.{Element}
 use Rattle.grammar.specs.Look.{is, nameOf}
@@ -17,7 +17,7 @@ use Rattle.grammar.specs.Parser.{parse}
 use Rattle.grammar.specs.Read.{Read, fail, got, Ok, good}
 use Rattle.nodes.specs.Places.{Stands, the}
 use Rattle.nodes.specs.Scan.{skip-at, skip-less, Less, tag-at}
-use Rattle.nodes.specs.Signs.{tagged}
+use Rattle.nodes.specs.ScanSteps.{tagged}
 use Rattle.nodes.specs.Children.{kid-then, kid-at, kid-left, first, next, left}
 use Rattle.nodes.specs.Names.{named, name-is-law}
 use Rattle.nodes.specs.Root.{root, Rooted, root-law}
@@ -28,8 +28,9 @@ use Rattle.nodes.specs.declared.Found.the-variants.{At, Nothing}
 use Rattle.nodes.specs.declared.scan.Tag.{Tag}
 use Rattle.nodes.specs.declared.scan.Tag.the-variants.{Open, Bare, No}
 use Rattle.ways.specs.Way.{Step, step}
-use Rattle.ways.specs.Walked.{placesWithin, placesFrom, nthPlace, childAt, thence, walked, walkedFrom, wayAt, child-same, Agrees, not-there, stands-there, child-agrees}
-use Rattle.ways.specs.One.{behind, tagEnd}
+use Rattle.ways.specs.Walked.{placesWithin, placesFrom, nthPlace, childAt, thence, walked, walkedFrom, wayAt, child-same, Agrees}
+use Rattle.ways.specs.Walked.{not-there, stands-there, child-agrees}
+use Rattle.ways.specs.One.{behindTag, tagEnd}
 
 -- ---- From a child to the next, on any bytes.
 
@@ -177,16 +178,16 @@ pub ruleset seeking = (seeking-start, seeking-done, seeking-less, seeking-off, s
 
 module _ (text : List ℕ) (at : ℕ) {t : Tag} (e : t ≡ tagged (length text) (tag-at (drop at text))) where
   pub behind-open : {i : ℕ} → t ≡ Open i → i ≡ tagEnd text at
-  unfolding tagEnd behind
-  behind-open h = sym (ap behind (sym e ∙ h))
+  unfolding tagEnd behindTag
+  behind-open h = sym (ap behindTag (sym e ∙ h))
 
   pub behind-bare : {i : ℕ} → t ≡ Bare i → i ≡ tagEnd text at
-  unfolding tagEnd behind
-  behind-bare h = sym (ap behind (sym e ∙ h))
+  unfolding tagEnd behindTag
+  behind-bare h = sym (ap behindTag (sym e ∙ h))
 
   pub behind-none : t ≡ No → 0 ≡ tagEnd text at
-  unfolding tagEnd behind
-  behind-none h = sym (ap behind (sym e ∙ h))
+  unfolding tagEnd behindTag
+  behind-none h = sym (ap behindTag (sym e ∙ h))
 
 pub ruleset tag-ending = (behind-open, behind-bare, behind-none, needs)
 

@@ -12,8 +12,8 @@ use Rattle.grammar.specs.Document.{Element}
 use Rattle.grammar.specs.Look.{contentsOf, elements}
 use Rattle.grammar.specs.Parser.{parse}
 use Rattle.nodes.specs.Places.{Stands, the}
-use Rattle.nodes.specs.Children.{first, next, left, Row, no-more, one-more, children}
-use Rattle.nodes.specs.Walk.{left-fits}
+use Rattle.nodes.specs.Children.{first, next, left, Siblings, no-more, one-more, children}
+use Rattle.nodes.specs.Laws.Walk.{left-fits}
 use Rattle.nodes.specs.Root.{root, Rooted, root-law}
 use Rattle.nodes.specs.declared.Kid.{Kid}
 use Rattle.nodes.specs.declared.Kid.the-variants.{Child, Done}
@@ -63,7 +63,7 @@ pub data Stood (text : List ℕ) : List ℕ → List Element → Type 0 where
   none : Stood text [] []
   one : {k : ℕ} {ks : List ℕ} {es : List Element} → Stands text k → Stood text ks es → Stood text (k ∷ ks) (the text k ∷ es)
 
-row-stood : (m : ℕ) {text : List ℕ} {kid : Kid} {l : List Element} → left text kid < m → Row text kid l
+row-stood : (m : ℕ) {text : List ℕ} {kid : Kid} {l : List Element} → left text kid < m → Siblings text kid l
     → Stood text (placesWithin m text kid) l
 unfolding placesWithin
 row-stood zero h no-more = none

@@ -1,11 +1,11 @@
 // Ways to an element of a text: what a way reaches, and where it stands, by the grammar; and the steps that a program takes.
+use elements::children::first_child;
+use elements::children::next_child;
+use elements::scan::tag_end;
+use inside::names::name_is;
 use nodes::Found;
 use nodes::Kid;
-use nodes::children::first_child;
-use nodes::children::next_child;
-use nodes::names::name_is;
 use nodes::scan::Tag;
-use nodes::scan::tag_end;
 ghost use mathlib.Core.Path.{_≡_};
 ghost use Rattle.ways.specs.Treads.{childNamed};
 ghost use Rattle.ways.specs.One.{tagEnd};

@@ -1,4 +1,4 @@
-use Rattle.forms.proofs.LawsForms.{telling}
+use Rattle.forms.specs.Laws.Forms.{telling}
 use Rattle.forms.proofs.is_exponent.Statement.{statement}
 use Rattle.forms.proofs.is_exponent.Tie as tie
 

@@ -1,7 +1,7 @@
-use Rattle.forms.proofs.LawsForms.{listing}
+use Rattle.forms.specs.Laws.Forms.{listing}
 use Prim.Native.Nat.{_-_}
 use lib.ListN.{length}
-use Rattle.forms.proofs.LawsForms.{Listing}
+use Rattle.forms.specs.Laws.Forms.{Listing}
 use Rattle.forms.proofs.wholes_from.Statement.{statement}
 use Rattle.forms.proofs.wholes_from.Tie as tie
 

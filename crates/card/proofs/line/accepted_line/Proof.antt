@@ -1,5 +1,5 @@
 use Prim.Native.Nat.{_-_}
-use Rattle.card.proofs.LawsCard.{Passing, passSteps}
+use Rattle.card.specs.Laws.Card.{Passing, passSteps}
 use native.Mathlib.Omega.{arith}
 use Rattle.card.proofs.line.accepted_line.Statement.{statement}
 use Rattle.card.proofs.line.accepted_line.Tie as tie

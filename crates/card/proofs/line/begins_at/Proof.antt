@@ -1,4 +1,4 @@
-use Rattle.card.proofs.LawsLine.{kindSteps}
+use Rattle.card.specs.Laws.Line.{kindSteps}
 use Rattle.card.proofs.line.begins_at.Statement.{statement}
 use Rattle.card.proofs.line.begins_at.Tie as tie
 

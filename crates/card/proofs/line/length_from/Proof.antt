@@ -1,14 +1,14 @@
 use mathlib.Core.Path.{_≡_}
 use Prim.Native.Nat.{_≤_, _-_}
 use lib.ListN.{drop}
-use Rattle.card.specs.Card.{lengthFrom, dimensionsOf}
-use Rattle.card.proofs.LawsLine.{lengthSteps}
+use Rattle.card.specs.Card.{lengthFrom, answerDimensions}
+use Rattle.card.specs.Laws.Line.{lengthSteps}
 use native.Mathlib.Omega.{arith}
 use Rattle.card.proofs.line.length_from.Statement.{statement}
 use Rattle.card.proofs.line.length_from.Tie as tie
 
 abbrev Inv-loop : tie.InvT-loop
-Inv-loop at answer d₀ d = (d ≤ 3) × (lengthFrom at (dimensionsOf answer) ≡ lengthFrom at (drop d (dimensionsOf answer)))
+Inv-loop at answer d₀ d = (d ≤ 3) × (lengthFrom at (answerDimensions answer) ≡ lengthFrom at (drop d (answerDimensions answer)))
 
 abbrev μ-loop : tie.MeasureT-loop
 μ-loop at answer d₀ d = 3 - d

@@ -1,4 +1,4 @@
-use Rattle.card.proofs.LawsLine.{recordSteps}
+use Rattle.card.specs.Laws.Line.{recordSteps}
 use Rattle.card.proofs.line.record_line.Statement.{statement}
 use Rattle.card.proofs.line.record_line.Tie as tie
 

@@ -1,12 +1,12 @@
 use Prim.Native.Nat.{_-_}
-use Rattle.card.specs.Card.{dimensionsOf}
-use Rattle.card.proofs.LawsRecords.{Seeking, seekSteps}
+use Rattle.card.specs.Card.{answerDimensions}
+use Rattle.card.specs.Laws.Records.{Seeking, seekSteps}
 use native.Mathlib.Omega.{arith}
 use Rattle.card.proofs.line.record_line_at.Statement.{statement}
 use Rattle.card.proofs.line.record_line_at.Tie as tie
 
 abbrev Inv-loop : tie.InvT-loop
-Inv-loop answer records n left₀ at₀ round₀ left at round = Seeking (dimensionsOf answer) records n left at round
+Inv-loop answer records n left₀ at₀ round₀ left at round = Seeking (answerDimensions answer) records n left at round
 
 abbrev μ-loop : tie.MeasureT-loop
 μ-loop answer records n left₀ at₀ round₀ left at round = 3 - round

@@ -1,4 +1,4 @@
-use Rattle.card_text.proofs.LawsWrite.{kind-part, kind-room, put-kind}
+use Rattle.card_text.specs.Laws.Write.{kind-part, kind-room, put-kind}
 use native.Mathlib.Omega.{arith}
 use borrow.Author.Needs.{needs}
 use Rattle.card_text.proofs.write.put_kind.Statement.{statement}
@@ -17,7 +17,8 @@ slice-aggregate-put-word c =
 put-word-requires : tie.Need-put-word-requires
 put-word-requires c κs =
     let word = c .before .before .before .kind-word in
-    let long = kind-part (c .before .before .before .before .before .args .kind) (word .result .letters) (word .result .count) (word .ensures) in
+    let long = kind-part (c .before .before .before .before .before .args .kind) (word .result .letters) (word .result .count)
+    (word .ensures) in
     (omega (arith, long, word .ensures .1 .1), omega arith)
 
 returns : tie.Need-returns

@@ -1,4 +1,4 @@
-use Rattle.card_text.proofs.LawsWrite.{few-digits, put-number}
+use Rattle.card_text.specs.Laws.Write.{few-digits, put-number}
 use Prim.Native.Nat.{_<_}
 use native.Mathlib.Omega.{arith}
 use borrow.Author.Needs.{needs}
@@ -13,7 +13,9 @@ put-word-requires c κs =
 returns : tie.Need-returns
 returns c =
     let small : c .before .before .before .before .before .before .before .before .args .n < 100000000000000000000 = omega arith in
-    put-number _ _ _ (c .before .before .before .before .before .decimal .ensures .1 .0) (c .before .before .before .before .before .decimal .ensures .1 .1) (few-digits _ _ small (c .before .before .before .before .before .decimal .ensures .1 .0)) (c .before .before .put-word .ensures)
+    put-number _ _ _ (c .before .before .before .before .before .decimal .ensures .1 .0)
+    (c .before .before .before .before .before .decimal .ensures .1 .1)
+    (few-digits _ _ small (c .before .before .before .before .before .decimal .ensures .1 .0)) (c .before .before .put-word .ensures)
 
 pub put-number-spec : {M : Type 1} → statement M
 put-number-spec =

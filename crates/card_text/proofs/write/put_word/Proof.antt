@@ -1,4 +1,4 @@
-use Rattle.card_text.proofs.LawsWrite.{put-word}
+use Rattle.card_text.specs.Laws.Write.{put-word}
 use borrow.Author.Needs.{needs}
 use Rattle.card_text.proofs.write.put_word.Statement.{statement}
 use Rattle.card_text.proofs.write.put_word.Tie as tie

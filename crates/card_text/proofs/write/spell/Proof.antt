@@ -1,4 +1,4 @@
-use Rattle.card_text.proofs.LawsWrite.{spellSteps}
+use Rattle.card_text.specs.Laws.Write.{spellSteps}
 use borrow.Author.Needs.{needs}
 use Rattle.card_text.proofs.write.spell.Statement.{statement}
 use Rattle.card_text.proofs.write.spell.Tie as tie

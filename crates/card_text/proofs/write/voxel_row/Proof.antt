@@ -1,4 +1,4 @@
-use Rattle.card_text.proofs.LawsWrite.{rowSteps}
+use Rattle.card_text.specs.Laws.Write.{rowSteps}
 use borrow.Author.Needs.{needs}
 use Rattle.card_text.proofs.write.voxel_row.Statement.{statement}
 use Rattle.card_text.proofs.write.voxel_row.Tie as tie

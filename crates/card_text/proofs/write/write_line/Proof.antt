@@ -1,4 +1,4 @@
-use Rattle.card_text.proofs.LawsWrite.{spelled-part, write-short, write-all, write-counts}
+use Rattle.card_text.specs.Laws.Write.{spelled-part, write-short, write-all, write-counts}
 use native.Mathlib.Omega.{arith}
 use borrow.Author.Needs.{needs}
 use Rattle.card_text.proofs.write.write_line.Statement.{statement}
@@ -10,9 +10,17 @@ write-line-spec =
     (tie.spec
     (λ c. search needs)
     (λ c κs. search needs)
-    (λ c. (write-short (c .before .before .spell .ensures) (c .before .before .before .before .before .args .out .now) (c .if1 .taken), omega arith))
+    (λ c. (
+      write-short (c .before .before .spell .ensures) (c .before .before .before .before .before .args .out .now) (c .if1 .taken),
+      omega arith,
+    ))
     (λ c. search needs)
     (λ c. spelled-part (c .before .before .before .spell .ensures))
     (λ c κs. omega (arith, spelled-part (c .before .before .before .before .spell .ensures)))
     (λ c. search needs)
-    (λ c. (write-all (c .before .before .before .before .before .before .before .spell .ensures) _ (omega arith) (c .before .before .copy .ensures .1), write-counts (c .before .before .before .before .before .before .before .spell .ensures) _ (omega arith) (c .before .before .copy .ensures .1))))
+    (λ c. (
+      write-all (c .before .before .before .before .before .before .before .spell .ensures) _ (omega arith)
+          (c .before .before .copy .ensures .1),
+      write-counts (c .before .before .before .before .before .before .before .spell .ensures) _ (omega arith)
+          (c .before .before .copy .ensures .1),
+    )))

@@ -1,5 +1,4 @@
-use Rattle.decision.proofs.LawsDecision.{choose-read, choose-wrong, choose-long}
-use mathlib.Core.Path.{refl}
+use Rattle.decision.specs.Laws.Choosing.{chooseSteps}
 use borrow.Author.Needs.{needs}
 use Rattle.decision.proofs.decision.answered.Statement.{statement}
 use Rattle.decision.proofs.decision.answered.Tie as tie
@@ -14,12 +13,12 @@ answered-spec =
     (λ c κs. search needs)
     (λ c. search needs)
     (λ c. search needs)
-    (λ c. choose-wrong (c .before .before .before .before .before .before .before .before .before .before .if1 .taken) refl (c .before .before .before .before .before .before .read .ensures) (c .if2 .taken))
+    (λ c. search chooseSteps)
     (λ c κs. search needs)
     (λ c. search needs)
     (λ c. search needs)
-    (λ c. choose-long (c .before .before .before .before .before .before .before .before .before .before .before .if1 .taken) refl (c .before .before .before .before .before .before .before .read .ensures) (c .before .if2 .left) (c .refused .ensures))
+    (λ c. search chooseSteps)
     (λ c κs. search needs)
     (λ c. search needs)
     (λ c. search needs)
-    (λ c. choose-read (c .before .before .before .before .before .before .before .if1 .left) (c .before .before .before .before .read2 .ensures)))
+    (λ c. search chooseSteps))

@@ -3,7 +3,7 @@ use mir.Syntax.{w64}
 use mir.Val.{toZ, ofZ}
 use Rattle.flat.specs.Flat.{complement}
 use borrow.Author.Needs.{needs}
-use Rattle.flat.proofs.Laws.{dimension-stored}
+use Rattle.flat.specs.Laws.Flat.{dimension-stored}
 use Rattle.flat.proofs.slices.dimension_numbers.Statement.{statement}
 use Rattle.flat.proofs.slices.dimension_numbers.Tie as tie
 

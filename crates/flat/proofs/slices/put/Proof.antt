@@ -2,7 +2,7 @@ use Prim.Native.Nat.{_-_}
 use lib.ListN.{length}
 use native.Mathlib.Omega.{arith}
 use borrow.Author.Needs.{needs}
-use Rattle.flat.proofs.Laws.{Putting, put-room, putSteps}
+use Rattle.flat.specs.Laws.Flat.{Putting, put-room, putSteps}
 use Rattle.flat.proofs.slices.put.Statement.{statement}
 use Rattle.flat.proofs.slices.put.Tie as tie
 

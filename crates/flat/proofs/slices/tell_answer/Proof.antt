@@ -2,7 +2,7 @@ use mathlib.Core.Path.{refl}
 use native.Mathlib.Omega.{arith}
 use borrow.Author.Needs.{needs}
 use Rattle.flat.specs.Flat.{answerNumbers}
-use Rattle.flat.proofs.Laws.{told-short, answer-stored}
+use Rattle.flat.specs.Laws.Flat.{told-short, answer-stored}
 use Rattle.flat.proofs.slices.tell_answer.Statement.{statement}
 use Rattle.flat.proofs.slices.tell_answer.Tie as tie
 

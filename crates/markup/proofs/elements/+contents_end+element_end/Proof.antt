@@ -1,7 +1,7 @@
 use native.Mathlib.Omega.{arith}
 use Prim.Native.Nat.{ℕ, _<_, _+_, _-_}
 use lib.ListN.{length, drop}
-use Rattle.markup.proofs.LawsElements.{Reading, reading, elements}
+use Rattle.steps.specs.Laws.Elements.{Reading, reading, elements}
 use borrow.Fn.Kinds.{In}
 use borrow.Fn.PlainCycle.{Measures, is, falls, and}
 use Rattle.markup.proofs.elements.contents_end.Reads as contents-end
@@ -47,7 +47,14 @@ abbrev contents-calls : ℕ → contents-end-lts.Claims
 contents-calls t = (between-end-reads.Asked, between-end-reads.Learnt, element-end-below t, element-end.Post)
 
 abbrev element-calls : ℕ → element-end-lts.Claims
-element-calls t = (open-end-reads.Asked, open-end-reads.Learnt, contents-end-below t, contents-end.Post, closing-end-reads.Asked, closing-end-reads.Learnt)
+element-calls t = (
+  open-end-reads.Asked,
+  open-end-reads.Learnt,
+  contents-end-below t,
+  contents-end.Post,
+  closing-end-reads.Asked,
+  closing-end-reads.Learnt,
+)
 
 abbrev contents-end-Inv-loop : contents-end-lts.InvT-loop
 contents-end-Inv-loop text at depth i₀ i = Reading depth text at i

@@ -1,4 +1,4 @@
-use Rattle.markup.proofs.LawsPieces.{fronts}
+use Rattle.steps.specs.Laws.Pieces.{fronts}
 use Rattle.markup.proofs.pieces.front_at.Statement.{statement}
 use Rattle.markup.proofs.pieces.front_at.Tie as tie
 

@@ -1,7 +1,7 @@
-use Rattle.tokens.proofs.Laws.{spanning, Spanning}
+use Rattle.steps.specs.Laws.Steps.{spanning, Spanning}
 use Prim.Native.Nat.{_-_}
 use lib.ListN.{length}
-use Rattle.markup.specs.Pieces.{plain}
+use Rattle.steps.specs.Pieces.{plain}
 use Rattle.markup.proofs.pieces.plain_end.Statement.{statement}
 use Rattle.markup.proofs.pieces.plain_end.Tie as tie
 

@@ -1,4 +1,4 @@
-use Rattle.markup.proofs.LawsPieces.{tagged}
+use Rattle.steps.specs.Laws.Pieces.{tagged}
 use Rattle.markup.proofs.pieces.remark_end.Statement.{statement}
 use Rattle.markup.proofs.pieces.remark_end.Tie as tie
 

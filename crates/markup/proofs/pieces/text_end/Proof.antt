@@ -1,4 +1,4 @@
-use Rattle.markup.proofs.LawsPieces.{texts}
+use Rattle.steps.specs.Laws.Pieces.{texts}
 use Rattle.markup.proofs.pieces.text_end.Statement.{statement}
 use Rattle.markup.proofs.pieces.text_end.Tie as tie
 

@@ -1,4 +1,4 @@
-use Rattle.markup.proofs.LawsPrologue.{declarations}
+use Rattle.steps.specs.Laws.Prologue.{declarations}
 use Rattle.markup.proofs.prolog.declaration_end.Statement.{statement}
 use Rattle.markup.proofs.prolog.declaration_end.Tie as tie
 

@@ -1,4 +1,4 @@
-use Rattle.markup.proofs.LawsPrologue.{encodings}
+use Rattle.steps.specs.Laws.Prologue.{encodings}
 use Rattle.markup.proofs.prolog.encoding_end.Statement.{statement}
 use Rattle.markup.proofs.prolog.encoding_end.Tie as tie
 

@@ -1,4 +1,4 @@
-use Rattle.markup.proofs.LawsPrologue.{quoted}
+use Rattle.steps.specs.Laws.Prologue.{quoted}
 use Rattle.markup.proofs.prolog.quoted_end.Statement.{statement}
 use Rattle.markup.proofs.prolog.quoted_end.Tie as tie
 

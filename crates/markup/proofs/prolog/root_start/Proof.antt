@@ -1,4 +1,4 @@
-use Rattle.markup.proofs.LawsPrologue.{prologues}
+use Rattle.steps.specs.Laws.Prologue.{prologues}
 use Rattle.markup.proofs.prolog.root_start.Statement.{statement}
 use Rattle.markup.proofs.prolog.root_start.Tie as tie
 

@@ -1,4 +1,4 @@
-use Rattle.markup.proofs.LawsPrologue.{settings}
+use Rattle.steps.specs.Laws.Prologue.{settings}
 use Rattle.markup.proofs.prolog.setting_end.Statement.{statement}
 use Rattle.markup.proofs.prolog.setting_end.Tie as tie
 

@@ -1,4 +1,4 @@
-use Rattle.markup.proofs.LawsTags.{opening}
+use Rattle.steps.specs.Laws.Tags.{opening}
 use Rattle.markup.proofs.tags.open_end.Statement.{statement}
 use Rattle.markup.proofs.tags.open_end.Tie as tie
 

@@ -6,7 +6,6 @@ pub later-refusal-spec : {M : Type 1} → statement M
 later-refusal-spec =
     tie.close
     (tie.spec
-    (λ c κs. search latering)
     (λ c. search latering)
     (λ c κs. search latering)
     (λ c. search latering)

@@ -1,4 +1,4 @@
-use Rattle.reader.specs.Naming.{naming-map}
+use Rattle.reader.specs.Laws.Naming.{naming-map}
 use Rattle.reader.proofs.names.map_name.Statement.{statement}
 use Rattle.reader.proofs.names.map_name.Tie as tie
 

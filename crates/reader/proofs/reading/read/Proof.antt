@@ -1,4 +1,4 @@
-use Rattle.reader.specs.Reading.{reading}
+use Rattle.reader.specs.Laws.Reading.{reading}
 use Rattle.reader.proofs.reading.read.Statement.{statement}
 use Rattle.reader.proofs.reading.read.Tie as tie
 
@@ -11,6 +11,7 @@ read-spec =
     (λ c κs. search reading)
     (λ c. search reading)
     (λ c. search reading)
+    (λ c κs. search reading)
     (λ c κs. search reading)
     (λ c κs. search reading)
     (λ c κs. search reading)

@@ -1,0 +1,3 @@
+pub mod Numbered
+pub mod Sum
+pub mod Laws

@@ -1,3 +1,0 @@
-pub mod LawsLine
-pub mod LawsRecords
-pub mod LawsCard

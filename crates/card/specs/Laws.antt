@@ -1,0 +1,4 @@
+pub mod Theorems
+pub mod Card
+pub mod Line
+pub mod Records

@@ -1,6 +1,0 @@
-use borrow.Author.Needs.{needs}
-use Rattle.cifti.proofs.answer.no_series.Statement.{statement}
-use Rattle.cifti.proofs.answer.no_series.Tie as tie
-
-pub no-series-spec : {M : Type 1} → statement M
-no-series-spec = tie.close (tie.spec (λ c κs. search needs) (λ c. cc))

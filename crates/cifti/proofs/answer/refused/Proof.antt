@@ -1,6 +1,0 @@
-use borrow.Author.Needs.{needs}
-use Rattle.cifti.proofs.answer.refused.Statement.{statement}
-use Rattle.cifti.proofs.answer.refused.Tie as tie
-
-pub refused-spec : {M : Type 1} → statement M
-refused-spec = tie.close (tie.spec (λ c κs. search needs) (λ c. cc))

@@ -1,6 +1,0 @@
-use borrow.Author.Needs.{needs}
-use Rattle.cifti.proofs.answer.unused.Statement.{statement}
-use Rattle.cifti.proofs.answer.unused.Tie as tie
-
-pub unused-spec : {M : Type 1} → statement M
-unused-spec = tie.close (tie.spec (λ c κs. search needs) (λ c κs. search needs) (λ c. cc))

@@ -1,0 +1,12 @@
+pub mod Kinds
+pub mod Text
+pub mod Unseen
+pub mod Theorems
+pub mod Smallest
+pub mod Meaning
+pub mod Said
+pub mod Cover
+pub mod Places
+pub mod Repeats
+pub mod Keys
+pub mod Demand

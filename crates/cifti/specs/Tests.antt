@@ -1,0 +1,4 @@
+pub mod CaseA
+pub mod Cases
+pub mod Pieces
+pub mod Edges

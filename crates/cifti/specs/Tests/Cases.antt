@@ -1,0 +1,127 @@
+-- THE TABLE P of document 01. Each line is computed from the definitions; `promised-number` and `promised` (Theorems) make it a line
+-- about every reader that keeps the promise.
+use mathlib.Core.Path.{_≡_, refl}
+use mathlib.Core.List.{List, [], _∷_}
+use mathlib.Core.Option.{some}
+use Prim.Native.Nat.{ℕ}
+use lib.ListN.{length}
+use Rattle.lists.specs.Lists.{lists}
+use Rattle.grammar.specs.Bytes.{ascii}
+use Rattle.grammar.specs.Document.{element, run, nothing}
+use Rattle.grammar.specs.Parser.{parse, computing}
+use Rattle.grammar.specs.Look.{looks}
+use Rattle.grammar.specs.Laws.Plain.{erasing}
+use Rattle.numbers.specs.Numbers.{numbers}
+use Rattle.schema.specs.Schema.{schema}
+use Rattle.records.specs.Record.{recordWords}
+use Rattle.records.specs.Bytes.{byteWords}
+use Rattle.records.specs.Sheet.{sheetOf, headOf}
+use Rattle.cifti.specs.Words.{namedWords}
+use Rattle.cifti.specs.Rows.{rowTable}
+use Rattle.cifti.specs.Maps.{mapWords}
+use Rattle.cifti.specs.Conditions.{conditionWords}
+use Rattle.cifti.specs.Names.{nameWords}
+use Rattle.cifti.specs.Answer.{answerWords, unused, noSeries, Reads}
+use Rattle.cifti.specs.Laws.Theorems.{modelWords, numberOf, answerOf, recordsOf, promised-number}
+use Rattle.cifti.specs.Tests.CaseA.{variant, caseA}
+use Rattle.cifti.specs.declared.answer.Kind.the-variants.{Brain, Scalars}
+use Rattle.cifti.specs.declared.answer.Answer.{Answer}
+
+unfoldable pub cases : Unit {0}
+unfolding computing lists looks erasing numbers schema recordWords namedWords rowTable mapWords conditionWords nameWords answerWords
+    modelWords
+cases = tt
+
+-- three places, which hold 9, and two
+abbrev pub three : List ℕ
+three = 9 ∷ 9 ∷ 9 ∷ []
+
+abbrev pub two : List ℕ
+two = 9 ∷ 9 ∷ []
+
+-- the number, with the lengths 2,3 and 3 places of each
+abbrev numberFor : List ℕ → ℕ
+numberFor text = numberOf text (2 ∷ 3 ∷ []) three three
+
+-- P1: A, with 3 places of each, is accepted. Dimension 0 is scalars of 2, dimension 1 brain of 3 that begins at 0;
+-- its records: index 0 and 1, surface, structure 18, vertices 4 and 1; index 2, voxel, structure 6, 2 3 5.
+pub p1 : answerOf caseA (2 ∷ 3 ∷ []) three three
+    ≡ record {
+      number = 0;
+      dimensions = record { kind = Scalars; length = 2; start = record { 0 = 0 }; series = noSeries }
+          ∷ record { kind = Brain; length = 3; start = record { 0 = 0 }; series = noSeries }
+          ∷ unused
+          ∷ [];
+    }
+unfolding cases
+p1 = refl
+
+pub p1-records : recordsOf caseA (2 ∷ 3 ∷ []) three three ≡ 0x4800000004 ∷ 0x4800000001 ∷ 0x9801003005 ∷ []
+unfolding cases
+p1-records = refl
+
+-- P2: its sheet is `05 00 00 03 48 00 00 00 04 48 00 00 00 01 98 01 00 30 05`
+pub p2 : sheetOf 5 (recordsOf caseA (2 ∷ 3 ∷ []) three three)
+    ≡ 0x05 ∷ 0x00 ∷ 0x00 ∷ 0x03 ∷ 0x48 ∷ 0x00 ∷ 0x00 ∷ 0x00 ∷ 0x04 ∷ 0x48 ∷ 0x00 ∷ 0x00 ∷ 0x00 ∷ 0x01 ∷ 0x98 ∷ 0x01 ∷ 0x00 ∷ 0x30 ∷ 0x05
+    ∷ []
+unfolding cases byteWords sheetOf headOf
+p2 = refl
+
+-- P3: empty text: 3
+pub p3 : numberFor [] ≡ 3
+unfolding cases
+p3 = refl
+
+-- P4: `<a b="1" b="2"/>`: 3
+pub p4 : numberFor (ascii "<a b=\"1\" b=\"2\"/>") ≡ 3
+unfolding cases
+p4 = refl
+
+-- P5: `<a>&amp;lt;</a>` holds the four characters `&lt;`
+pub p5 : parse (ascii "<a>&amp;lt;</a>") ≡ some (element (ascii "a") [] (run (ascii "&lt;") nothing) (ascii "&amp;lt;"))
+unfolding cases
+p5 = refl
+
+-- P6: A with offset 2 made 1: 11
+pub p6 : numberFor (variant "1" "1" "4 1") ≡ 11
+unfolding cases
+p6 = refl
+
+-- P7: A with vertices `5 1`: 12
+pub p7 : numberFor (variant "1" "2" "5 1") ≡ 12
+unfolding cases
+p7 = refl
+
+-- P8: A with vertices `4 4`: 14, and with 2 places of work: 13
+pub p8 : numberFor (variant "1" "2" "4 4") ≡ 14
+unfolding cases
+p8 = refl
+
+pub p8-work : numberOf (variant "1" "2" "4 4") (2 ∷ 3 ∷ []) three two ≡ 13
+unfolding cases
+p8-work = refl
+
+-- P9: A with vertices `4 -1`: 7
+pub p9 : numberFor (variant "1" "2" "4 -1") ≡ 7
+unfolding cases
+p9 = refl
+
+-- P10: A with lengths 3,3: 9
+pub p10 : numberOf caseA (3 ∷ 3 ∷ []) three three ≡ 9
+unfolding cases
+p10 = refl
+
+-- P11: A with brain dimension `0,1`: 8
+pub p11 : numberFor (variant "0,1" "2" "4 1") ≡ 8
+unfolding cases
+p11 = refl
+
+-- ---- So every reader that keeps the promise accepts A and refuses P7: none only refuses, and none answers always the same.
+
+pub accepts : {a : Answer} {s v : List ℕ} → Reads caseA (2 ∷ 3 ∷ []) three three a s v → a .number ≡ 0
+unfolding cases
+accepts r = promised-number r
+
+pub refuses : {a : Answer} {s v : List ℕ} → Reads (variant "1" "2" "5 1") (2 ∷ 3 ∷ []) three three a s v → a .number ≡ 12
+unfolding cases
+refuses r = promised-number r

@@ -1,3 +1,0 @@
-pub mod LawsLengths
-pub mod LawsFirst
-pub mod LawsDecision

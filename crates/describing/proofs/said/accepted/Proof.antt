@@ -1,0 +1,12 @@
+use Rattle.describe.specs.Said.{answering}
+use Rattle.describing.proofs.said.accepted.Statement.{statement}
+use Rattle.describing.proofs.said.accepted.Tie as tie
+
+pub accepted-spec : {M : Type 1} → statement M
+accepted-spec =
+    tie.close
+    (tie.spec
+    (λ c κs. search answering)
+    (λ c κs. search answering)
+    (λ c κs. search answering)
+    (λ c. search answering))

@@ -1,0 +1,16 @@
+use Rattle.first_line.specs.Laws.Line.{lineSteps}
+use borrow.Author.Needs.{needs}
+use Rattle.first_line.proofs.lengths.first_line.Statement.{statement}
+use Rattle.first_line.proofs.lengths.first_line.Tie as tie
+
+pub first-line-spec : {M : Type 1} → statement M
+first-line-spec =
+    tie.close
+    (tie.spec
+    (λ c. search lineSteps)
+    (λ c. search needs)
+    (λ c. search needs)
+    (λ c. search lineSteps)
+    (λ c. search lineSteps)
+    (λ c κs. search needs)
+    (λ c. search lineSteps))

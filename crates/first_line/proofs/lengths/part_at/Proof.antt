@@ -1,0 +1,16 @@
+use Rattle.first_line.specs.Laws.Parts.{partSteps}
+use borrow.Author.Needs.{needs}
+use Rattle.first_line.proofs.lengths.part_at.Statement.{statement}
+use Rattle.first_line.proofs.lengths.part_at.Tie as tie
+
+pub part-at-spec : {M : Type 1} → statement M
+part-at-spec =
+    tie.close
+    (tie.spec
+    (λ c κs. search needs)
+    (λ c. search partSteps)
+    (λ c. search partSteps)
+    (λ c. search needs)
+    (λ c. search needs)
+    (λ c. search partSteps)
+    (λ c. search partSteps))

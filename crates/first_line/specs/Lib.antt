@@ -1,0 +1,4 @@
+pub mod Lengths
+pub mod Parted
+pub mod Laws
+pub mod Tests

@@ -1,0 +1,309 @@
+-- What the parser finds, the text writes.
+use mathlib.Core.Path.{_≡_, refl, ap, sym, subst}
+use mathlib.Core.Logic.{_≢_}
+use mathlib.Core.List.{List, [], _∷_, _++_, append-assoc, append-nil}
+use mathlib.Core.Option.{Option, some}
+use mathlib.Core.Option
+use Prim.Native.Nat.{ℕ, zero, suc, _+_, _≤_, _<_}
+use mathlib.Core.Bool.{Bool, true, false, _&&_, _||_, not}
+use lib.Dec.{eqb, leb}
+use lib.ListN.{length, length-append}
+use borrow.Author.Tests.{leb-true, eq-eqb, eqb-true, not-true}
+use Rattle.lists.specs.Laws.Booleans.{and-left, and-right, clash}
+use Rattle.grammar.specs.Bytes.{_⊹_, ascii, blank, nameStart, nameByte, quote, special, Each, no-byte, a-byte, Sequence, no-more}
+use Rattle.grammar.specs.Bytes.{one-more, begins}
+use Rattle.grammar.specs.Characters.{Character, utf8-1, utf8-2, utf8-3, utf8-4, lead1, lead2, lead3, lead4, continues, noncharacter}
+use Rattle.grammar.specs.Document.{Attribute, attribute, Element, element, Contents, nothing, child, merged, together}
+use Rattle.grammar.specs.Grammar
+use Rattle.grammar.specs.Grammar.{Name, Gap, Equals, Reference, TextCharacter, ValueCharacter, Value, WritesAttribute, Absent}
+use Rattle.grammar.specs.Grammar.{Distinct, Attributes, Remark, Comment, WritesElement, WritesContents, Setting, Encoding}
+use Rattle.grammar.specs.Grammar.{Declaration, Aside, Writes}
+use Rattle.grammar.specs.Read.{Read, fail, got, Reader, bind, test, mark, byte, span, alt, all-of, Ok, failed, good, bind-ok}
+use Rattle.grammar.specs.Read.{ok-map, ok-got, alt-ok, Takes, test-sound, mark-sound, byte-sound, span-sound, all-of-sound}
+use Rattle.grammar.specs.Read.{seen-sound}
+use Rattle.grammar.specs.Parser
+use Rattle.grammar.specs.Parser.{name-at, gap-at, equals-at, CharacterWidth, one, two, three, four, width, rest-by, rest-at}
+use Rattle.grammar.specs.Parser.{literal-at, standsFor, reference-at, text-at, space-at, value-byte, value-character-at, value-at}
+use Rattle.grammar.specs.Parser.{attribute-at, ends, closing, same, absent, distinct, attributes-at, no-dash, plain-at, dashed-at}
+use Rattle.grammar.specs.Parser.{remark-at, comment-at, Look, at-close, at-comment, at-element, at-text, look, empty-at, full-at}
+use Rattle.grammar.specs.Parser.{element-at, contents-by, contents-at, setting-at, asking, encoding-if, declaration-if}
+use Rattle.grammar.specs.Parser.{declaration-at, blank-at, remarked-at, aside-at, no-aside, end-at, document-at, answer, parse}
+
+pub name-sound : (s : List ℕ) → Ok (λ n r. (s ≡ n ++ r) × Name n) (name-at s)
+unfolding name-at
+name-sound s =
+    bind-ok (byte-sound nameStart s) λ a r₁ h₁.
+    bind-ok (span-sound nameByte r₁) λ w r₂ h₂.
+    bind-ok (test-sound (leb (length (a ∷ w)) 64) r₂) λ _ r₃ h₃.
+    good (cc, Grammar.name (h₁ .1) (h₂ .1) (leb-true (length (a ∷ w)) 64 (h₃ .0)))
+
+pub gap-sound : (s : List ℕ) → Ok (λ u r. (s ≡ u ++ r) × Gap u) (gap-at s)
+unfolding gap-at
+gap-sound s =
+    bind-ok (byte-sound blank s) λ a r₁ h₁.
+    bind-ok (span-sound blank r₁) λ w r₂ h₂.
+    good (cc, Grammar.gap (h₁ .1) (h₂ .1))
+
+pub equals-sound : (s : List ℕ) → Ok (Takes (λ _ w. Equals w) s) (equals-at s)
+unfolding equals-at
+equals-sound s =
+    bind-ok (span-sound blank s) λ u r₁ h₁.
+    bind-ok (mark-sound (ascii "=") r₁) λ _ r₂ e₂.
+    bind-ok (span-sound blank r₂) λ v r₃ h₃.
+    good (_, simp append-assoc (cc), Grammar.equals (h₁ .1) (h₃ .1))
+
+rest-by-sound : (k : CharacterWidth) (a : ℕ) (s : List ℕ) → Ok (λ w r. (s ≡ w ++ r) × Character a w) (rest-by k a s)
+unfolding rest-by
+rest-by-sound one a s =
+    bind-ok (test-sound (lead1 a) s) λ _ r h. good (h .1, utf8-1 (h .0))
+rest-by-sound two a s =
+    bind-ok (test-sound (lead2 a) s) λ _ r h.
+    bind-ok (byte-sound continues r) λ b r₁ h₁.
+    good (cc, utf8-2 (h .0) (h₁ .1))
+rest-by-sound three a s =
+    bind-ok (byte-sound (lead3 a) s) λ b r₁ h₁.
+    bind-ok (byte-sound continues r₁) λ c r₂ h₂.
+    bind-ok (test-sound (not (noncharacter a b c)) r₂) λ _ r₃ h₃.
+    good (cc, utf8-3 (h₁ .1) (h₂ .1) (not-true (noncharacter a b c) (h₃ .0)))
+rest-by-sound four a s =
+    bind-ok (byte-sound (lead4 a) s) λ b r₁ h₁.
+    bind-ok (byte-sound continues r₁) λ c r₂ h₂.
+    bind-ok (byte-sound continues r₂) λ d r₃ h₃.
+    good (cc, utf8-4 (h₁ .1) (h₂ .1) (h₃ .1))
+
+pub rest-sound : (a : ℕ) (s : List ℕ) → Ok (λ w r. (s ≡ w ++ r) × Character a w) (rest-at a s)
+unfolding rest-at
+rest-sound a s = rest-by-sound (width a) a s
+
+-- what `literal-at p` has read: a character whose first byte passes
+data Literal (p : ℕ → Bool) : List ℕ → Type 0 where
+  literal : {a : ℕ} {w : List ℕ} → Character a w → p a ≡ true → Literal p (a ∷ w)
+
+literal-sound : (p : ℕ → Bool) (s : List ℕ) → Ok (λ w r. (s ≡ w ++ r) × Literal p w) (literal-at p s)
+unfolding literal-at
+literal-sound p s =
+    bind-ok (byte-sound p s) λ a r₁ h₁.
+    bind-ok (rest-sound a r₁) λ w r₂ h₂.
+    good (cc, literal (h₂ .1) (h₁ .1))
+
+said-sound : (k v : List ℕ) → Reference v k → (s : List ℕ) → Ok (Takes Reference s) (standsFor k v s)
+unfolding standsFor
+said-sound k v h s = bind-ok (mark-sound k s) λ _ r e. good (k, e, h)
+
+pub reference-sound : (s : List ℕ) → Ok (Takes Reference s) (reference-at s)
+unfolding reference-at
+reference-sound s =
+    alt-ok (said-sound _ _ Grammar.amp s)
+    (alt-ok (said-sound _ _ Grammar.lt s)
+    (alt-ok (said-sound _ _ Grammar.gt s)
+    (alt-ok (said-sound _ _ Grammar.quot s) (said-sound _ _ Grammar.apos s))))
+
+text-literal : {w : List ℕ} → Literal (λ a. not (special a)) w → TextCharacter w w
+text-literal (literal {a} h e) = TextCharacter.literal h (not-true (special a) e)
+
+pub text-sound : (s : List ℕ) → Ok (Takes TextCharacter s) (text-at s)
+unfolding text-at
+text-sound s =
+    alt-ok (ok-map (reference-sound s) λ b r h. (h .0, h .1, TextCharacter.reference (h .2)))
+    (ok-map (literal-sound (λ a. not (special a)) s) λ w r h. (w, h .0, text-literal (h .1)))
+
+value-literal : (q : ℕ) {w : List ℕ} → Literal (value-byte q) w → ValueCharacter q w w
+unfolding value-byte
+value-literal q (literal {a} h e) =
+    let l = and-left (not (special a)) _ e in
+    let m = and-right (not (special a)) _ e in
+    ValueCharacter.literal h (not-true (special a) l) (not-true (eqb a q) (and-left _ (not (blank a)) m))
+    (not-true (blank a) (and-right (not (eqb a q)) _ m))
+
+pub value-character-sound : (q : ℕ) (s : List ℕ) → Ok (Takes (ValueCharacter q) s) (value-character-at q s)
+unfolding value-character-at space-at
+value-character-sound q s =
+    alt-ok (ok-map (reference-sound s) λ b r h. (h .0, h .1, ValueCharacter.reference (h .2)))
+    (alt-ok (bind-ok (byte-sound blank s) λ a r h. good (a ∷ [], h .0, ValueCharacter.space (h .1)))
+    (ok-map (literal-sound (value-byte q) s) λ w r h. (w, h .0, value-literal q (h .1))))
+
+pub value-sound : (s : List ℕ) → Ok (Takes Value s) (value-at s)
+unfolding value-at
+value-sound s =
+    bind-ok (byte-sound quote s) λ q r₁ h₁.
+    bind-ok (all-of-sound (value-character-sound q) (begins (q ∷ [])) r₁) λ bs r₂ h₂.
+    bind-ok (mark-sound (q ∷ []) r₂) λ _ r₃ e₃.
+    good (_, simp append-assoc (cc), Grammar.value q (h₁ .1) (h₂ .2))
+
+pub attribute-sound : (s : List ℕ) → Ok (Takes WritesAttribute s) (attribute-at s)
+unfolding attribute-at
+attribute-sound s =
+    bind-ok (gap-sound s) λ u r₁ h₁.
+    bind-ok (name-sound r₁) λ n r₂ h₂.
+    bind-ok (equals-sound r₂) λ _ r₃ h₃.
+    bind-ok (value-sound r₃) λ v r₄ h₄.
+    good (_, simp append-assoc (cc), Grammar.written (h₁ .1) (h₂ .1) (h₃ .2) (h₄ .2))
+
+pub same-refl : (n : List ℕ) → same n n ≡ true
+unfolding same
+same-refl [] = refl
+same-refl (a ∷ n) = rw (eq-eqb a a refl) (same-refl n)
+
+absent-sound : (n : List ℕ) (l : List Attribute) → absent n l ≡ true → Absent n l
+unfolding absent
+absent-sound n [] e = Grammar.absent-none
+absent-sound n (attribute m v ∷ l) e =
+    Grammar.absent-more (λ (q : n ≡ m). different (not-true (same n m) (and-left (not (same n m)) (absent n l) e)) q)
+    (absent-sound n l (and-right (not (same n m)) (absent n l) e))
+  where
+    different : same n m ≡ false → n ≡ m → ⊥
+    different f q = let g : same n m ≡ true = rw (← q) (same-refl n) in clash (cc)
+
+distinct-sound : (l : List Attribute) → distinct l ≡ true → Distinct l
+unfolding distinct
+distinct-sound [] e = Grammar.distinct-none
+distinct-sound (attribute n v ∷ l) e =
+    Grammar.distinct-more (absent-sound n l (and-left (absent n l) (distinct l) e))
+    (distinct-sound l (and-right (absent n l) (distinct l) e))
+
+pub attributes-sound : (s : List ℕ) → Ok (Takes Attributes s) (attributes-at s)
+unfolding attributes-at
+attributes-sound s =
+    bind-ok (all-of-sound attribute-sound (ends closing) s) λ l r₁ h₁.
+    bind-ok (test-sound (distinct l) r₁) λ _ r₂ h₂.
+    bind-ok (test-sound (leb (length l) 16) r₂) λ _ r₃ h₃.
+    good (h₁ .0, (cc), Grammar.attributes (h₁ .2) (distinct-sound l (h₂ .0)) (leb-true (length l) 16 (h₃ .0)))
+
+remark-plain : {w : List ℕ} → Literal no-dash w → Remark [] w
+unfolding no-dash
+remark-plain (literal {a} h e) = Grammar.plain h (not-true (eqb a 45) e)
+
+remark-dashed : {w : List ℕ} → Literal no-dash w → Remark [] (45 ∷ w)
+unfolding no-dash
+remark-dashed (literal {a} h e) = Grammar.dashed h (not-true (eqb a 45) e)
+
+pub remark-sound : (s : List ℕ) → Ok (Takes Remark s) (remark-at s)
+unfolding remark-at plain-at dashed-at
+remark-sound s =
+    alt-ok (bind-ok (literal-sound no-dash s) λ w r h. good (w, h .0, remark-plain (h .1)))
+    (bind-ok (mark-sound (ascii "-") s) λ _ r₁ e₁.
+    bind-ok (literal-sound no-dash r₁) λ w r h. good (45 ∷ w, cc, remark-dashed (h .1)))
+
+pub comment-sound : (s : List ℕ) → Ok (Takes (λ _ w. Comment w) s) (comment-at s)
+unfolding comment-at
+comment-sound s =
+    bind-ok (mark-sound (ascii "<!--") s) λ _ r₁ e₁.
+    bind-ok (all-of-sound remark-sound (begins (ascii "--")) r₁) λ bs r₂ h₂.
+    ok-map (mark-sound (ascii "-->") r₂) λ _ r₃ e₃.
+    (_, simp append-assoc (cc), Grammar.comment (h₂ .2))
+
+pub element-sound : (within : ℕ → Reader Contents) → ((d : ℕ) (s : List ℕ) → Ok (Takes (WritesContents d) s) (within d s))
+    → (d : ℕ) (s : List ℕ) → Ok (Takes (WritesElement d) s) (element-at within d s)
+unfolding element-at empty-at full-at
+element-sound within ih zero s = failed
+element-sound within ih (suc d) s =
+    bind-ok (mark-sound (ascii "<") s) λ _ r₁ e₁.
+    bind-ok (name-sound r₁) λ n r₂ h₂.
+    bind-ok (attributes-sound r₂) λ l r₃ h₃.
+    bind-ok (span-sound blank r₃) λ u r₄ h₄.
+    alt-ok
+    (bind-ok (mark-sound (ascii "/>") r₄) λ _ r₅ e₅.
+    good (_, simp append-assoc (cc), Grammar.empty (h₂ .1) (h₃ .2) (h₄ .1)))
+    (bind-ok (mark-sound (ascii ">") r₄) λ _ r₅ e₅.
+    bind-ok (seen-sound (within d) r₅ (ih d r₅)) λ ck r₆ h₆.
+    bind-ok (mark-sound (ascii "</") r₆) λ _ r₇ e₇.
+    bind-ok (mark-sound n r₇) λ _ r₈ e₈.
+    bind-ok (span-sound blank r₈) λ v r₉ h₉.
+    bind-ok (mark-sound (ascii ">") r₉) λ _ r e.
+    good (_, simp append-assoc (cc), Grammar.full (h₂ .1) (h₃ .2) (h₄ .1) (h₆ .1) (h₉ .1)))
+
+-- what does not begin a longer text does not begin a shorter one
+pub begins-less : (k x r : List ℕ) → begins k (x ++ r) ≡ false → begins k x ≡ false
+unfolding begins
+begins-less [] x r e = e
+begins-less (a ∷ k) [] r e = refl
+begins-less (a ∷ k) (b ∷ x) r e = go (eqb b a) e (begins-less k x r)
+  where
+    go : (t : Bool) → (t && begins k (x ++ r)) ≡ false → (begins k (x ++ r) ≡ false → begins k x ≡ false) → (t && begins k x) ≡ false
+    go true e ih = ih e
+    go false e ih = refl
+
+contents-by-sound : (more : ℕ → Reader Contents) → ((d : ℕ) (s : List ℕ) → Ok (Takes (WritesContents d) s) (more d s))
+    → (d : ℕ) (k : Look) (s : List ℕ) → Ok (Takes (WritesContents d) s) (contents-by more d k s)
+unfolding contents-by
+contents-by-sound more ih d at-close s = good ([], refl, Grammar.none)
+contents-by-sound more ih d at-comment s =
+    bind-ok (comment-sound s) λ _ r₁ h₁.
+    ok-map (ih d r₁) λ c r₂ h₂. (_, simp append-assoc (cc), Grammar.remark (h₁ .2) (h₂ .2))
+contents-by-sound more ih d at-element s =
+    bind-ok (element-sound more ih d s) λ e r₁ h₁.
+    bind-ok (ih d r₁) λ c r₂ h₂. good (_, simp append-assoc (cc), Grammar.inner (h₁ .2) (h₂ .2))
+contents-by-sound more ih d at-text s =
+    bind-ok (test-sound (not (begins (ascii "]]>") s)) s) λ _ r₀ h₀.
+    bind-ok (text-sound r₀) λ b r₁ h₁.
+    bind-ok (ih d r₁) λ c r₂ h₂.
+    let whole : s ≡ (h₁ .0 ⊹ h₂ .0) ++ r₂ = simp append-assoc (cc) in
+    let clear = not-true (begins (ascii "]]>") s) (h₀ .0) in
+    good (_, whole, Grammar.character (h₁ .2) (begins-less (ascii "]]>") (h₁ .0 ⊹ h₂ .0) r₂ (rw whole at clear)) (h₂ .2))
+
+pub contents-sound : (n d : ℕ) (s : List ℕ) → Ok (Takes (WritesContents d) s) (contents-at n d s)
+unfolding contents-at
+contents-sound zero d s = failed
+contents-sound (suc n) d s = contents-by-sound (contents-at n) (contents-sound n) d (look s) s
+
+pub setting-sound : (k v : List ℕ) (s : List ℕ) → Ok (Takes (λ _ w. Setting k v w) s) (setting-at k v s)
+unfolding setting-at
+setting-sound k v s =
+    bind-ok (gap-sound s) λ u r₁ h₁.
+    bind-ok (mark-sound k r₁) λ _ r₂ e₂.
+    bind-ok (equals-sound r₂) λ _ r₃ h₃.
+    bind-ok (byte-sound quote r₃) λ q r₄ h₄.
+    bind-ok (mark-sound v r₄) λ _ r₅ e₅.
+    ok-map (mark-sound (q ∷ []) r₅) λ _ r₆ e₆.
+    (_, simp append-assoc (cc), Grammar.setting q (h₁ .1) (h₃ .2) (h₄ .1))
+
+encoding-sound : (t : Bool) (s : List ℕ) → Ok (Takes (λ _ w. Encoding w) s) (encoding-if t s)
+unfolding encoding-if
+encoding-sound true s = good ([], refl, Grammar.no-encoding)
+encoding-sound false s = ok-map (setting-sound (ascii "encoding") (ascii "UTF-8") s) λ _ r h. (h .0, h .1, Grammar.encoding (h .2))
+
+declaration-if-sound : (t : Bool) (s : List ℕ) → Ok (Takes (λ _ w. Declaration w) s) (declaration-if t s)
+unfolding declaration-if
+declaration-if-sound false s = good ([], refl, Grammar.no-declaration)
+declaration-if-sound true s =
+    bind-ok (mark-sound (ascii "<?xml") s) λ _ r₁ e₁.
+    bind-ok (setting-sound (ascii "version") (ascii "1.0") r₁) λ _ r₂ h₂.
+    bind-ok (encoding-sound (ends asking r₂) r₂) λ _ r₃ h₃.
+    bind-ok (span-sound blank r₃) λ u r₄ h₄.
+    ok-map (mark-sound (ascii "?>") r₄) λ _ r₅ e₅.
+    (_, simp append-assoc (cc), Grammar.declaration (h₂ .2) (h₃ .2) (h₄ .1))
+
+pub declaration-sound : (s : List ℕ) → Ok (Takes (λ _ w. Declaration w) s) (declaration-at s)
+unfolding declaration-at
+declaration-sound s = declaration-if-sound (begins (ascii "<?") s) s
+
+pub aside-sound : (s : List ℕ) → Ok (Takes Aside s) (aside-at s)
+unfolding aside-at blank-at remarked-at
+aside-sound s =
+    alt-ok (bind-ok (byte-sound blank s) λ a r h. good (a ∷ [], h .0, Grammar.blank-aside (h .1)))
+    (bind-ok (comment-sound s) λ _ r h. good (h .0, h .1, Grammar.comment-aside (h .2)))
+
+end-sound : (s : List ℕ) → Ok (λ _ r. (s ≡ []) × (r ≡ [])) (end-at s)
+unfolding end-at
+end-sound [] = good (refl, refl)
+end-sound (a ∷ s) = failed
+
+document-sound : (n : ℕ) (s : List ℕ) → Ok (λ e r. Writes e s) (document-at n s)
+unfolding document-at
+document-sound n s =
+    bind-ok (declaration-sound s) λ _ r₁ h₁.
+    bind-ok (all-of-sound aside-sound no-aside r₁) λ _ r₂ h₂.
+    bind-ok (element-sound (contents-at n) (contents-sound n) 16 r₂) λ e r₃ h₃.
+    bind-ok (all-of-sound aside-sound no-aside r₃) λ _ r₄ h₄.
+    bind-ok (end-sound r₄) λ _ r₅ h₅.
+    let whole : s ≡ h₁ .0 ⊹ h₂ .0 ⊹ h₃ .0 ⊹ h₄ .0 = cc (append-nil (h₄ .0)) in
+    good (rw whole (Grammar.document (h₁ .2) (h₂ .2) (h₃ .2) (h₄ .2)))
+
+answer-sound : {s : List ℕ} {m : Read Element} {e : Element} → Ok (λ e r. Writes e s) m → answer m ≡ some e → Writes e s
+unfolding answer
+answer-sound failed q = clash (cc)
+answer-sound {s} {e = e} (good {a} h) q = let one : a ≡ e = cc in rw one at h
+
+pub parse-sound : (s : List ℕ) (e : Element) → parse s ≡ some e → Writes e s
+unfolding parse
+parse-sound s e q = answer-sound (document-sound (length s) s) q

@@ -1,0 +1,134 @@
+-- A comment in the paper's words: legal characters, no `--`, and no `-` last. The production of the grammar says the same.
+use mathlib.Core.Path.{_≡_, refl, subst}
+use mathlib.Core.Logic.{_↔_}
+use mathlib.Core.List.{List, [], _∷_, _++_, append-assoc}
+use Prim.Native.Nat.{ℕ, _≤_, _<_}
+use mathlib.Core.Bool.{Bool, true, false, _&&_, _||_}
+use lib.Dec.{eqb}
+use native.Mathlib.Omega.{arith}
+use borrow.Author.Tests.{eqb-true, ne-eqb}
+use Rattle.lists.specs.Laws.Booleans.{and-right, or-elim, clash}
+use Rattle.grammar.specs.Bytes.{_⊹_, ascii, blank, between, Sequence, no-more, one-more, begins}
+use Rattle.grammar.specs.Characters.{Character, utf8-1, utf8-2, utf8-3, utf8-4, lead1, lead3, lead4, continues}
+use Rattle.grammar.specs.Grammar
+use Rattle.grammar.specs.Grammar.{Remark}
+use Rattle.grammar.specs.Laws.Facts.{within, lead2-in, lead3-in, lead4-in}
+
+-- the bytes `k` begin at no place of the text
+pub data Nowhere (k : List ℕ) : List ℕ → Type 0 where
+  nowhere-end : Nowhere k []
+  nowhere-more : {a : ℕ} {s : List ℕ} → begins k (a ∷ s) ≡ false → Nowhere k s → Nowhere k (a ∷ s)
+
+-- any legal character
+pub data Any : List ℕ → List ℕ → Type 0 where
+  any : {a : ℕ} {w : List ℕ} → Character a w → Any [] (a ∷ w)
+
+-- `--` stands nowhere, and `-` is not last
+pub record Worded (w : List ℕ) : Type 0 where
+  pub many : List (List ℕ)
+  pub characters : Sequence Any many w
+  pub dashes : Nowhere (ascii "--") (w ⊹ ascii "-")
+
+pub record Produced (w : List ℕ) : Type 0 where
+  pub many : List (List ℕ)
+  pub remarks : Sequence Remark many w
+
+high : (b : ℕ) → 128 ≤ b → eqb b 45 ≡ false
+high b h = ne-eqb b 45 λ e. omega arith
+
+continues-high : (b : ℕ) → continues b ≡ true → 128 ≤ b
+unfolding continues
+continues-high b e = within 128 191 b e .0
+
+lead3-second : (a b : ℕ) → lead3 a b ≡ true → 128 ≤ b
+unfolding lead3
+lead3-second a b e =
+    or-elim (128 ≤ b) (eqb a 224 && between 160 191 b) _ e (λ h. let q = within 160 191 b (and-right (eqb a 224) _ h) in omega arith) λ e₁.
+    or-elim (128 ≤ b) (between 225 236 a && continues b) _ e₁ (λ h. continues-high b (and-right (between 225 236 a) _ h)) λ e₂.
+    or-elim (128 ≤ b) (eqb a 237 && between 128 159 b) _ e₂ (λ h. within 128 159 b (and-right (eqb a 237) _ h) .0) λ h.
+    continues-high b (and-right (between 238 239 a) _ h)
+
+lead4-second : (a b : ℕ) → lead4 a b ≡ true → 128 ≤ b
+unfolding lead4
+lead4-second a b e =
+    or-elim (128 ≤ b) (eqb a 240 && between 144 191 b) _ e (λ h. let q = within 144 191 b (and-right (eqb a 240) _ h) in omega arith) λ e₁.
+    or-elim (128 ≤ b) (between 241 243 a && continues b) _ e₁ (λ h. continues-high b (and-right (between 241 243 a) _ h)) λ h.
+    within 128 143 b (and-right (eqb a 244) _ h) .0
+
+past : (b : ℕ) {s : List ℕ} → eqb b 45 ≡ false → Nowhere (ascii "--") s → Nowhere (ascii "--") (b ∷ s)
+unfolding begins
+past b {s} e n = let here : begins (ascii "--") (b ∷ s) ≡ false = rw e in nowhere-more here n
+
+-- the bytes of a character behind its first are no dashes
+tail-past : {a : ℕ} {w : List ℕ} → Character a w → (s : List ℕ) → Nowhere (ascii "--") s → Nowhere (ascii "--") (w ++ s)
+tail-past (utf8-1 h) s n = n
+tail-past (utf8-2 {b = b} h k) s n = past b (high b (continues-high b k)) n
+tail-past (utf8-3 {a} {b} {c} h k l) s n = past b (high b (lead3-second a b h)) (past c (high c (continues-high c k)) n)
+tail-past (utf8-4 {a} {b} {c} {d} h k l) s n =
+    past b (high b (lead4-second a b h)) (past c (high c (continues-high c k)) (past d (high d (continues-high d l)) n))
+
+dash : Character 45 []
+unfolding lead1 blank
+dash = utf8-1 refl
+
+remarks-characters : {l : List (List ℕ)} {w : List ℕ} → Sequence Remark l w → (k : List (List ℕ)) × Sequence Any k w
+remarks-characters no-more = ([], no-more)
+remarks-characters (one-more (Grammar.plain h e) t) = let ih = remarks-characters t in (_, one-more (any h) (ih .1))
+remarks-characters (one-more (Grammar.dashed h e) t) = let ih = remarks-characters t in (_, one-more (any dash) (one-more (any h) (ih .1)))
+
+remarks-dashes : {l : List (List ℕ)} {w : List ℕ} → Sequence Remark l w → Nowhere (ascii "--") (w ++ ascii "-")
+unfolding begins
+remarks-dashes no-more = nowhere-more refl nowhere-end
+remarks-dashes (one-more (Grammar.plain {a} {w} h e) t) = simp append-assoc (past a e (tail-past h _ (remarks-dashes t)))
+remarks-dashes (one-more {s = s} (Grammar.dashed {a} {w} h e) t) =
+    simp append-assoc (let here : begins (ascii "--") (45 ∷ a ∷ (w ++ (s ++ ascii "-"))) ≡ false = rw e in
+    nowhere-more here (past a e (tail-past h _ (remarks-dashes t))))
+
+nowhere-drop : {k : List ℕ} (x y : List ℕ) → Nowhere k (x ++ y) → Nowhere k y
+nowhere-drop [] y n = n
+nowhere-drop (a ∷ x) y (nowhere-more e n) = nowhere-drop x y n
+
+nowhere-first : {k : List ℕ} {a : ℕ} {s : List ℕ} → Nowhere k (a ∷ s) → begins k (a ∷ s) ≡ false
+nowhere-first (nowhere-more e n) = e
+
+ascii-alone : {a : ℕ} {w : List ℕ} → Character a w → a ≤ 127 → w ≡ []
+ascii-alone (utf8-1 h) l = refl
+ascii-alone (utf8-2 {a} h k) l = let q = lead2-in a h in absurd (omega arith)
+ascii-alone (utf8-3 {a} {b} h k m) l = let q = lead3-in a b h in absurd (omega arith)
+ascii-alone (utf8-4 {a} {b} h k m) l = let q = lead4-in a b h in absurd (omega arith)
+
+-- what is left of a comment gives parts, by itself and behind a dash
+abbrev Both : List ℕ → Type 0
+Both w = (Nowhere (ascii "--") (w ++ ascii "-") → Produced w) × (Nowhere (ascii "--") (45 ∷ (w ++ ascii "-")) → Produced (45 ∷ w))
+
+no-dashes : (s : List ℕ) → begins (ascii "--") (45 ∷ 45 ∷ s) ≡ false → ⊥
+unfolding begins
+no-dashes s e = clash (cc)
+
+both-dash : (s : List ℕ) → Both s → Both (45 ∷ s)
+both-dash s ih = (ih .1, λ n. absurd (no-dashes (s ++ ascii "-") (nowhere-first n)))
+
+both-plain : {a : ℕ} {w : List ℕ} → Character a w → eqb a 45 ≡ false → (s : List ℕ) → Both s → Both (a ∷ (w ++ s))
+both-plain {a} {w} h e s ih = (
+  λ n. (let r = ih .0 (nowhere-drop (a ∷ w) (s ++ ascii "-") (rw append-assoc at n)) in
+      record { many = _; remarks = one-more (Grammar.plain h e) (r .remarks) }),
+  λ n. (let r = ih .0 (nowhere-drop (45 ∷ a ∷ w) (s ++ ascii "-") (rw append-assoc at n)) in
+      record { many = _; remarks = one-more (Grammar.dashed h e) (r .remarks) }),
+)
+
+both-character : {a : ℕ} {w : List ℕ} → Character a w → (t : Bool) → eqb a 45 ≡ t → (s : List ℕ) → Both s → Both (a ∷ (w ++ s))
+both-character {a} {w} h false e s ih = both-plain h e s ih
+both-character {a} {w} h true e s ih =
+    let q = eqb-true a 45 e in
+    let z : w ≡ [] = ascii-alone h (omega arith) in
+    rw (q, z) (both-dash s ih)
+
+both : {l : List (List ℕ)} {w : List ℕ} → Sequence Any l w → Both w
+both no-more = (λ n. record { many = []; remarks = no-more }, λ n. absurd (no-dashes [] (nowhere-first n)))
+both (one-more {s = s} (any {a} h) t) = both-character h (eqb a 45) refl s (both t)
+
+pub comment-words : (w : List ℕ) → Worded w ↔ Produced w
+comment-words w = (
+  λ h. both (h .characters) .0 (h .dashes),
+  λ h. record { many = _; characters = remarks-characters (h .remarks) .1; dashes = remarks-dashes (h .remarks) },
+)

@@ -1,0 +1,36 @@
+use Prim.Native.Nat.{_-_}
+use lib.ListN.{length}
+use Rattle.nodes.specs.Laws.Attributes.{Placing, placing}
+use Rattle.inside.proofs.attributes.place_from.Statement.{statement}
+use Rattle.inside.proofs.attributes.place_from.Tie as tie
+
+abbrev Inv-loop : tie.InvT-loop
+Inv-loop text at word i₀ i = Placing text word at i
+
+abbrev μ-loop : tie.MeasureT-loop
+μ-loop text at word i₀ i = length text - i
+
+pub place-from-spec : {M : Type 1} → statement M
+place-from-spec =
+    tie.close
+    (tie.spec
+    Inv-loop
+    μ-loop
+    (λ c. search placing)
+    (λ c κs. search placing)
+    (λ c. search placing)
+    (λ c κs. search placing)
+    (λ c. search placing)
+    (λ c. search placing)
+    (λ c. search placing)
+    (λ c. search placing)
+    (λ c κs. search placing)
+    (λ c. search placing)
+    (λ c κs. search placing)
+    (λ c. search placing)
+    (λ c. search placing)
+    (λ c. search placing)
+    (λ c. search placing)
+    (λ c. search placing)
+    (λ c. search placing)
+    (λ c. search placing))

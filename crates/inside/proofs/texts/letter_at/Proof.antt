@@ -1,0 +1,18 @@
+use Rattle.nodes.specs.Laws.Texts.{lettering}
+use Rattle.inside.proofs.texts.letter_at.Statement.{statement}
+use Rattle.inside.proofs.texts.letter_at.Tie as tie
+
+pub letter-at-spec : {M : Type 1} → statement M
+letter-at-spec =
+    tie.close
+    (tie.spec
+    (λ c. search lettering)
+    (λ c. search lettering)
+    (λ c κs. search lettering)
+    (λ c. search lettering)
+    (λ c. search lettering)
+    (λ c. search lettering)
+    (λ c. search lettering)
+    (λ c. search lettering)
+    (λ c. search lettering)
+    (λ c. search lettering))

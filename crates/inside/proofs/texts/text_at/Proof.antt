@@ -1,0 +1,26 @@
+use Rattle.nodes.specs.Laws.Texts.{stepping}
+use Rattle.inside.proofs.texts.text_at.Statement.{statement}
+use Rattle.inside.proofs.texts.text_at.Tie as tie
+
+pub text-at-spec : {M : Type 1} → statement M
+text-at-spec =
+    tie.close
+    (tie.spec
+    (λ c κs. search stepping)
+    (λ c. search stepping)
+    (λ c κs. search stepping)
+    (λ c. search stepping)
+    (λ c. search stepping)
+    (λ c κs. search stepping)
+    (λ c. search stepping)
+    (λ c. search stepping)
+    (λ c. search stepping)
+    (λ c κs. search stepping)
+    (λ c. search stepping)
+    (λ c. search stepping)
+    (λ c. search stepping)
+    (λ c. search stepping)
+    (λ c. search stepping)
+    (λ c. search stepping)
+    (λ c. search stepping)
+    (λ c. search stepping))

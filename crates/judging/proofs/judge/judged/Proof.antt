@@ -1,0 +1,26 @@
+use Rattle.models.specs.Laws.Judged.{judging, Judging}
+use Prim.Native.Nat.{_-_}
+use Rattle.judging.proofs.judge.judged.Statement.{statement}
+use Rattle.judging.proofs.judge.judged.Tie as tie
+
+abbrev Inv-loop : tie.InvT-loop
+Inv-loop text maps all₀ i₀ all i = Judging text maps all i
+
+abbrev μ-loop : tie.MeasureT-loop
+μ-loop text maps all₀ i₀ all i = maps .count - i
+
+pub judged-spec : {M : Type 1} → statement M
+judged-spec =
+    tie.close
+    (tie.spec
+    Inv-loop
+    μ-loop
+    (λ c κs. search judging)
+    (λ c. search judging)
+    (λ c κs. search judging)
+    (λ c κs. search judging)
+    (λ c κs. search judging)
+    (λ c. search judging)
+    (λ c. search judging)
+    (λ c. search judging)
+    (λ c. search judging))

@@ -1,0 +1,11 @@
+use mathlib.Core.Path.{refl}
+use Rattle.cifti.specs.Conditions.{outside}
+use Rattle.judging.proofs.listing.is_outside.Statement.{statement}
+use Rattle.judging.proofs.listing.is_outside.Tie as tie
+
+returns : tie.Need-returns
+unfolding outside
+returns c = refl
+
+pub is-outside-spec : {M : Type 1} → statement M
+is-outside-spec = tie.close (tie.spec returns)

@@ -1,0 +1,32 @@
+use Prim.Native.Nat.{ℕ, _<_}
+use native.Mathlib.Omega.{arith}
+use lib.ListN.{getD}
+use Rattle.shape.specs.Laws.Table.{wording}
+use Rattle.lookup.proofs.table.word.Statement.{statement}
+use Rattle.lookup.proofs.table.word.Tie as tie
+
+-- src/table.rt:105:1
+returns-3 : tie.Need-returns-3
+returns-3 c =
+    let b : (i : ℕ) → getD (c .before .before .before .before .before .before .before .args .letters .now) i 0 < 256 =
+    λ i. omega (arith, c .before .before .before .before .before .shared-slice-known2 .given i) in
+    search wording
+
+pub word-spec : {M : Type 1} → statement M
+word-spec =
+    tie.close
+    (tie.spec
+    (λ c κs. search wording)
+    (λ c. search wording)
+    (λ c κs. search wording)
+    (λ c. search wording)
+    (λ c. search wording)
+    (λ c. search wording)
+    (λ c. search wording)
+    (λ c. search wording)
+    (λ c. search wording)
+    (λ c. search wording)
+    (λ c. search wording)
+    (λ c. search wording)
+    (λ c. search wording)
+    returns-3)

@@ -1,0 +1,14 @@
+use Rattle.shape.specs.Laws.Words.{numbered}
+use Rattle.lookup.proofs.words.word_number.Statement.{statement}
+use Rattle.lookup.proofs.words.word_number.Tie as tie
+
+pub word-number-spec : {M : Type 1} → statement M
+word-number-spec =
+    tie.close
+    (tie.spec
+    (λ c κs. search numbered)
+    (λ c κs. search numbered)
+    (λ c κs. search numbered)
+    (λ c κs. search numbered)
+    (λ c. search numbered)
+    (λ c. search numbered))

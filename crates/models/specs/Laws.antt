@@ -1,0 +1,11 @@
+pub mod Fine
+pub mod Judged
+pub mod Gathering
+pub mod Chaining
+pub mod Verdicts
+pub mod Ranges
+pub mod Sizes
+pub mod Kind
+pub mod Structures
+pub mod Listings
+pub mod Numbers

@@ -1,0 +1,63 @@
+-- The paths of the reader of voxels.
+use mathlib.Core.Path.{_≡_, ap, _∙_}
+use mathlib.Core.List.{List, [], _∷_}
+use Prim.Native.Nat.{ℕ}
+use native.Mathlib.Omega.{arith}
+use borrow.Author.Needs.{needs}
+use Rattle.numbers.specs.Answers.{nextNumber}
+use Rattle.numbers.specs.declared.Next.{Next}
+use Rattle.numbers.specs.declared.Next.the-variants.{Number, End, Bad}
+use Rattle.models.specs.declared.listing.Triple.the-variants as triple
+use Rattle.models.specs.Numbers.{valuesAt, InForm, Passes, Threes, voxel-ahead, none-ahead, cut-ahead, number-passes, number-ends}
+use Rattle.models.specs.Numbers.{number-bad}
+
+module _ {text : List ℕ} {at : ℕ} (f : InForm text at) {r₁ : Next} (e₁ : r₁ ≡ nextNumber text at) where
+  pub three-none : r₁ ≡ End → Threes text at triple.End
+  three-none q = none-ahead (number-ends f e₁ q)
+
+  pub three-bad : r₁ ≡ Bad → Threes text at triple.End
+  three-bad q = absurd (number-bad f e₁ q)
+
+  module _ {i second : ℕ} (q₁ : r₁ ≡ Number i second) where
+    one : Passes text at i second
+    one = number-passes f e₁ q₁
+
+    pub three-second : InForm text second
+    three-second = one .form
+
+    module _ {r₂ : Next} (e₂ : r₂ ≡ nextNumber text second) where
+      pub three-one : r₂ ≡ End → Threes text at triple.Cut
+      three-one q =
+          let s : valuesAt text at ≡ i ∷ [] = one .splits ∙ ap (λ l. i ∷ l) (number-ends three-second e₂ q) in
+          cut-ahead (rw s (record { some = omega arith; few = omega arith }))
+
+      pub three-bad-second : r₂ ≡ Bad → Threes text at triple.Cut
+      three-bad-second q = absurd (number-bad three-second e₂ q)
+
+      module _ {j third : ℕ} (q₂ : r₂ ≡ Number j third) where
+        two : Passes text second j third
+        two = number-passes three-second e₂ q₂
+
+        splits-two : valuesAt text at ≡ i ∷ j ∷ valuesAt text third
+        splits-two = one .splits ∙ ap (λ l. i ∷ l) (two .splits)
+
+        module _ {r₃ : Next} (e₃ : r₃ ≡ nextNumber text third) where
+          pub three-two : r₃ ≡ End → Threes text at triple.Cut
+          three-two q =
+              let s : valuesAt text at ≡ i ∷ j ∷ [] = splits-two ∙ ap (λ l. i ∷ j ∷ l) (number-ends (two .form) e₃ q) in
+              cut-ahead (rw s (record { some = omega arith; few = omega arith }))
+
+          pub three-bad-third : r₃ ≡ Bad → Threes text at triple.Cut
+          three-bad-third q = absurd (number-bad (two .form) e₃ q)
+
+          pub three-voxel : {k behind : ℕ} → r₃ ≡ Number k behind → Threes text at (triple.Voxel i j k behind)
+          three-voxel q =
+              let three = number-passes (two .form) e₃ q in
+              voxel-ahead (record {
+                splits = splits-two ∙ ap (λ l. i ∷ j ∷ l) (three .splits);
+                form = three .form;
+                ahead = omega (arith, one .ahead, two .ahead, three .ahead);
+                inside = three .inside;
+              })
+
+pub ruleset inThrees = (three-none, three-bad, three-one, three-bad-second, three-two, three-bad-third, three-voxel, needs)

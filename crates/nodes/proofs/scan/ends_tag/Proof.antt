@@ -1,6 +1,0 @@
-use Rattle.nodes.proofs.LawsScan.{quotings}
-use Rattle.nodes.proofs.scan.ends_tag.Statement.{statement}
-use Rattle.nodes.proofs.scan.ends_tag.Tie as tie
-
-pub ends-tag-spec : {M : Type 1} → statement M
-ends-tag-spec = tie.close (tie.spec (λ c. search quotings))

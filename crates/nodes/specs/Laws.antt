@@ -1,0 +1,14 @@
+pub mod Scan
+pub mod Depth
+pub mod Skip
+pub mod Children
+pub mod ReadSteps
+pub mod Ahead
+pub mod Names
+pub mod Attributes
+pub mod ScanEnds
+pub mod Values
+pub mod Texts
+pub mod Walk
+pub mod Along
+pub mod AheadElements

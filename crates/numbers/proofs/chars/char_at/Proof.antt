@@ -1,8 +1,0 @@
-use Rattle.numbers.proofs.LawsRead.{choosing}
-use Rattle.numbers.proofs.chars.char_at.Statement.{statement}
-use Rattle.numbers.proofs.chars.char_at.Tie as tie
-
-pub char-at-spec : {M : Type 1} → statement M
-char-at-spec =
-    tie.close
-    (tie.spec (λ c. search choosing) (λ c κs. search choosing) (λ c. search choosing) (λ c κs. search choosing) (λ c. search choosing) (λ c. search choosing))

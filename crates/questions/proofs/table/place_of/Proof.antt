@@ -1,0 +1,25 @@
+use Prim.Native.Nat.{_≤_, _-_}
+use lib.ListN.{length}
+use native.Mathlib.Omega.{arith}
+use Rattle.questions.proofs.table.place_of.Statement.{statement}
+use Rattle.questions.proofs.table.place_of.Tie as tie
+
+abbrev Inv-loop : tie.InvT-loop
+Inv-loop text word i₀ i = i ≤ length text
+
+abbrev μ-loop : tie.MeasureT-loop
+μ-loop text word i₀ i = length text - i
+
+pub place-of-spec : {M : Type 1} → statement M
+place-of-spec =
+    tie.close
+    (tie.spec
+    Inv-loop
+    μ-loop
+    (λ c. omega arith)
+    (λ c κs. omega arith)
+    (λ c. omega arith)
+    (λ c. omega arith)
+    (λ c. omega arith)
+    (λ c. omega arith)
+    (λ c. omega arith))

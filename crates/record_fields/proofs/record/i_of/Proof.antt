@@ -1,0 +1,10 @@
+-- `records::record::i_of` meets its contract. Assumes nothing.
+use Rattle.records.specs.Fields.{bits, parted}
+use Rattle.records.specs.Record.{iIn}
+use native.Mathlib.Omega.{arith}
+use Rattle.record_fields.proofs.record.i_of.Statement.{statement}
+use Rattle.record_fields.proofs.record.i_of.Tie as tie
+
+pub i-of-spec : {M : Type 1} → statement M
+unfolding iIn bits parted
+i-of-spec = tie.close (tie.spec (λ c. omega arith))

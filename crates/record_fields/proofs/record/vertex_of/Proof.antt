@@ -1,0 +1,10 @@
+-- `records::record::vertex_of` meets its contract. Assumes nothing.
+use Rattle.records.specs.Fields.{bits, parted}
+use Rattle.records.specs.Record.{payloadIn}
+use native.Mathlib.Omega.{arith}
+use Rattle.record_fields.proofs.record.vertex_of.Statement.{statement}
+use Rattle.record_fields.proofs.record.vertex_of.Tie as tie
+
+pub vertex-of-spec : {M : Type 1} → statement M
+unfolding payloadIn bits parted
+vertex-of-spec = tie.close (tie.spec (λ c. omega arith))

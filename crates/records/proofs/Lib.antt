@@ -1,3 +1,0 @@
-pub mod LawsSheet
-pub mod LawsPacking
-pub mod LawsRepeat

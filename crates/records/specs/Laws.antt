@@ -1,0 +1,10 @@
+pub mod Numbers
+pub mod Sheet
+pub mod Packing
+pub mod Repeat
+pub mod Fields
+pub mod Record
+pub mod Bytes
+pub mod Unique
+pub mod Computed
+pub mod Halving

@@ -1,0 +1,17 @@
+pub mod Letters
+pub mod Table
+pub mod Asked
+pub mod Faults
+pub mod Searches
+pub mod Values
+pub mod Words
+pub mod Keys
+pub mod Attributes
+pub mod Rows
+pub mod Kids
+pub mod Lines
+pub mod Times
+pub mod Counted
+pub mod Walk
+pub mod Checked
+pub mod Unique

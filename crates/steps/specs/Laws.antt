@@ -1,0 +1,16 @@
+pub mod Steps
+pub mod Characters
+pub mod Until
+pub mod References
+pub mod Comments
+pub mod Values
+pub mod Keys
+pub mod Heads
+pub mod Noted
+pub mod Attributes
+pub mod Parsing
+pub mod Pieces
+pub mod Tags
+pub mod Prologue
+pub mod Elements
+pub mod Document

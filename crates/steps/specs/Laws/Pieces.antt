@@ -1,0 +1,371 @@
+-- The readers between tags, step by step.
+use mathlib.Core.Path.{_≡_, refl, ap, sym, _∙_, subst}
+use mathlib.Core.List.{List, [], _∷_, _++_}
+use Prim.Native.Nat.{ℕ, suc, _+_, _-_, _≤_, _<_}
+use native.Mathlib.Omega.{arith}
+use borrow.Author.Needs.{needs}
+use mathlib.Core.Bool.{Bool, true, false, _&&_, _||_, not}
+use lib.Dec.{eqb}
+use lib.ListN.{length, drop, getD, length-append, length-drop}
+use borrow.Author.Tests.{eq-eqb, ne-eqb, not-true}
+use Rattle.lists.specs.Laws.Booleans.{and-left, and-right, or-left, clash}
+use Rattle.grammar.specs.Bytes.{ascii, blank, begins, special, Each, no-byte, a-byte}
+use Rattle.grammar.specs.Characters.{utf8-1, lead1}
+use Rattle.grammar.specs.Grammar.{TextCharacter}
+use Rattle.grammar.specs.Read.{Read, fail, got, Reader, bind, alt, byte, test, test-complete, mark, span, span-sound, Ok, failed, good}
+use Rattle.grammar.specs.Read.{ok-got, ok-map}
+use Rattle.grammar.specs.Parser.{Look, at-close, at-comment, at-element, at-text, look, look-if, look₂, look-by, text-at, reference-at}
+use Rattle.grammar.specs.Parser.{standsFor, literal-at, comment-at}
+use Rattle.grammar.specs.Laws.Tokens.{text-complete, reference-other}
+use Rattle.steps.specs.Step.{stepped, tails, Tails, Went, went, went-on, arrives, refuses, fell, at-byte, at-end}
+use Rattle.steps.specs.Leaves.{span-tails, character-at, literal-is, literal-not}
+use Rattle.steps.specs.Laws.Until.{stepped-value}
+use Rattle.steps.specs.declared.Step.{Step}
+use Rattle.steps.specs.declared.Step.the-variants.{To, No}
+use Rattle.steps.specs.Row.{Piece, character, remark, text-piece-at, piece-by, piece-at, pieces-at, pause, halts, pieces-halt}
+use Rattle.steps.specs.Row.{pieces-go, piece-tails, piece-eats}
+use Rattle.steps.specs.Pieces.{front, plain, halted, stoppedBy}
+use Rattle.steps.specs.declared.pieces.Front.{Front}
+use Rattle.steps.specs.declared.pieces.Front.the-variants as Front
+use Rattle.steps.specs.declared.pieces.Between.{Between}
+use Rattle.steps.specs.declared.pieces.Between.the-variants as Between
+
+-- the front
+module _ (s : List ℕ) (at : ℕ) where
+  pub front-end : length s ≤ at → Front.Close ≡ front (look (drop at s))
+  unfolding look front
+  front-end h = rw (at-end s at h)
+
+  module _ (h : at < length s) where
+    pub front-text : (getD s at 0 ≡ 60 → ⊥) → Front.Text ≡ front (look (drop at s))
+    unfolding look look-if front
+    front-text f = rw (at-byte s at h, ne-eqb (getD s at 0) 60 f)
+
+    module _ (e : getD s at 0 ≡ 60) where
+      pub front-last : length s ≤ at + 1 → Front.Start ≡ front (look (drop at s))
+      unfolding look look-if look₂ front
+      front-last k = rw (at-byte s at h, e, at-end s (at + 1) k)
+
+      module _ (k : at + 1 < length s) where
+        twice : look (drop at s) ≡ look-by (eqb (getD s (at + 1) 0) 47) (eqb (getD s (at + 1) 0) 33)
+        unfolding look look-if look₂
+        twice = rw (at-byte s at h, e, at-byte s (at + 1) k)
+
+        pub front-close : getD s (at + 1) 0 ≡ 47 → Front.Close ≡ front (look (drop at s))
+        unfolding look-by front
+        front-close q = rw (twice, eq-eqb _ _ q)
+
+        module _ (f : getD s (at + 1) 0 ≡ 47 → ⊥) where
+          pub front-comment : getD s (at + 1) 0 ≡ 33 → Front.Comment ≡ front (look (drop at s))
+          unfolding look-by front
+          front-comment q = rw (twice, ne-eqb _ _ f, eq-eqb _ _ q)
+
+          pub front-start : (getD s (at + 1) 0 ≡ 33 → ⊥) → Front.Start ≡ front (look (drop at s))
+          unfolding look-by front
+          front-start g = rw (twice, ne-eqb _ _ f, ne-eqb _ _ g)
+
+-- a look, from the front that it shows
+front-is : (l k : Look) → front l ≡ front k → l ≡ k
+unfolding front
+front-is at-close at-close e = refl
+front-is at-close at-comment e = clash (cc)
+front-is at-close at-element e = clash (cc)
+front-is at-close at-text e = clash (cc)
+front-is at-comment at-close e = clash (cc)
+front-is at-comment at-comment e = refl
+front-is at-comment at-element e = clash (cc)
+front-is at-comment at-text e = clash (cc)
+front-is at-element at-close e = clash (cc)
+front-is at-element at-comment e = clash (cc)
+front-is at-element at-element e = refl
+front-is at-element at-text e = clash (cc)
+front-is at-text at-close e = clash (cc)
+front-is at-text at-comment e = clash (cc)
+front-is at-text at-element e = clash (cc)
+front-is at-text at-text e = refl
+
+-- a character, or a reference
+alt-none : {A : Type 0} (m : Read A) → alt m fail ≡ m
+unfolding alt
+alt-none fail = refl
+alt-none (got a r) = refl
+
+reference-none : text-at [] ≡ fail
+unfolding text-at reference-at standsFor mark alt bind literal-at byte
+reference-none = refl
+
+module _ (text : List ℕ) (at : ℕ) where
+  pub text-none : length text ≤ at → No ≡ stepped (length text) (text-at (drop at text))
+  text-none h = refuses (length text) (text-at (drop at text)) (rw (at-end text at h) reference-none)
+
+  module _ (h : at < length text) where
+    pub text-reference : getD text at 0 ≡ 38 → {x : Step} → x ≡ stepped (length text) (reference-at (drop at text))
+        → x ≡ stepped (length text) (text-at (drop at text))
+    unfolding text-at special
+    text-reference e k =
+        let marked : not (special (getD text at 0)) ≡ false = rw e in
+        k ∙ ap (stepped (length text)) (sym (alt-none (reference-at (drop at text)))
+        ∙ ap (alt (reference-at (drop at text)))
+        (sym (rw (at-byte text at h) (literal-not (λ a. not (special a)) (getD text at 0) (drop (at + 1) text) marked))))
+
+    module _ (f : getD text at 0 ≡ 38 → ⊥) where
+      text-literal : text-at (drop at text) ≡ literal-at (λ a. not (special a)) (drop at text)
+      unfolding text-at alt
+      text-literal = rw (at-byte text at h, reference-other (getD text at 0) (ne-eqb (getD text at 0) 38 f) (drop (at + 1) text))
+
+      pub text-open : getD text at 0 ≡ 60 → No ≡ stepped (length text) (text-at (drop at text))
+      unfolding special
+      text-open e =
+          let marked : not (special (getD text at 0)) ≡ false = rw e in
+          refuses (length text) (text-at (drop at text))
+          (text-literal ∙ rw (at-byte text at h) (literal-not (λ a. not (special a)) (getD text at 0) (drop (at + 1) text) marked))
+
+      pub text-plain : (getD text at 0 ≡ 60 → ⊥) → {x : Step} → x ≡ stepped (length text) (character-at (drop at text))
+          → x ≡ stepped (length text) (text-at (drop at text))
+      unfolding special
+      text-plain g k =
+          let free : not (special (getD text at 0)) ≡ true = rw (ne-eqb (getD text at 0) 60 g, ne-eqb (getD text at 0) 38 f) in
+          k ∙ ap (stepped (length text))
+          (sym (text-literal ∙ rw (at-byte text at h) (literal-is (λ a. not (special a)) (getD text at 0) (drop (at + 1) text) free)))
+
+clear-piece : (s : List ℕ) → begins (ascii "]]>") s ≡ false → text-piece-at s ≡ text-at s
+unfolding text-piece-at bind test
+clear-piece s e = rw e
+
+other-clear : (text : List ℕ) (at : ℕ) → at < length text → (getD text at 0 ≡ 93 → ⊥) → begins (ascii "]]>") (drop at text) ≡ false
+unfolding begins
+other-clear text at h g = rw (at-byte text at h, ne-eqb (getD text at 0) 93 g)
+
+bracket-text : (s : List ℕ) → text-at (93 ∷ s) ≡ got (93 ∷ []) s
+unfolding lead1 blank special
+bracket-text s = text-complete (TextCharacter.literal (utf8-1 {a = 93} refl) refl) s
+
+-- a piece, by its first byte
+module _ (text : List ℕ) (at : ℕ) where
+  pub piece-none : length text ≤ at → No ≡ stepped (length text) (piece-at (drop at text))
+  unfolding piece-at piece-by look
+  piece-none h = refuses (length text) (piece-at (drop at text)) (rw (at-end text at h))
+
+  module _ (h : at < length text) where
+    module _ (f : getD text at 0 ≡ 60 → ⊥) where
+      byte-look : look (drop at text) ≡ at-text
+      unfolding look look-if
+      byte-look = rw (at-byte text at h, ne-eqb (getD text at 0) 60 f)
+
+      byte-piece : piece-at (drop at text) ≡ bind (text-piece-at (drop at text)) (λ b r. got (character b) r)
+      unfolding piece-at piece-by
+      byte-piece = rw byte-look
+
+      pub piece-byte : (getD text at 0 ≡ 93 → ⊥) → {x : Step} → x ≡ stepped (length text) (text-at (drop at text))
+          → x ≡ stepped (length text) (piece-at (drop at text))
+      piece-byte g k = k ∙ sym (ap (stepped (length text)) byte-piece
+          ∙ stepped-value (length text) (text-piece-at (drop at text)) character
+          ∙ ap (stepped (length text)) (clear-piece (drop at text) clear))
+        where
+          clear : begins (ascii "]]>") (drop at text) ≡ false
+          clear = other-clear text at h g
+
+    module _ (e : getD text at 0 ≡ 93) {t : Bool} (q : t ≡ begins (ascii "]]>") (drop at text)) where
+      bracket-look : look (drop at text) ≡ at-text
+      unfolding look look-if
+      bracket-look = rw (at-byte text at h, e)
+
+      bracket-piece : piece-at (drop at text) ≡ bind (text-piece-at (drop at text)) (λ b r. got (character b) r)
+      unfolding piece-at piece-by
+      bracket-piece = rw bracket-look
+
+      pub bracket-cut : t ≡ true → No ≡ stepped (length text) (piece-at (drop at text))
+      unfolding text-piece-at bind test
+      bracket-cut k = refuses (length text) (piece-at (drop at text)) (bracket-piece ∙ rw (sym q ∙ k))
+
+      pub bracket-clear : t ≡ false → To (at + 1) ≡ stepped (length text) (piece-at (drop at text))
+      unfolding bind
+      bracket-clear k =
+          let inside : at + 1 ≤ length text = omega arith in
+          arrives text (piece-at (drop at text)) {a = character (93 ∷ [])} (at + 1) inside
+          (bracket-piece ∙ rw (clear-piece (drop at text) (sym q ∙ k)) (rw (at-byte text at h, e, bracket-text (drop (at + 1) text))))
+
+-- no text stands at `<`
+data Marked : Look → Type 0 where
+  closes : Marked at-close
+  remarks : Marked at-comment
+  starts : Marked at-element
+
+marked-by : (t u : Bool) → Marked (look-by t u)
+unfolding look-by
+marked-by true u = closes
+marked-by false true = remarks
+marked-by false false = starts
+
+look-open : (s : List ℕ) → Marked (look (60 ∷ s))
+unfolding look look-if look₂
+look-open [] = starts
+look-open (b ∷ s) = marked-by (eqb b 47) (eqb b 33)
+
+no-text : {l : Look} → Marked l → l ≡ at-text → ⊥
+no-text closes e = clash (cc)
+no-text remarks e = clash (cc)
+no-text starts e = clash (cc)
+
+-- a piece behind `<`
+module _ (text : List ℕ) (at : ℕ) {f : Front} (q : f ≡ front (look (drop at text))) where
+  looks : (k : Look) → f ≡ front k → look (drop at text) ≡ k
+  looks k e = front-is (look (drop at text)) k (sym q ∙ e)
+
+  piece-is : (k : Look) → f ≡ front k → piece-at (drop at text) ≡ piece-by k (drop at text)
+  unfolding piece-at
+  piece-is k e = rw (looks k e)
+
+  pub piece-close : f ≡ Front.Close → No ≡ stepped (length text) (piece-at (drop at text))
+  unfolding front piece-by
+  piece-close e = refuses (length text) (piece-at (drop at text)) (piece-is at-close e)
+
+  pub piece-start : f ≡ Front.Start → No ≡ stepped (length text) (piece-at (drop at text))
+  unfolding front piece-by
+  piece-start e = refuses (length text) (piece-at (drop at text)) (piece-is at-element e)
+
+  pub piece-comment : f ≡ Front.Comment → {x : Step} → x ≡ stepped (length text) (comment-at (drop at text))
+      → x ≡ stepped (length text) (piece-at (drop at text))
+  unfolding front piece-by
+  piece-comment e k = k ∙ sym (stepped-value (length text) (comment-at (drop at text)) (λ _. remark))
+      ∙ ap (stepped (length text)) (sym (piece-is at-comment e))
+
+  look-is : at < length text → getD text at 0 ≡ 60 → look (drop at text) ≡ look (60 ∷ drop (at + 1) text)
+  look-is h e = rw (at-byte text at h, e)
+
+  pub piece-text : at < length text → getD text at 0 ≡ 60 → f ≡ Front.Text → No ≡ stepped (length text) (piece-at (drop at text))
+  unfolding front look look-if
+  piece-text h e k = absurd (no-text (look-open (drop (at + 1) text)) (sym (look-is h e) ∙ looks at-text k))
+
+  -- what stops the pieces
+  halts-as : (k : Look) → f ≡ front k → halted k at ≡ halted (look (drop at text)) at
+  halts-as k e = rw (looks k e)
+
+  pub halt-close : f ≡ Front.Close → Between.Close at ≡ halted (look (drop at text)) at
+  unfolding front halted
+  halt-close e = halts-as at-close e
+
+  pub halt-start : f ≡ Front.Start → Between.Start at ≡ halted (look (drop at text)) at
+  unfolding front halted
+  halt-start e = halts-as at-element e
+
+  pub halt-comment : f ≡ Front.Comment → Between.Bad ≡ halted (look (drop at text)) at
+  unfolding front halted
+  halt-comment e = halts-as at-comment e
+
+  pub halt-text : f ≡ Front.Text → Between.Bad ≡ halted (look (drop at text)) at
+  unfolding front halted
+  halt-text e = halts-as at-text e
+
+-- one piece further
+between-bind : (n : ℕ) (p : Piece) (m : Read (List Piece)) → stoppedBy n (bind m (λ l r. got (p ∷ l) r)) ≡ stoppedBy n m
+unfolding stoppedBy bind
+between-bind n p fail = refl
+between-bind n p (got l r) = refl
+
+halts-piece : (l : Look) (s : List ℕ) → halts l ≡ true → piece-by l s ≡ fail
+unfolding halts piece-by
+halts-piece at-close s e = refl
+halts-piece at-comment s e = clash (cc)
+halts-piece at-element s e = refl
+halts-piece at-text s e = clash (cc)
+
+halted-on : (l : Look) (i : ℕ) → halts l ≡ false → Between.Bad ≡ halted l i
+unfolding halts halted
+halted-on at-close i e = clash (cc)
+halted-on at-comment i e = refl
+halted-on at-element i e = clash (cc)
+halted-on at-text i e = refl
+
+module _ (n : ℕ) (s : List ℕ) where
+  halting : pause s ≡ true → piece-at s ≡ fail
+  unfolding pause piece-at
+  halting h = halts-piece (look s) s h
+
+  between-piece : {p : Piece} {r : List ℕ} → piece-at s ≡ got p r → (t : Bool) → pause s ≡ t
+      → stoppedBy n (pieces-at s) ≡ stoppedBy n (pieces-at r)
+  unfolding bind
+  between-piece {p} {r} e true h = let f = halting h in clash (cc)
+  between-piece {p} {r} e false h = rw (pieces-go s h, e) (between-bind n p (pieces-at r))
+
+  between-fail : piece-at s ≡ fail → (t : Bool) → pause s ≡ t → halted (look s) (n - length s) ≡ stoppedBy n (pieces-at s)
+  unfolding bind stoppedBy pause
+  between-fail e true h = rw (pieces-halt s h)
+  between-fail e false h = rw (pieces-go s h, e) (sym (halted-on (look s) (n - length s) h))
+
+-- plain bytes are pieces
+plain-text : (a : ℕ) (s : List ℕ) → plain a ≡ true → text-at (a ∷ s) ≡ got (a ∷ []) s
+unfolding plain
+plain-text a s e = text-complete (TextCharacter.literal (utf8-1 (and-left (lead1 a) _ e))
+    (not-true (special a) (and-left (not (special a)) _ (and-right (lead1 a) _ e)))) s
+
+plain-look : (a : ℕ) (s : List ℕ) → plain a ≡ true → look (a ∷ s) ≡ at-text
+unfolding plain look look-if special
+plain-look a s e = rw (or-left (eqb a 60) (eqb a 38) (not-true (special a) (and-left (not (special a)) _ (and-right (lead1 a) _ e))))
+
+plain-clear : (a : ℕ) (s : List ℕ) → plain a ≡ true → begins (ascii "]]>") (a ∷ s) ≡ false
+unfolding plain begins
+plain-clear a s e = rw (not-true (eqb a 93) (and-right (not (special a)) _ (and-right (lead1 a) _ e)))
+
+plain-piece : (a : ℕ) (s : List ℕ) → plain a ≡ true → piece-at (a ∷ s) ≡ got (character (a ∷ [])) s
+unfolding piece-at piece-by text-piece-at bind test
+plain-piece a s e = rw (plain-look a s e, plain-clear a s e, plain-text a s e)
+
+between-plain : (n : ℕ) {w : List ℕ} → Each plain w → (r : List ℕ) → stoppedBy n (pieces-at (w ++ r)) ≡ stoppedBy n (pieces-at r)
+between-plain n no-byte r = refl
+between-plain n (a-byte {a} {w} e h) r = between-piece n (a ∷ (w ++ r)) (plain-piece a (w ++ r) e) (pause (a ∷ (w ++ r))) refl
+    ∙ between-plain n h r
+
+abbrev pub Passing : List ℕ → ℕ → ℕ → Type 0
+Passing text at i = stoppedBy (length text) (pieces-at (drop at text)) ≡ stoppedBy (length text) (pieces-at (drop i text))
+
+module _ (text : List ℕ) (at i : ℕ) (inv : Passing text at i) {j : ℕ}
+    (q : To j ≡ stepped (length text) (span plain (drop i text))) {r : Step} (q₂ : r ≡ stepped (length text) (piece-at (drop j text))) where
+  skipped : Went (span plain) text i j
+  skipped = went (span plain) text i j (span-tails plain (drop i text)) q
+
+  parted : (drop i text ≡ skipped .value ++ drop j text) × Each plain (skipped .value)
+  parted = ok-got (subst (λ (m : Read (List ℕ)). Ok (λ w r. (drop i text ≡ w ++ r) × Each plain w) m) (skipped .reads)
+      (span-sound plain (drop i text)))
+
+  skips : Passing text i j
+  skips = ap (λ s. stoppedBy (length text) (pieces-at s)) (parted .0) ∙ between-plain (length text) (parted .1) (drop j text)
+
+  module _ {k : ℕ} (e : r ≡ To k) where
+    read : Went piece-at text j k
+    read = went piece-at text j k (piece-tails (drop j text)) (sym e ∙ q₂)
+
+    pub between-on : Passing text at k
+    between-on = inv ∙ skips ∙ between-piece (length text) (drop j text) (read .reads) (pause (drop j text)) refl
+
+    pub between-less : length (drop k text) < length (drop i text)
+    between-less = omega (
+      arith,
+      length-drop k text,
+      length-drop j text,
+      went-on read (piece-eats (drop j text)),
+      read .inside,
+      ap length (parted .0),
+      length-append (skipped .value) (drop j text),
+    )
+
+  pub between-halt : r ≡ No → {x : Between} → x ≡ halted (look (drop j text)) j → x ≡ stoppedBy (length text) (pieces-at (drop at text))
+  between-halt e k =
+      let here : length text - length (drop j text) ≡ j = omega (arith, length-drop j text, skipped .inside) in
+      k ∙ ap (halted (look (drop j text))) (sym here)
+      ∙ between-fail (length text) (drop j text) (fell (length text) (piece-at (drop j text)) (sym e ∙ q₂))
+      (pause (drop j text)) refl ∙ sym (inv ∙ skips)
+
+pub ruleset fronts = (front-end, front-text, front-last, front-close, front-comment, front-start, needs)
+
+pub ruleset texts = (text-none, text-reference, text-open, text-plain, needs)
+
+pub ruleset brackets = (bracket-cut, bracket-clear, needs)
+
+pub ruleset tagged = (piece-close, piece-start, piece-comment, piece-text, needs)
+
+pub ruleset pieces = (piece-none, piece-byte, needs)
+
+pub ruleset halting-at = (halt-close, halt-start, halt-comment, halt-text, needs)
+
+pub ruleset passing = (between-on, between-less, between-halt, needs)

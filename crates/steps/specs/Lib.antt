@@ -1,0 +1,10 @@
+pub mod Step
+pub mod Leaves
+pub mod Keys
+pub mod Noted
+pub mod Row
+pub mod Prologue
+pub mod Tags
+pub mod Pieces
+pub mod WellFormed
+pub mod Laws

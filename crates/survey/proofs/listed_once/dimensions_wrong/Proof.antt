@@ -1,0 +1,27 @@
+use Rattle.maps.specs.ListedOnce.{listed-once, once-more, Judging}
+use Prim.Native.Nat.{_-_}
+use Rattle.survey.proofs.listed_once.dimensions_wrong.Statement.{statement}
+use Rattle.survey.proofs.listed_once.dimensions_wrong.Tie as tie
+
+abbrev Inv-loop : tie.InvT-loop
+Inv-loop text matrix maps lengths n d₀ d = Judging text matrix maps lengths d
+
+abbrev μ-loop : tie.MeasureT-loop
+μ-loop text matrix maps lengths n d₀ d = 10 - d
+
+pub dimensions-wrong-spec : {M : Type 1} → statement M
+dimensions-wrong-spec =
+    tie.close
+    (tie.spec
+    Inv-loop
+    μ-loop
+    (λ c. search listed-once)
+    (λ c. search listed-once)
+    (λ c κs. search listed-once)
+    (λ c κs. search listed-once)
+    (λ c. search listed-once)
+    (λ c. search listed-once)
+    (λ c. search listed-once)
+    (λ c. once-more (c .before .before .before .before .loop .inv) (c .before .before .listed .ensures)
+    (c .before .times-wanted .ensures) (c .if2 .left))
+    (λ c. search listed-once))

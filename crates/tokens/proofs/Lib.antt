@@ -1,9 +1,0 @@
-pub mod Laws
-pub mod LawsCharacters
-pub mod LawsReferences
-pub mod LawsValues
-pub mod LawsComments
-pub mod LawsKeys
-pub mod LawsNoted
-pub mod LawsAttributes
-pub mod LawsHeads

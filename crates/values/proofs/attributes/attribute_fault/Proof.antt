@@ -1,0 +1,19 @@
+use Rattle.shape.specs.Laws.Attributes.{attributing}
+use Rattle.values.proofs.attributes.attribute_fault.Statement.{statement}
+use Rattle.values.proofs.attributes.attribute_fault.Tie as tie
+
+pub attribute-fault-spec : {M : Type 1} → statement M
+attribute-fault-spec =
+    tie.close
+    (tie.spec
+    (λ c κs. search attributing)
+    (λ c κs. search attributing)
+    (λ c κs. search attributing)
+    (λ c. search attributing)
+    (λ c κs. search attributing)
+    (λ c κs. search attributing)
+    (λ c. search attributing)
+    (λ c. search attributing)
+    (λ c κs. search attributing)
+    (λ c. search attributing)
+    (λ c. search attributing))

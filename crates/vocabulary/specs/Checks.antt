@@ -1,0 +1,30 @@
+-- What CIFTI's table says of a text: conditions 3, 6 and 7.
+use mathlib.Core.Path.{_≡_}
+use mathlib.Core.List.{List}
+use mathlib.Core.Option.{Option, some}
+use mathlib.Core.Option
+use mathlib.Core.Bool.{cond}
+use Prim.Native.Nat.{ℕ}
+use Rattle.grammar.specs.Document.{Element}
+use Rattle.grammar.specs.Parser.{parse}
+use Rattle.nodes.specs.Places.{Stands, the}
+use Rattle.nodes.specs.Root.{root}
+use Rattle.nodes.specs.declared.Kid.the-variants.{Child}
+use Rattle.cifti.specs.Conditions.{shapeWrong, numberWrong}
+use Rattle.shape.specs.declared.Checked.{Checked}
+
+-- 6 or 7, whichever applies first to a root, or 0
+unfoldable pub rootFault : Element → ℕ
+rootFault e = cond (shapeWrong e) 6 (cond (numberWrong e) 7 0)
+
+-- the root stands at the place, and its fault is known
+pub record Judged (text : List ℕ) (at fault : ℕ) : Type 0 where
+  pub parsed : parse text ≡ some (the text at)
+  pub placed : root text ≡ Child at
+  pub stands : Stands text at
+  pub fault-is : fault ≡ rootFault (the text at)
+
+-- CONDITIONS 3, 6 AND 7: 3 where no document writes the text; else the fault of the root
+pub record ChecksCifti (text : List ℕ) (r : Checked) : Type 0 where
+  pub unwritten : parse text ≡ Option.none → (r .number ≡ 3) × (r .root ≡ 0)
+  pub written : (e : Element) → parse text ≡ some e → Judged text (r .root) (r .number)

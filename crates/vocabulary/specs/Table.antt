@@ -1,0 +1,139 @@
+-- CIFTI's table as numbers and letters, as the code lays them out; shape's `Table` says how such a table is read, and `Laws/Agree` that
+-- it is that of the paper.
+use mathlib.Core.List.{List, [], _∷_, _++_}
+use Prim.Native.Nat.{ℕ, _+_}
+use Prim.Native.String.{String}
+use Rattle.lists.specs.Lists.{eachIn}
+use lib.ListN.{length}
+use Rattle.grammar.specs.Bytes.{ascii}
+use Rattle.cifti.specs.Words.{structures, units}
+
+-- attributes from, up to; children from, up to; text; order
+kinds : List ℕ
+kinds =
+    0 ∷ 1 ∷ 0 ∷ 1 ∷ 0 ∷ 0  -- cifti
+    ∷ 1 ∷ 1 ∷ 1 ∷ 3 ∷ 0 ∷ 0  -- matrix
+    ∷ 1 ∷ 1 ∷ 3 ∷ 4 ∷ 0 ∷ 0  -- metaData
+    ∷ 1 ∷ 1 ∷ 4 ∷ 6 ∷ 0 ∷ 0  -- md
+    ∷ 1 ∷ 1 ∷ 6 ∷ 6 ∷ 1 ∷ 0  -- words
+    ∷ 1 ∷ 3 ∷ 6 ∷ 8 ∷ 0 ∷ 0  -- brainModels
+    ∷ 1 ∷ 8 ∷ 8 ∷ 8 ∷ 0 ∷ 0  -- series
+    ∷ 1 ∷ 3 ∷ 8 ∷ 9 ∷ 0 ∷ 0  -- scalars
+    ∷ 8 ∷ 8 ∷ 9 ∷ 11 ∷ 0 ∷ 0  -- namedMap
+    ∷ 8 ∷ 9 ∷ 11 ∷ 12 ∷ 0 ∷ 0  -- volume
+    ∷ 9 ∷ 10 ∷ 12 ∷ 12 ∷ 10 ∷ 0  -- transform
+    ∷ 10 ∷ 15 ∷ 12 ∷ 13 ∷ 0 ∷ 0  -- surface
+    ∷ 10 ∷ 14 ∷ 13 ∷ 14 ∷ 0 ∷ 0  -- voxels
+    ∷ 15 ∷ 15 ∷ 14 ∷ 14 ∷ 11 ∷ 0  -- vertexIndices
+    ∷ 15 ∷ 15 ∷ 14 ∷ 14 ∷ 12 ∷ 0  -- voxelIndices
+    ∷ []
+
+-- word; form; whether it may be left out
+attributes : List ℕ
+attributes =
+    0 ∷ 0 ∷ 0  -- Version
+    ∷ 1 ∷ 1 ∷ 0  -- AppliesToMatrixDimension
+    ∷ 2 ∷ 0 ∷ 0  -- IndicesMapToDataType
+    ∷ 3 ∷ 3 ∷ 0  -- NumberOfSeriesPoints
+    ∷ 4 ∷ 4 ∷ 0  -- SeriesStart
+    ∷ 5 ∷ 4 ∷ 0  -- SeriesStep
+    ∷ 6 ∷ 5 ∷ 0  -- SeriesExponent
+    ∷ 7 ∷ 7 ∷ 0  -- SeriesUnit
+    ∷ 13 ∷ 6 ∷ 0  -- VolumeDimensions
+    ∷ 14 ∷ 5 ∷ 0  -- MeterExponent
+    ∷ 8 ∷ 2 ∷ 0  -- IndexOffset
+    ∷ 9 ∷ 3 ∷ 0  -- IndexCount
+    ∷ 10 ∷ 0 ∷ 0  -- ModelType
+    ∷ 11 ∷ 8 ∷ 0  -- BrainStructure
+    ∷ 12 ∷ 3 ∷ 0  -- SurfaceNumberOfVertices
+    ∷ []
+
+-- word; times; choice; kind
+children : List ℕ
+children =
+    15 ∷ 0 ∷ 0 ∷ 1  -- Matrix
+    ∷ 16 ∷ 1 ∷ 0 ∷ 2  -- MetaData
+    ∷ 17 ∷ 3 ∷ 1 ∷ 0  -- MatrixIndicesMap
+    ∷ 18 ∷ 2 ∷ 0 ∷ 3  -- MD
+    ∷ 19 ∷ 0 ∷ 0 ∷ 4  -- Name
+    ∷ 20 ∷ 0 ∷ 0 ∷ 4  -- Value
+    ∷ 21 ∷ 3 ∷ 2 ∷ 0  -- BrainModel
+    ∷ 22 ∷ 4 ∷ 0 ∷ 9  -- Volume
+    ∷ 23 ∷ 2 ∷ 0 ∷ 8  -- NamedMap
+    ∷ 24 ∷ 0 ∷ 0 ∷ 4  -- MapName
+    ∷ 16 ∷ 1 ∷ 0 ∷ 2  -- MetaData
+    ∷ 25 ∷ 0 ∷ 0 ∷ 10  -- TransformationMatrixVoxelIndicesIJKtoXYZ
+    ∷ 26 ∷ 0 ∷ 0 ∷ 13  -- VertexIndices
+    ∷ 27 ∷ 0 ∷ 0 ∷ 14  -- VoxelIndicesIJK
+    ∷ []
+
+-- word of the attribute; cases from, up to; else
+choices : List ℕ
+choices =
+    2 ∷ 0 ∷ 3 ∷ 0  -- the kind of a map
+    ∷ 10 ∷ 3 ∷ 5 ∷ 0  -- the kind of a model
+    ∷ []
+
+-- word; kind
+cases : List ℕ
+cases =
+    28 ∷ 5  -- brainModels
+    ∷ 29 ∷ 6  -- series
+    ∷ 30 ∷ 7  -- scalars
+    ∷ 31 ∷ 11  -- surface
+    ∷ 32 ∷ 12  -- voxels
+    ∷ []
+
+-- what it is; limits
+forms : List ℕ
+forms =
+    0 ∷ 0 ∷ 0 ∷ 0  -- any value, any text
+    ∷ 2 ∷ 0 ∷ 0 ∷ 0  -- a dimension list
+    ∷ 3 ∷ 0 ∷ 1048576 ∷ 0  -- a whole number
+    ∷ 3 ∷ 1 ∷ 1048576 ∷ 0  -- a whole number above 0
+    ∷ 4 ∷ 0 ∷ 0 ∷ 0  -- a decimal
+    ∷ 5 ∷ 30 ∷ 0 ∷ 0  -- an exponent
+    ∷ 6 ∷ 2048 ∷ 2048 ∷ 4096  -- the sizes of a volume
+    ∷ 1 ∷ 33 ∷ 37 ∷ 0  -- a unit
+    ∷ 1 ∷ 37 ∷ 69 ∷ 0  -- a structure
+    ∷ 1 ∷ 0 ∷ 0 ∷ 0  -- text: the sixteen
+    ∷ 2 ∷ 1048575 ∷ 0 ∷ 0  -- text: vertices
+    ∷ 2 ∷ 4095 ∷ 0 ∷ 0  -- text: voxels
+    ∷ 1 ∷ 28 ∷ 31 ∷ 0  -- a kind of map
+    ∷ []
+
+-- the words, from 0
+vocabulary : List String
+unfolding structures units
+vocabulary =
+    "Version" ∷ "AppliesToMatrixDimension" ∷ "IndicesMapToDataType" ∷ "NumberOfSeriesPoints"  -- 0
+    ∷ "SeriesStart" ∷ "SeriesStep" ∷ "SeriesExponent" ∷ "SeriesUnit" ∷ "IndexOffset" ∷ "IndexCount"  -- 4
+    ∷ "ModelType" ∷ "BrainStructure" ∷ "SurfaceNumberOfVertices" ∷ "VolumeDimensions" ∷ "MeterExponent"  -- 10
+    ∷ "Matrix" ∷ "MetaData" ∷ "MatrixIndicesMap" ∷ "MD" ∷ "Name" ∷ "Value" ∷ "BrainModel" ∷ "Volume"  -- 15
+    ∷ "NamedMap" ∷ "MapName" ∷ "TransformationMatrixVoxelIndicesIJKtoXYZ" ∷ "VertexIndices"  -- 23
+    ∷ "VoxelIndicesIJK" ∷ "CIFTI_INDEX_TYPE_BRAIN_MODELS" ∷ "CIFTI_INDEX_TYPE_SERIES"  -- 27
+    ∷ "CIFTI_INDEX_TYPE_SCALARS" ∷ "CIFTI_MODEL_TYPE_SURFACE" ∷ "CIFTI_MODEL_TYPE_VOXELS"  -- 30
+    ∷ (units ++ structures)  -- 33, 37
+
+unfoldable pub letters : List ℕ
+unfolding vocabulary eachIn
+letters = eachIn ascii vocabulary
+
+-- where each word begins in the letters, and where the last ends
+startsFrom : ℕ → List String → List ℕ
+startsFrom n [] = n ∷ []
+startsFrom n (s ∷ l) = n ∷ startsFrom (n + length (ascii s)) l
+
+-- where each part begins
+partsFrom : ℕ → List (List ℕ) → List ℕ
+partsFrom n [] = []
+partsFrom n (p ∷ l) = n ∷ partsFrom (n + length p) l
+
+parts : List (List ℕ)
+unfolding kinds attributes children choices cases forms vocabulary startsFrom
+parts = kinds ∷ attributes ∷ children ∷ choices ∷ cases ∷ startsFrom 0 vocabulary ∷ forms ∷ []
+
+-- the watched word is VoxelIndicesIJK
+unfoldable pub table : List ℕ
+unfolding parts partsFrom eachIn
+table = partsFrom 8 parts ++ (27 ∷ eachIn (λ p. p) parts)

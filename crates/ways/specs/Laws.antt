@@ -1,0 +1,3 @@
+pub mod Written
+pub mod Along
+pub mod There
