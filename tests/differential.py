@@ -6,8 +6,8 @@
     python3 tests/differential.py --module oracle --count 500      tries this comparison itself
 
 Compared: the number, the whole answer, the records, what is left as it was (past the stretches, past the answer, on
-refusal, around every lent slice), and that the work space is zero. The last line is 'N compared, M differ'. Where the machine is
-not x86-64 the library runs under the kit's emulator.
+refusal, around every lent slice), and that the work space is zero; of the lister its whole output. The last line is 'N compared,
+M differ'. Where the machine is not x86-64 the library and the lister run under the kit's emulator.
 """
 import argparse
 import collections
@@ -153,16 +153,20 @@ class Comparison:
             self.pack(rng, name, *texts.records_case(seed, number))
             self.unpack(rng, name, *texts.sheet_case(seed, number))
 
-    def card(self, lister, seed, number):
+    def limit_cards(self, lister):
+        for name, given, begins in texts.limit_cards():
+            self.check(f"card of {name}: the paper says {begins!r}", oracle.lister(given).startswith(begins))
+            self.card(lister, f"card of {name}", given)
+
+    def card(self, lister, name, given):
         """The lister's whole output on a whole input."""
-        given = texts.card_case(seed, number)
         wanted = oracle.lister(given)
-        got = subprocess.run([lister], input=given, capture_output=True, timeout=20).stdout
+        got = subprocess.run(lister, input=given, capture_output=True, timeout=60).stdout
         if wanted.startswith(b"refused"):
             self.numbers[int(wanted.split()[1])] += 1
         else:
             self.numbers[0] += 1
-        self.check(f"seed {seed} card {number}: {got[:40]!r}, wanted {wanted[:40]!r}", got == wanted)
+        self.check(f"{name}: {got[:40]!r}, wanted {wanted[:40]!r}", got == wanted)
 
     def real(self, headers):
         for name, text, lengths in headers:
@@ -194,15 +198,18 @@ def main():
     count = given.count if given.count is not None else 5000 if given.seconds is None else 1 << 40
     end = time.monotonic() + given.seconds if given.seconds is not None else float("inf")
     run = Comparison(given.show)
-    if not given.lister:
+    lister = emulation.command(given.lister) if given.lister else None
+    if lister:
+        run.limit_cards(lister)
+    else:
         run.paper()
     if given.real and not given.lister:
         run.real(real.headers_or_skipped())
     for number in range(given.first, given.first + count):
         if time.monotonic() > end:
             break
-        if given.lister:
-            run.card(given.lister, given.seed, number)
+        if lister:
+            run.card(lister, f"seed {given.seed} card {number}", texts.card_case(given.seed, number))
         else:
             run.one(given.seed, number, given.large)
     print("numbers:", ", ".join(f"{n}: {k}" for n, k in sorted(run.numbers.items())))

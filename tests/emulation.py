@@ -19,13 +19,25 @@ def needed():
     return platform.machine() not in ("x86_64", "amd64") and "DZWONOLIN_LIBRARY" not in os.environ
 
 
+def kit():
+    """The kit's folder for this machine."""
+    guide = subprocess.run(["rt", "doc"], check=True, capture_output=True, text=True).stdout.strip()
+    return pathlib.Path(guide).parents[1] / "on" / platform.machine()
+
+
+def command(program):
+    """What runs a program that the kit linked: with the kit's C library, and where the machine is not x86-64 under its emulator."""
+    tools = kit() / "toolchain"
+    emulator = tools / "bin" / "qemu-x86_64"
+    return [*([emulator] if emulator.exists() else []), tools / "lib" / "ld-linux-x86-64.so.2", "--library-path", tools / "lib", program]
+
+
 def build():
     """The command that serves the library."""
     archive = ROOT / "target" / "libdzwonolin.a"
     if not archive.exists():
         raise OSError(f"no {archive}: run ./library")
-    guide = subprocess.run(["rt", "doc"], check=True, capture_output=True, text=True).stdout.strip()
-    own = pathlib.Path(guide).parents[1] / "on" / platform.machine()
+    own = kit()
     tools = own / "toolchain"
     folder = ROOT / "target" / "emulated"
     folder.mkdir(parents=True, exist_ok=True)
@@ -34,7 +46,7 @@ def build():
                     "-I", HERE / "emulated", "-I", ROOT / "include", "-c", source, "-o", compiled], check=True)
     subprocess.run([own / "bin" / "rattle-link", "--target", "x86_64-unknown-linux-gnu", "--toolchain", tools, "-o", program,
                     compiled, archive], check=True, capture_output=True)
-    return [tools / "bin" / "qemu-x86_64", tools / "lib" / "ld-linux-x86-64.so.2", "--library-path", tools / "lib", program]
+    return command(program)
 
 
 class Library:

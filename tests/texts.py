@@ -13,6 +13,7 @@ import random
 import byte_damages
 import damages
 import documents
+import paper
 
 # A text with what is lent to read it; `aim` is what its last damage aims at.
 Case = collections.namedtuple("Case", "label aim text lengths records_room work_room")
@@ -131,6 +132,20 @@ def card_case(seed, number):
     if rng.random() < 0.03:
         text += b" " * (CARD_TEXT + rng.choice([0, 1, 2, 4000]) - len(text))
     return line + text
+
+
+def limit_cards():
+    """(name, a whole standard input, how its card begins): Case A made as large as the lister takes it, and one more."""
+    for count, begins in [(2048, b"ok\n0 scalars 2\n1 brain 2048 0\n0 S 18 0\n"), (2049, b"refused 13\n")]:
+        text = paper.CASE_A
+        for old, new in [(b'Offset="2"', b'Offset="%d"' % (count - 1)), (b'Count="2"', b'Count="%d"' % (count - 1)),
+                         (b'Vertices="5"', b'Vertices="4096"'), (b">4 1<", b">%s<" % b" ".join(b"%d" % n for n in range(count - 1)))]:
+            assert text.count(old) == 1
+            text = text.replace(old, new)
+        yield f"{count} records", b"2,%d\n" % count + text, begins
+    for size, line, begins in [(0, b"2,3\n", paper.CARD_A), (1, b"2,3\n", b"refused 2\n"), (1, b"0,3\n", b"refused 1\n"),
+                               (70000, b"2,3\n", b"refused 2\n")]:
+        yield f"{CARD_TEXT + size} bytes", line + paper.CASE_A.ljust(CARD_TEXT + size), begins
 
 
 def questions(rng, lengths):

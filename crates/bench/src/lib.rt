@@ -22,7 +22,7 @@ pub extern "C" fn bench_sum(text: &[u8], at: usize) -> u64
     let mut sum: u64 = 0;
     let mut i = at;
     loop {
-        match number_readers::next_number(text, i) {
+        match number_lists::next_number(text, i) {
             Next::Number(v, j) => {
                 sum = std::num::wrapping_add_u64(sum, v);
                 i = j;

@@ -65,6 +65,10 @@ answerDimensions a = getD (a .dimensions) 0 unused ∷ getD (a .dimensions) 1 un
 unfoldable pub card : Answer → (records : List ℕ) → List Line
 card a records = cardBy (a .number) (answerDimensions a) records
 
+-- how many lines are printed
+abbrev pub cardLines : Answer → (records : List ℕ) → ℕ
+cardLines a records = length (card a records)
+
 unfoldable pub cardWords : Unit {0}
 unfolding mapLine dimensionLine dimensionLines locationLine recordLine numbered stretchBegins lengthFrom recordLines cardBy
     answerDimensions card

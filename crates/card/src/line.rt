@@ -85,7 +85,7 @@ fn map_line(d: u64, dimension: Dimension) -> Line
 }
 
 // How many lines a dimension has: one, or none where there is no such dimension.
-fn lines_of(dimension: Dimension) -> usize
+pub(crate) fn lines_of(dimension: Dimension) -> usize
     ensures { λ n. ⌜ n ≡ length (dimensionLine 0 dimension) ⌝ }
 {
     let kind = dimension.kind;
@@ -104,7 +104,7 @@ fn begins_at(dimension: Dimension, at: usize) -> bool
 }
 
 // How long the stretch is that begins at `at`; 0 where none begins.
-fn length_from(answer: Answer, at: usize) -> u64
+pub(crate) fn length_from(answer: Answer, at: usize) -> u64
     ensures { λ n. ⌜ n ≡ lengthFrom at (answerDimensions answer) ⌝ }
 {
     let mut d = 0;
@@ -118,7 +118,7 @@ fn length_from(answer: Answer, at: usize) -> u64
     0
 }
 
-fn least(a: usize, b: usize) -> usize
+pub(crate) fn least(a: usize, b: usize) -> usize
     ensures { λ r. ⌜ r ≡ min a b ⌝ }
 {
     if a < b { a } else { b }

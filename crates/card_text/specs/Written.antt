@@ -9,9 +9,8 @@ use Rattle.lists.specs.Lists.{eachIn}
 use Rattle.grammar.specs.Bytes.{ascii}
 use Rattle.grammar.specs.Look.{Word}
 use Rattle.records.specs.Fill.{wrote}
-use Rattle.cifti.specs.declared.answer.Kind.{Kind}
-use Rattle.cifti.specs.declared.answer.Kind.the-variants.{None, Brain, Series, Scalars}
 use Rattle.cifti.specs.declared.answer.Answer.{Answer}
+use Rattle.cifti.specs.Maps.{kindWord}
 use Rattle.card.specs.Card.{card}
 use Rattle.card.specs.declared.line.Line.{Line}
 use Rattle.card.specs.declared.line.Line.the-variants.{Accepted, Refused, Map, MapAt, Surface, Voxel, End}
@@ -29,26 +28,6 @@ unfoldable pub spaced : List Word → List ℕ
 spaced [] = []
 spaced (w ∷ []) = w ++ (10 ∷ [])
 spaced (w ∷ v ∷ l) = w ++ (32 ∷ spaced (v ∷ l))
-
--- the word of each kind; no line is of kind None
-abbrev pub kindWord : Kind → Word
-kindWord None = []
-kindWord Brain = ascii "brain"
-kindWord Series = ascii "series"
-kindWord Scalars = ascii "scalars"
-
--- the same, byte by byte, as the code has it
-abbrev pub kindBytes : Kind → Word
-kindBytes None = []
-kindBytes Brain = 98 ∷ 114 ∷ 97 ∷ 105 ∷ 110 ∷ []
-kindBytes Series = 115 ∷ 101 ∷ 114 ∷ 105 ∷ 101 ∷ 115 ∷ []
-kindBytes Scalars = 115 ∷ 99 ∷ 97 ∷ 108 ∷ 97 ∷ 114 ∷ 115 ∷ []
-
-pub kind-bytes : (k : Kind) → kindBytes k ≡ kindWord k
-kind-bytes None = refl
-kind-bytes Brain = refl
-kind-bytes Series = refl
-kind-bytes Scalars = refl
 
 unfoldable pub wordsOf : Line → List Word
 wordsOf Accepted = ascii "ok" ∷ []

@@ -7,7 +7,8 @@ ghost use Prim.Native.Nat.{_+_, _≤_};
 ghost use lib.ListN.{length, take};
 ghost use Rattle.io.specs.Counts.{Counts};
 ghost use Rattle.grammar.specs.Bytes.{ascii};
-ghost use Rattle.card_text.specs.Written.{inTens, spaced, kindWord, kindBytes, lineBytes, Puts, Spells, Writes};
+ghost use Rattle.card_text.specs.Written.{inTens, spaced, lineBytes, Puts, Spells, Writes};
+ghost use Rattle.cifti.specs.Maps.{kindWord, kindBytes};
 
 // The first `count` letters are a word.
 struct Letters {

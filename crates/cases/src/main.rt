@@ -40,10 +40,19 @@ fn name(line: &[u8], text: &[u8], lengths: &[u64], dimension: u64, index: u64) {
     say(b"'\n");
 }
 
+// The text, as far as there is room; answers how many bytes it has there.
+fn put_text(text: &[u8], out: &mut [u8]) -> usize {
+    let size = least(text.len(), out.len());
+    bytes::copy(&text[..size], out)
+}
+
 fn decided(line: &[u8], first: &[u8], text: &[u8], more: bool) {
     let mut records = [0u64; 8];
     let mut work = [0u64; 8];
-    let answer = decision::decide(first, text, more, &mut records, &mut work);
+    let mut buffer = [0u8; 32768];
+    let size = put_text(text, &mut buffer);
+    let came = if more { 32_769 } else { size };
+    let answer = decision::decide(first, &buffer, came, &mut records, &mut work);
     ask(asked(line));
     show_card(answer, &records);
 }

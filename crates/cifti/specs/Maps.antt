@@ -90,6 +90,26 @@ kindNumber Brain = 1
 kindNumber Series = 2
 kindNumber Scalars = 3
 
+-- the word of each kind on the card; no line is of kind None
+abbrev pub kindWord : Kind → Word
+kindWord None = []
+kindWord Brain = ascii "brain"
+kindWord Series = ascii "series"
+kindWord Scalars = ascii "scalars"
+
+-- the same, byte by byte, as the code has it
+abbrev pub kindBytes : Kind → Word
+kindBytes None = []
+kindBytes Brain = 98 ∷ 114 ∷ 97 ∷ 105 ∷ 110 ∷ []
+kindBytes Series = 115 ∷ 101 ∷ 114 ∷ 105 ∷ 101 ∷ 115 ∷ []
+kindBytes Scalars = 115 ∷ 99 ∷ 97 ∷ 108 ∷ 97 ∷ 114 ∷ 115 ∷ []
+
+pub kind-bytes : (k : Kind) → kindBytes k ≡ kindWord k
+kind-bytes None = refl
+kind-bytes Brain = refl
+kind-bytes Series = refl
+kind-bytes Scalars = refl
+
 -- the place of a kind's word in the table, from 0, by its number; None stands behind the last
 abbrev pub placeOf : (number : ℕ) → ℕ
 placeOf n = (n + 3) % 4

@@ -5,41 +5,51 @@ use first_line::FirstLine;
 use first_line::first_line;
 use reader::read;
 use repeats::clear;
-ghost use Rattle.decision.specs.Decision.{Decides, Chooses};
+ghost use Prim.Native.Nat.{_≤_};
+ghost use lib.ListN.{length};
+ghost use Rattle.decision.specs.Decision.{mostText, Decides, Chooses};
 
 // With the lengths in good form. A text that is too long is told only where the lengths are right.
 fn answered(
     text: &[u8],
+    came: usize,
     lengths: &[u64],
-    more: bool,
     records: &mut [u64],
     work: &mut [u64],
 ) -> Answer
-    ensures { λ r. ⌜ Chooses (now (lengths .entry)) (now (text .entry)) more (now (records .entry)) (now (work .entry)) r
+    requires { ⌜ mostText ≤ length (now text) ⌝ }
+    ensures { λ r. ⌜ Chooses (now (lengths .entry)) (now (text .entry)) came (now (records .entry)) (now (work .entry)) r
         (now (records .exit)) (now (work .exit)) ⌝ }
 {
-    if more {
+    if 32_768 < came {
         let bare = read(&text[0..0], lengths, records, work);
         if bare.number == 1 {
             return bare;
         }
         return refused(2);
     }
-    read(text, lengths, records, work)
+    read(&text[..came], lengths, records, work)
 }
 
-pub fn decide(line: &[u8], text: &[u8], more: bool, records: &mut [u64], work: &mut [u64]) -> Answer
-    ensures { λ r. ⌜ Decides (now (line .entry)) (now (text .entry)) more (now (records .entry)) (now (work .entry)) r
+// So many bytes of text came; the buffer holds the first of them, all of those that are taken.
+pub fn decide(
+    line: &[u8],
+    text: &[u8; 32768],
+    came: usize,
+    records: &mut [u64],
+    work: &mut [u64],
+) -> Answer
+    ensures { λ r. ⌜ Decides (now (line .entry)) (now (text .entry)) came (now (records .entry)) (now (work .entry)) r
         (now (records .exit)) (now (work .exit)) ⌝ }
 {
     match first_line(line) {
         FirstLine::Two(a, b) => {
             let lengths = [a, b];
-            answered(text, &lengths, more, records, work)
+            answered(text, came, &lengths, records, work)
         }
         FirstLine::Three(a, b, c) => {
             let lengths = [a, b, c];
-            answered(text, &lengths, more, records, work)
+            answered(text, came, &lengths, records, work)
         }
         FirstLine::Other => {
             clear(work);

@@ -19,8 +19,8 @@ pub data Entry {A : Type 0} : List A → ℕ → A → Type 0 where
   further : {a b : A} {l : List A} {i : ℕ} → Entry l i a → Entry (b ∷ l) (suc i) a
 
 -- the map lists the dimension
-abbrev pub listsDimension : (dimension : ℕ) → Map → Bool
-listsDimension d m = any (eqb d) (m .dimensions)
+abbrev pub mapLists : (dimension : ℕ) → Map → Bool
+mapLists d m = any (eqb d) (m .dimensions)
 
 -- the file gives the index of the dimension this location
 pub record FileGives (text : List ℕ) (dimension index : ℕ) (location : Location) : Type 0 where
@@ -28,7 +28,7 @@ pub record FileGives (text : List ℕ) (dimension index : ℕ) (location : Locat
   pub written : Writes document text
   -- exactly one map of the document lists the dimension
   pub map : Map
-  pub one-map : those (listsDimension dimension) (mapsOf document) ≡ map ∷ []
+  pub one-map : those (mapLists dimension) (mapsOf document) ≡ map ∷ []
   -- exactly one model of that map has the index in its range
   pub model : Model
   pub one-model : those (covers index) (map .models) ≡ model ∷ []

@@ -2,8 +2,8 @@
 use answers::no_decimal;
 use cifti::Series;
 use nodes::Found;
-use number_readers::decimal_value;
-use number_readers::exponent_value;
+use number_values::decimal_value;
+use number_values::exponent_value;
 use numbers::Decimal;
 use numbers::Decimals;
 use numbers::Exponent;

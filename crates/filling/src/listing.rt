@@ -1,7 +1,7 @@
 // The records of one list, written one behind the other.
 use models::listing::Triple;
 use models::listing::next_voxel;
-use number_readers::next_number;
+use number_lists::next_number;
 use numbers::Next;
 use record_fields::surface_record;
 use record_fields::voxel_record;

@@ -15,7 +15,7 @@ ghost use Rattle.numbers.specs.Numbers.{whole, volumeDimensions, dimensionList,
 pub fn is_whole(text: &[u8], v: usize, least: u64, most: u64) -> bool
     ensures { λ r. ⌜ r ≡ whole least most (value-there (now (text .entry)) v) ⌝ }
 {
-    match number_readers::whole_value(text, v, least, most) {
+    match number_values::whole_value(text, v, least, most) {
         Whole::Is(_) => true,
         Whole::No => false,
     }
@@ -24,7 +24,7 @@ pub fn is_whole(text: &[u8], v: usize, least: u64, most: u64) -> bool
 pub fn is_dimension_list(text: &[u8], v: usize) -> bool
     ensures { λ r. ⌜ r ≡ dimensionList (value-there (now (text .entry)) v) ⌝ }
 {
-    match number_readers::dimension_list(text, v) {
+    match number_values::dimension_list(text, v) {
         Whole::Is(_) => true,
         Whole::No => false,
     }
@@ -33,7 +33,7 @@ pub fn is_dimension_list(text: &[u8], v: usize) -> bool
 pub fn is_exponent(text: &[u8], v: usize, most: u64) -> bool
     ensures { λ r. ⌜ r ≡ exponent most (value-there (now (text .entry)) v) ⌝ }
 {
-    match number_readers::exponent_value(text, v, most) {
+    match number_values::exponent_value(text, v, most) {
         Exponent::Is(_) => true,
         Exponent::No => false,
     }
@@ -42,7 +42,7 @@ pub fn is_exponent(text: &[u8], v: usize, most: u64) -> bool
 pub fn is_decimal(text: &[u8], v: usize) -> bool
     ensures { λ r. ⌜ r ≡ decimal (value-there (now (text .entry)) v) ⌝ }
 {
-    match number_readers::decimal_value(text, v) {
+    match number_values::decimal_value(text, v) {
         Decimals::Is(_) => true,
         Decimals::No => false,
     }
@@ -51,7 +51,7 @@ pub fn is_decimal(text: &[u8], v: usize) -> bool
 pub fn are_lengths(text: &[u8], v: usize, width: u64, depth: u64, height: u64) -> bool
     ensures { λ r. ⌜ r ≡ volumeDimensions width depth height (value-there (now (text .entry)) v) ⌝ }
 {
-    match number_readers::three_lengths(text, v, width, depth, height) {
+    match number_values::three_lengths(text, v, width, depth, height) {
         Three::Are(_) => true,
         Three::No => false,
     }
@@ -63,7 +63,7 @@ fn wholes_from(text: &[u8], at: usize, most: u64) -> bool
 {
     let mut i = at;
     loop {
-        match number_readers::next_number(text, i) {
+        match number_lists::next_number(text, i) {
             Next::Number(n, j) => {
                 i = j;
                 if most < n {
@@ -95,7 +95,7 @@ pub fn are_sixteen(text: &[u8], at: usize) -> bool
     ensures { λ r. ⌜ r ≡ sixteen (text-of (now (text .entry)) at) ⌝ }
 {
     match inside::texts::text_start(text, at) {
-        Found::At(i) => number_readers::sixteen_ok(text, i),
+        Found::At(i) => number_values::sixteen_ok(text, i),
         Found::Nothing => false,
     }
 }

@@ -6,7 +6,7 @@ use models::listing::list_start;
 use models::listing::next_voxel;
 use models::volume::Sizes;
 use nodes::Found;
-use number_readers::next_number;
+use number_lists::next_number;
 use numbers::Next;
 ghost use mathlib.Core.Path.{_≡_};
 ghost use Rattle.nodes.specs.Places.{the};

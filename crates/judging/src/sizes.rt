@@ -5,7 +5,7 @@ use maps::limits::MOST_ALONG;
 use maps::survey::Seen;
 use models::volume::Sizes;
 use nodes::Found;
-use number_readers::three_lengths;
+use number_values::three_lengths;
 use numbers::Three;
 ghost use mathlib.Core.Path.{_≡_};
 ghost use Rattle.nodes.specs.Places.{the};

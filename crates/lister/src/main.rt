@@ -3,15 +3,21 @@ use cifti::Answer;
 use libc::STDERR_FILENO;
 use libc::STDIN_FILENO;
 use libc::STDOUT_FILENO;
-ghost use Prim.Native.Nat.{_≤_};
+ghost use mathlib.Core.Path.{_≡_};
+ghost use mathlib.Core.Bool.{false};
+ghost use Prim.Native.Nat.{_+_, _≤_};
 ghost use lib.ListN.{length};
-
-// A card has no more: `ok`, three dimensions, 2,048 records (`lines-most`).
-const MOST_LINES: usize = 2052;
+ghost use Rattle.card.specs.Card.{cardLines};
 
 // How many bytes came, or that a read failed.
 struct Came {
     count: usize,
+    failed: bool,
+}
+
+// How many lines were written, or that a write failed.
+struct Printed {
+    lines: usize,
     failed: bool,
 }
 
@@ -78,32 +84,43 @@ fn read_bytes(bytes: &mut [u8]) -> Came
     }
 }
 
-// A byte behind a text that fills its room.
-fn read_past(count: usize) -> Came {
-    let mut byte = [0u8; 1];
-    if count < 32_768 {
-        return Came {
-            count: 0,
-            failed: false,
-        };
+// The text, and behind one that fills its room a byte more, to see whether it is too long (`decides-past`).
+fn read_text(text: &mut [u8]) -> Came
+    ensures { λ r. ⌜ r .count ≤ length (now (text .exit)) + 1 ⌝ }
+{
+    let body = read_bytes(text);
+    if body.failed | (body.count < text.len()) {
+        return body;
     }
-    read_bytes(&mut byte)
+    let mut byte = [0u8; 1];
+    let past = read_bytes(&mut byte);
+    Came {
+        count: body.count + past.count,
+        failed: past.failed,
+    }
 }
 
-fn print_card(answer: Answer, records: &[u64]) -> bool {
+// Every line of the card, unless a write fails.
+fn print_card(answer: Answer, records: &[u64]) -> Printed
+    ensures { λ r. ⌜ (r .failed ≡ false → r .lines ≡ cardLines answer (now (records .entry))) ⌝ }
+{
+    let count = card::line_count(answer, records);
     let mut n = 0;
-    while n < MOST_LINES {
+    while n < count {
         let mut bytes = [0u8; 128];
         let size = card_text::write_line(card::line_at(answer, records, n), &mut bytes);
-        if size == 0 {
-            return true;
-        }
         if !io::write_all(STDOUT_FILENO, &bytes[..size]) {
-            return false;
+            return Printed {
+                lines: n,
+                failed: true,
+            };
         }
         n += 1;
     }
-    true
+    Printed {
+        lines: n,
+        failed: false,
+    }
 }
 
 fn fail() {
@@ -116,23 +133,15 @@ fn main() {
     let mut records = [0u64; 2048];
     let mut work = [0u64; 2048];
     let first = read_line(&mut line);
-    let body = read_bytes(&mut text);
-    let past = read_past(body.count);
-    if first.failed | body.failed | past.failed {
+    let body = read_text(&mut text);
+    if first.failed | body.failed {
         fail();
         return;
     }
-    let more = 0 < past.count;
     let before = first.count;
-    let size = body.count;
-    let answer = decision::decide(
-        &line[..before],
-        &text[..size],
-        more,
-        &mut records,
-        &mut work,
-    );
-    if !print_card(answer, &records) {
+    let answer = decision::decide(&line[..before], &text, body.count, &mut records, &mut work);
+    let printed = print_card(answer, &records);
+    if printed.failed {
         fail();
     }
 }

@@ -7,7 +7,7 @@ use inside::names::name_is;
 use inside::texts::written;
 use nodes::Found;
 use nodes::Kid;
-use number_readers::dimensions_between;
+use number_values::dimensions_between;
 use numbers::Whole;
 use records::Index;
 use ways::behind_tag;

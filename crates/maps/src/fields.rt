@@ -20,7 +20,7 @@ pub fn attribute_number(text: &[u8], at: usize, name: &[u8], lo: u64, hi: u64) -
         → r ≡ numberSeen lo hi (attributeWord (now (name .entry)) (the (now (text .entry)) at))) ⌝ }
 {
     match inside::attributes::attribute(text, at, name) {
-        Found::At(v) => match number_readers::whole_value(text, v, lo, hi) {
+        Found::At(v) => match number_values::whole_value(text, v, lo, hi) {
             Whole::Is(n) => n,
             Whole::No => 0,
         },

@@ -2,7 +2,7 @@ use elements::children::first_child;
 use inside::texts::text_start;
 use nodes::Found;
 use nodes::Kid;
-use number_readers::next_number;
+use number_lists::next_number;
 use numbers::Next;
 ghost use Rattle.models.specs.Listings.{StartOf};
 ghost use Rattle.models.specs.Numbers.{NextVoxel};

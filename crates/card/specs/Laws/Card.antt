@@ -19,7 +19,7 @@ use Rattle.card.specs.Card.{mapLine, dimensionLine, dimensionLines, reco
 use Rattle.card.specs.Laws.Line.{from-each, none-left}
 use Rattle.card.specs.Laws.Records.{past-front}
 
-same-count : (d : ℕ) (x : Dimension) → length (dimensionLine d x) ≡ length (dimensionLine 0 x)
+pub same-count : (d : ℕ) (x : Dimension) → length (dimensionLine d x) ≡ length (dimensionLine 0 x)
 unfolding dimensionLine
 same-count d x = go (eqb (kindNumber (x .kind)) 0)
   where
@@ -36,7 +36,7 @@ its-line d x = go (eqb (kindNumber (x .kind)) 0)
     go true h = absurd (omega arith)
     go false h = refl
 
-abbrev rest : Answer → List ℕ → List Line
+abbrev pub rest : Answer → List ℕ → List Line
 rest a records = recordLines 3 0 (answerDimensions a) records
 
 -- the line asked is the one at `left` of what is listed from dimension d on
@@ -96,11 +96,11 @@ module _ (a : Answer) (records : List ℕ) where
   suc-of : (m : ℕ) → (m ≡ 0 → ⊥) → m ≡ suc (m - 1)
   suc-of m h = omega arith
 
-  refused-card : (a .number ≡ 0 → ⊥) → card a records ≡ Refused (a .number) ∷ []
+  pub refused-card : (a .number ≡ 0 → ⊥) → card a records ≡ Refused (a .number) ∷ []
   unfolding card cardBy
   refused-card h = rw (suc-of (a .number) h) refl
 
-  accepted-card : a .number ≡ 0 → card a records ≡ Accepted ∷ (dimensionLines 0 (answerDimensions a) ++ rest a records)
+  pub accepted-card : a .number ≡ 0 → card a records ≡ Accepted ∷ (dimensionLines 0 (answerDimensions a) ++ rest a records)
   unfolding card cardBy
   accepted-card e = rw e refl
 

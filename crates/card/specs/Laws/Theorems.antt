@@ -1,5 +1,4 @@
 -- How many lines a card has at most: `ok`, three dimensions, and one for each record lent.
-use mathlib.Core.Path.{_≡_, refl, ap}
 use mathlib.Core.List.{List, [], _∷_}
 use mathlib.Core.Bool.{Bool, true, false, cond}
 use lib.Dec.{eqb}
@@ -9,14 +8,11 @@ use lib.ListN.{length, take, drop, length-append, length-take, length-drop}
 use Rattle.cifti.specs.Maps.{kindNumber}
 use Rattle.cifti.specs.declared.answer.Dimension.{Dimension}
 use Rattle.cifti.specs.declared.answer.Answer.{Answer}
-use Rattle.card.specs.Card.{mapLine, dimensionLine, dimensionLines, numbered, lengthFrom, recordLines, cardBy, answerDimensions, card}
+use Rattle.card.specs.Laws.Records.{numbered-length}
+use Rattle.card.specs.Card.{mapLine, dimensionLine, dimensionLines, numbered, lengthFrom, recordLines, cardBy, answerDimensions}
+use Rattle.card.specs.Card.{card, cardLines}
 
-numbered-count : (n : ℕ) (l : List ℕ) → length (numbered n l) ≡ length l
-unfolding numbered
-numbered-count n [] = refl
-numbered-count n (r ∷ l) = ap suc (numbered-count (suc n) l)
-
-records-most : (n at : ℕ) (l : List Dimension) (records : List ℕ) → length (recordLines n at l records) ≤ length records
+pub records-most : (n at : ℕ) (l : List Dimension) (records : List ℕ) → length (recordLines n at l records) ≤ length records
 unfolding recordLines
 records-most zero at l records = omega arith
 records-most (suc n) at l records =
@@ -25,7 +21,7 @@ records-most (suc n) at l records =
     omega (
       arith,
       length-append (numbered 0 stretch) (recordLines n (at + length stretch) l later),
-      numbered-count 0 stretch,
+      numbered-length 0 stretch,
       records-most n (at + length stretch) l later,
       length-drop (length stretch) records,
       length-take (lengthFrom at l) records,
@@ -39,7 +35,7 @@ one-most d x = go (eqb (kindNumber (x .kind)) 0)
     go true = omega arith
     go false = omega arith
 
-dimensions-most : (d : ℕ) (l : List Dimension) → length (dimensionLines d l) ≤ length l
+pub dimensions-most : (d : ℕ) (l : List Dimension) → length (dimensionLines d l) ≤ length l
 unfolding dimensionLines
 dimensions-most d [] = omega arith
 dimensions-most d (x ∷ l) = omega (
@@ -49,7 +45,7 @@ dimensions-most d (x ∷ l) = omega (
   dimensions-most (suc d) l,
 )
 
-pub lines-most : (a : Answer) (records : List ℕ) → length (card a records) ≤ 4 + length records
+pub lines-most : (a : Answer) (records : List ℕ) → cardLines a records ≤ 4 + length records
 unfolding card cardBy answerDimensions
 lines-most a records = go (a .number)
   where

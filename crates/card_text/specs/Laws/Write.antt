@@ -18,7 +18,8 @@ use Rattle.grammar.specs.Bytes.{ascii}
 use Rattle.grammar.specs.Look.{Word}
 use Rattle.numbers.specs.Laws.Cuts.{powers}
 use Rattle.records.specs.Fill.{wrote, wrote-on, wrote-one, length-wrote}
-use Rattle.card_text.specs.Written.{inTensUpTo, inTens, spaced, kindWord, kindBytes, kind-bytes, wordsOf, lineBytes, Writes, Puts}
+use Rattle.card_text.specs.Written.{inTensUpTo, inTens, spaced, wordsOf, lineBytes, Writes, Puts}
+use Rattle.cifti.specs.Maps.{kindWord, kindBytes, kind-bytes}
 use Rattle.card_text.specs.Written.{Spells}
 use Rattle.cifti.specs.declared.answer.Kind.{Kind}
 use Rattle.card.specs.declared.line.Line.{Line}

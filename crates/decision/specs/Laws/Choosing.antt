@@ -9,7 +9,7 @@ use native.Mathlib.Omega.{arith}
 use borrow.Author.Needs.{needs}
 use borrow.Author.Tests.{le-leb, lt-leb}
 use lib.Dec.{eqb, ltb}
-use lib.ListN.{length, replicate}
+use lib.ListN.{length, take, replicate}
 use Rattle.grammar.specs.Bytes.{between}
 use Rattle.grammar.specs.Parser.{parse, computing}
 use Rattle.lists.specs.Lists.{lists, any}
@@ -20,7 +20,7 @@ use Rattle.cifti.specs.Laws.Text.{answers-is}
 use Rattle.cifti.specs.declared.answer.Answer.{Answer}
 use Rattle.first_line.specs.Lengths.{lengthsIn, firstBy}
 use Rattle.first_line.specs.Laws.Lengths.{two-of, three-of}
-use Rattle.decision.specs.Decision.{Chooses, bad-lengths, too-long, as-read, Decides, bad-form, good-form}
+use Rattle.decision.specs.Decision.{mostText, Chooses, bad-lengths, too-long, as-read, Decides, bad-form, good-form}
 use Rattle.first_line.specs.declared.lengths.FirstLine.{FirstLine}
 use Rattle.first_line.specs.declared.lengths.FirstLine.the-variants.{Two, Three, Other}
 
@@ -52,35 +52,35 @@ bare-empty : {bare lengths records work : List ℕ} {a : Answer} {s v : List ℕ
     → bare ≡ [] → Reads bare lengths records work a s v → Reads [] lengths records work a s v
 bare-empty e r = rw e at r
 
-module _ {lengths text : List ℕ} {more : Bool} {records work : List ℕ} {a : Answer} {s v : List ℕ} where
-  refused-lengths : lengthsWrong lengths ≡ true → Refuses 1 records work a s v → Chooses lengths text more records work a s v
+module _ {lengths buffer : List ℕ} {came : ℕ} {records work : List ℕ} {a : Answer} {s v : List ℕ} where
+  refused-lengths : lengthsWrong lengths ≡ true → Refuses 1 records work a s v → Chooses lengths buffer came records work a s v
   refused-lengths h r = rw (r .answered, r .kept, r .cleared) (bad-lengths h)
 
-  pub choose-read : more ≡ false → Reads text lengths records work a s v → Chooses lengths text more records work a s v
+  pub choose-read : came ≤ mostText → Reads (take came buffer) lengths records work a s v → Chooses lengths buffer came records work a s v
   choose-read m r = go (lengthsWrong lengths) refl
     where
-      go : (b : Bool) → lengthsWrong lengths ≡ b → Chooses lengths text more records work a s v
+      go : (b : Bool) → lengthsWrong lengths ≡ b → Chooses lengths buffer came records work a s v
       go true h = refused-lengths h (wrong-refuses r h)
       go false h = as-read h m r
 
-  module _ (m : more ≡ true) {bare : List ℕ} (empty : bare ≡ []) where
-    pub choose-wrong : Reads bare lengths records work a s v → a .number ≡ 1 → Chooses lengths text more records work a s v
+  module _ {bare : List ℕ} (empty : bare ≡ []) where
+    pub choose-wrong : Reads bare lengths records work a s v → a .number ≡ 1 → Chooses lengths buffer came records work a s v
     choose-wrong r e = go (lengthsWrong lengths) refl
       where
-        go : (b : Bool) → lengthsWrong lengths ≡ b → Chooses lengths text more records work a s v
+        go : (b : Bool) → lengthsWrong lengths ≡ b → Chooses lengths buffer came records work a s v
         go true h = refused-lengths h (wrong-refuses r h)
         go false h =
             let k = empty-refuses (bare-empty empty r) h in
             let z : a .number ≡ 3 = ap (λ (x : Answer). x .number) (k .answered) in
             absurd (omega arith)
 
-    pub choose-long : Reads bare lengths records work a s v → (a .number ≡ 1 → ⊥) → {b : Answer} → b ≡ refusedWith 2
-        → Chooses lengths text more records work b s v
-    choose-long r e {b} q = go (lengthsWrong lengths) refl
+    pub choose-long : {limit : ℕ} → limit < came → mostText ≤ limit → Reads bare lengths records work a s v → (a .number ≡ 1 → ⊥)
+        → {b : Answer} → b ≡ refusedWith 2 → Chooses lengths buffer came records work b s v
+    choose-long m n r e {b} q = go (lengthsWrong lengths) refl
       where
-        go : (t : Bool) → lengthsWrong lengths ≡ t → Chooses lengths text more records work b s v
+        go : (t : Bool) → lengthsWrong lengths ≡ t → Chooses lengths buffer came records work b s v
         go true h = absurd (e (ap (λ (x : Answer). x .number) (wrong-refuses r h .answered)))
-        go false h = let k = empty-refuses (bare-empty empty r) h in rw (q, k .kept, k .cleared) (too-long h m)
+        go false h = let k = empty-refuses (bare-empty empty r) h in rw (q, k .kept, k .cleared) (too-long h (omega arith))
 
 pub ruleset chooseSteps = (choose-read, choose-wrong, choose-long, needs)
 
@@ -92,10 +92,10 @@ many n b =
     let high : 3 < suc (suc (suc (suc n))) = omega arith in
     rw (le-leb 2 (suc (suc (suc (suc n)))) low, lt-leb (suc (suc (suc (suc n)))) 3 high) refl
 
-module _ {line text : List ℕ} {more : Bool} {records work : List ℕ} where
+module _ {line buffer : List ℕ} {came : ℕ} {records work : List ℕ} where
   -- another count of lengths is one that condition 1 refuses
   other-of : (o : Option (List ℕ)) → lengthsIn line ≡ o → Other ≡ firstBy o
-      → Decides line text more records work (refusedWith 1) records (replicate (length work) 0)
+      → Decides line buffer came records work (refusedWith 1) records (replicate (length work) 0)
   unfolding firstBy lengthsWrong
   other-of Option.none e h = bad-form e
   other-of (some []) e h = good-form e (bad-lengths refl)
@@ -106,15 +106,16 @@ module _ {line text : List ℕ} {more : Bool} {records work : List ℕ} where
       good-form e (bad-lengths (many (length l) (any (λ n. eqb n 0 || ltb 1048576 n) (a ∷ b ∷ c ∷ d ∷ l))))
 
   module _ {f : FirstLine} (told : f ≡ firstBy (lengthsIn line)) {a : Answer} {s v : List ℕ} where
-    pub decide-two : {x y : ℕ} → f ≡ Two x y → Chooses (x ∷ y ∷ []) text more records work a s v → Decides line text more records work a s v
+    pub decide-two : {x y : ℕ} → f ≡ Two x y → Chooses (x ∷ y ∷ []) buffer came records work a s v
+        → Decides line buffer came records work a s v
     decide-two e c = good-form (two-of (lengthsIn line) (sym e ∙ told)) c
 
-    pub decide-three : {x y z : ℕ} → f ≡ Three x y z → Chooses (x ∷ y ∷ z ∷ []) text more records work a s v
-        → Decides line text more records work a s v
+    pub decide-three : {x y z : ℕ} → f ≡ Three x y z → Chooses (x ∷ y ∷ z ∷ []) buffer came records work a s v
+        → Decides line buffer came records work a s v
     decide-three e c = good-form (three-of (lengthsIn line) (sym e ∙ told)) c
 
     pub decide-other : f ≡ Other → v ≡ replicate (length work) 0 → s ≡ records → a ≡ refusedWith 1
-        → Decides line text more records work a s v
+        → Decides line buffer came records work a s v
     decide-other e cleared kept refused = rw (refused, kept, cleared) (other-of (lengthsIn line) refl (sym e ∙ told))
 
 pub ruleset decideSteps = (decide-two, decide-three, decide-other, needs)

@@ -28,14 +28,14 @@ use Rattle.maps.specs.Laws.MapKind.{GoodMap, brain-kind, no-models}
 use Rattle.models.specs.Brain.{map-models, brain-sum}
 use Rattle.models.specs.Fine.{FineMap}
 use Rattle.table.specs.Ready.{nobody}
-use Rattle.demand.specs.Located.{Entry, listsDimension, FileGives, AnswerTells}
+use Rattle.demand.specs.Located.{Entry, mapLists, FileGives, AnswerTells}
 use Rattle.demand.specs.Laws.Alone.{Alone, alone-those, some-of, entry-at, entry-below, entry-is}
 use Rattle.demand.specs.Laws.Passed.{Passed, AcceptedText, accepted-text, at-most-three, one-lists, GoodOf, map-good, map-fine}
 use Rattle.demand.specs.Laws.Located.{is-described, length-is, index-located, length-told, gives-unique}
 
 -- ---- A listed dimension exists.
 
-listed-exists : {lengths : List ℕ} {e : Element} → Passed lengths e → (d : ℕ) → any (listsDimension d) (mapsOf e) ≡ true
+listed-exists : {lengths : List ℕ} {e : Element} → Passed lengths e → (d : ℕ) → any (mapLists d) (mapsOf e) ≡ true
     → d < length lengths
 unfolding listedDimensions
 listed-exists {lengths} {e} p d h =
@@ -85,17 +85,17 @@ told-at l {d} e = sym (entry-is e unused) ∙ go d (entry-below e)
     go (suc (suc zero)) u = refl
     go (suc (suc (suc c))) u = absurd (omega arith)
 
-unlisted : (at : ℕ) (l : List Map) (d : ℕ) → any (listsDimension d) l ≡ false → dimensionAt at l d ≡ unused
+unlisted : (at : ℕ) (l : List Map) (d : ℕ) → any (mapLists d) l ≡ false → dimensionAt at l d ≡ unused
 unfolding dimensionAt any
 unlisted at [] d h = refl
-unlisted at (m ∷ l) d h = rw (or-left (listsDimension d m) _ h) (unlisted (at + reach m) l d (or-right (listsDimension d m) _ h))
+unlisted at (m ∷ l) d h = rw (or-left (mapLists d m) _ h) (unlisted (at + reach m) l d (or-right (mapLists d m) _ h))
 
 -- one that the answer calls brain is listed
 brain-listed : (l : List Map) {d : ℕ} {told : Dimension} → Entry ((acceptedWith l) .dimensions) d told → told .kind ≡ Brain
-    → any (listsDimension d) l ≡ true
-brain-listed l {d} e k = go (any (listsDimension d) l) refl
+    → any (mapLists d) l ≡ true
+brain-listed l {d} e k = go (any (mapLists d) l) refl
   where
-    go : (b : Bool) → any (listsDimension d) l ≡ b → b ≡ true
+    go : (b : Bool) → any (mapLists d) l ≡ b → b ≡ true
     go true h = refl
     go false h = clash (ap kindNumber (sym (ap (λ (t : Dimension). t .kind) (told-at l e ∙ unlisted 0 l d h)) ∙ k))
 
@@ -106,13 +106,13 @@ module _ {text lengths records work : List ℕ} {a : Answer} {after cleared : Li
   accepted : AcceptedText text lengths records a after
   accepted = accepted-text r yes
 
-  one-map : those (listsDimension d) (mapsOf (accepted .document)) ≡ g .map ∷ []
-  one-map = ap (λ c. those (listsDimension d) (mapsOf c)) (unambiguous (accepted .writes) (g .written)) ∙ g .one-map
+  one-map : those (mapLists d) (mapsOf (accepted .document)) ≡ g .map ∷ []
+  one-map = ap (λ c. those (mapLists d) (mapsOf c)) (unambiguous (accepted .writes) (g .written)) ∙ g .one-map
 
   exists : d < length lengths
-  exists = listed-exists (accepted .passes) d (some-of (listsDimension d) (mapsOf (accepted .document)) one-map)
+  exists = listed-exists (accepted .passes) d (some-of (mapLists d) (mapsOf (accepted .document)) one-map)
 
-  listing : Alone (listsDimension d) (mapsOf (accepted .document))
+  listing : Alone (mapLists d) (mapsOf (accepted .document))
   listing = one-lists (accepted .passes) d exists
 
   same-map : g .map ≡ listing .one

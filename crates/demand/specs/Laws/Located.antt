@@ -16,7 +16,7 @@ use Rattle.cifti.specs.Laws.Demand.{tells, holds}
 use Rattle.cifti.specs.declared.answer.Kind.the-variants.{Brain}
 use Rattle.cifti.specs.declared.answer.Dimension.{Dimension}
 use Rattle.cifti.specs.declared.answer.Answer.{Answer}
-use Rattle.demand.specs.Located.{Entry, listsDimension, FileGives, Located}
+use Rattle.demand.specs.Located.{Entry, mapLists, FileGives, Located}
 use Rattle.demand.specs.Laws.Alone.{Alone, alone-those, entry-at, entry-below, entry-is}
 use Rattle.demand.specs.Laws.Passed.{AcceptedText, accepted-text, at-most-three, one-lists, map-good, map-fine, map-length}
 use Rattle.demand.specs.Laws.Indexed.{Indexed, indexed, lawful-back}
@@ -57,7 +57,7 @@ told-start at m h b = ap (λ (x : Dimension). x .start .0) h ∙ rw b refl
 module _ {text lengths records work : List ℕ} {a : Answer} {after cleared : List ℕ}
     (r : Reads text lengths records work a after cleared) (yes : a .number ≡ 0)
     {d size : ℕ} {told : Dimension} (is-told : Entry (a .dimensions) d told) (is-size : Entry lengths d size) where
-  module _ (x : AcceptedText text lengths records a after) (o : Alone (listsDimension d) (mapsOf (x .document))) where
+  module _ (x : AcceptedText text lengths records a after) (o : Alone (mapLists d) (mapsOf (x .document))) where
     abbrev pub start : ℕ
     start = total reach (o .before)
 
@@ -111,7 +111,7 @@ module _ {text lengths records work : List ℕ} {a : Answer} {after cleared : Li
   accepted : AcceptedText text lengths records a after
   accepted = accepted-text r yes
 
-  listing : Alone (listsDimension d) (mapsOf (accepted .document))
+  listing : Alone (mapLists d) (mapsOf (accepted .document))
   listing = one-lists (accepted .passes) d (entry-below is-size)
 
   told-length : told .length ≡ size
@@ -141,7 +141,7 @@ module _ {text lengths records work : List ℕ} {a : Answer} {after cleared : Li
 pub gives-unique : {text : List ℕ} {d n : ℕ} {x y : Location} → FileGives text d n x → FileGives text d n y → x ≡ y
 gives-unique {text} {d} {n} {x} {y} g h =
     let e : g .document ≡ h .document = unambiguous (g .written) (h .written) in
-    let one : g .map ∷ [] ≡ h .map ∷ [] = sym (g .one-map) ∙ ap (λ c. those (listsDimension d) (mapsOf c)) e ∙ h .one-map in
+    let one : g .map ∷ [] ≡ h .map ∷ [] = sym (g .one-map) ∙ ap (λ c. those (mapLists d) (mapsOf c)) e ∙ h .one-map in
     let m : g .map ≡ h .map = cc in
     let two : g .model ∷ [] ≡ h .model ∷ [] = sym (g .one-model) ∙ ap (λ (c : Map). those (covers n) (c .models)) m ∙ h .one-model in
     let b : g .model ≡ h .model = cc in

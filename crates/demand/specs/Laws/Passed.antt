@@ -35,7 +35,7 @@ use Rattle.maps.specs.Laws.MapKind.{GoodMap}
 use Rattle.maps.specs.Ready.{GoodMaps, no-maps, one-map, good-maps}
 use Rattle.models.specs.Fine.{Fine, FineMap}
 use Rattle.models.specs.Laws.Fine.{fine-first, fine-rest}
-use Rattle.demand.specs.Located.{listsDimension}
+use Rattle.demand.specs.Located.{mapLists}
 use Rattle.demand.specs.Laws.Alone.{Alone, alone, fails-at, once-in}
 
 -- ---- What no condition applies to.
@@ -152,9 +152,9 @@ module _ {lengths : List ℕ} {e : Element} (p : Passed lengths e) where
   at-most-three = within 2 3 (length lengths) (not-false (between 2 3 (length lengths)) (or-left _ _ (p .lengths-right))) .1
 
   -- exactly one map lists the dimension
-  pub one-lists : (d : ℕ) → d < length lengths → Alone (listsDimension d) (mapsOf e)
+  pub one-lists : (d : ℕ) → d < length lengths → Alone (mapLists d) (mapsOf e)
   unfolding listedDimensions
-  one-lists d u = alone (listsDimension d) (mapsOf e) (once-in (eqb d) (λ m. m .dimensions) (mapsOf e)
+  one-lists d u = alone (mapLists d) (mapsOf e) (once-in (eqb d) (λ m. m .dimensions) (mapsOf e)
       (count-one-iff 0 (eqb d) (listedDimensions (mapsOf e)) .1 (listing-iff lengths (mapsOf e) .0 (p .once) .one d u)))
 
   module _ (k : List Map) (m : Map) (r : List Map) (split : mapsOf e ≡ k ++ (m ∷ r)) where
@@ -166,7 +166,7 @@ module _ {lengths : List ℕ} {e : Element} (p : Passed lengths e) where
     map-fine = fine-at k m r (rw split at (p .fine))
 
     -- it is as long as the dimension
-    pub map-length : (d : ℕ) → listsDimension d m ≡ true → lengthOf m ≡ getD lengths d 0
+    pub map-length : (d : ℕ) → mapLists d m ≡ true → lengthOf m ≡ getD lengths d 0
     unfolding lengthWrong
     map-length d t = agrees (lengthOf m) d (λ x. getD lengths x 0) (m .dimensions) t
         (fails-at (λ x. any (λ y. not (eqb (lengthOf x) (getD lengths y 0))) (x .dimensions)) k m r (rw split at (p .agree)))

@@ -1,3 +1,6 @@
+use mathlib.Core.Path.{sym}
+use lib.Seq.{length-take-le}
+use native.Mathlib.Omega.{arith}
 use Rattle.decision.specs.Laws.Choosing.{chooseSteps}
 use borrow.Author.Needs.{needs}
 use Rattle.decision.proofs.decision.answered.Statement.{statement}
@@ -18,6 +21,7 @@ answered-spec =
     (λ c. search needs)
     (λ c. search needs)
     (λ c. search chooseSteps)
+    (λ c. sym (length-take-le _ _ (omega arith)))
     (λ c κs. search needs)
     (λ c. search needs)
     (λ c. search needs)

@@ -1,0 +1,20 @@
+use Rattle.numbers.specs.Laws.Next.{hurrying}
+use Rattle.number_lists.proofs.listed.next_number.Statement.{statement}
+use Rattle.number_lists.proofs.listed.next_number.Tie as tie
+
+pub next-number-spec : {M : Type 1} → statement M
+next-number-spec =
+    tie.close
+    (tie.spec
+    (λ c κs. search hurrying)
+    (λ c κs. search hurrying)
+    (λ c κs. search hurrying)
+    (λ c. search hurrying)
+    (λ c. search hurrying)
+    (λ c κs. search hurrying)
+    (λ c κs. search hurrying)
+    (λ c. search hurrying)
+    (λ c κs. search hurrying)
+    (λ c. search hurrying)
+    (λ c κs. search hurrying)
+    (λ c. search hurrying))

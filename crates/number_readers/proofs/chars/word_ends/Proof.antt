@@ -1,9 +1,0 @@
-use Rattle.numbers.specs.Laws.Read.{choosing}
-use Rattle.number_readers.proofs.chars.word_ends.Statement.{statement}
-use Rattle.number_readers.proofs.chars.word_ends.Tie as tie
-
-pub word-ends-spec : {M : Type 1} → statement M
-word-ends-spec =
-    tie.close
-    (tie.spec (λ c κs. search choosing) (λ c. search choosing) (λ c κs. search choosing) (λ c. search choosing) (λ c. search choosing)
-    (λ c. search choosing))

@@ -1,0 +1,43 @@
+use Rattle.numbers.specs.Laws.Lists.{listing, Listing, list-room}
+use native.Mathlib.Omega.{arith}
+use Prim.Native.Nat.{_-_}
+use lib.ListN.{length}
+use Rattle.number_values.proofs.dimensions_between.Statement.{statement}
+use Rattle.number_values.proofs.dimensions_between.Tie as tie
+
+abbrev Inv-loop : tie.InvT-loop
+Inv-loop text at lo hi source n₀ i₀ n i = Listing text at lo hi source n i
+
+abbrev μ-loop : tie.MeasureT-loop
+μ-loop text at lo hi source n₀ i₀ n i = length text - i
+
+pub dimensions-between-spec : {M : Type 1} → statement M
+dimensions-between-spec =
+    tie.close
+    (tie.spec
+    Inv-loop
+    μ-loop
+    (λ c. search listing)
+    (λ c. search listing)
+    (λ c. search listing)
+    (λ c. search listing)
+    (λ c κs. search listing)
+    (λ c. search listing)
+    (λ c κs. search listing)
+    (λ c. omega (
+      arith,
+      list-room (c .before .before .before .before .before .loop .inv)
+          (c .before .before .before .before .part-at .ensures) _ (c .is-within .ensures),
+    ))
+    (λ c. search listing)
+    (λ c. search listing)
+    (λ c. search listing)
+    (λ c κs. search listing)
+    (λ c. omega (
+      arith,
+      list-room (c .before .before .before .before .before .loop .inv)
+          (c .before .before .before .before .part-at .ensures) _ (c .is-within2 .ensures),
+    ))
+    (λ c. search listing)
+    (λ c. search listing)
+    (λ c. search listing))

@@ -1,0 +1,216 @@
+// Numbers of one value: whole numbers, lengths, dimension lists, exponents, decimals, rows of sixteen.
+
+// A decimal at a place.
+mod written;
+
+use nodes::Char;
+use number_lists::chars::blanks;
+use number_lists::chars::char_at;
+use number_lists::chars::digits;
+use number_lists::chars::letter;
+use numbers::Decimals;
+use numbers::Exponent;
+use numbers::Lengths;
+use numbers::Part;
+use numbers::Source;
+use numbers::Spelling;
+use numbers::Three;
+use numbers::Whole;
+use written::decimal_at;
+use written::right_at;
+use written::signed;
+ghost use mathlib.Core.Path.{_≡_};
+ghost use Prim.Native.Nat.{ℕ, _+_, _*_, _-_, _^_, _<_, _≤_};
+ghost use mathlib.Core.Bool.{Bool, cond};
+ghost use lib.ListN.{length, drop};
+ghost use Rattle.nodes.specs.Values.{value-there};
+ghost use Rattle.nodes.specs.TextBytes.{says};
+ghost use Rattle.numbers.specs.Numbers.{sixteen, withSign, isWhole, noDecimal};
+ghost use Rattle.numbers.specs.Sixteen.{rightAt};
+ghost use Rattle.numbers.specs.Stream.{stream};
+ghost use Rattle.grammar.specs.Bytes.{blank, between};
+ghost use Rattle.numbers.specs.Answers.{wholeIn, listedIn, betweenIn, threeIn, exponentIn, exponentFrom, decimalIn, signIf};
+ghost use Rattle.numbers.specs.Parted.{Parted};
+ghost use Rattle.numbers.specs.Spelled.{Pointed, Pure, Spelled};
+
+// The number at `at` up to a comma or the end.
+fn part_at(text: &[u8], at: usize, source: Source, most: u64, lo: u64, hi: u64) -> Part
+    requires { ⌜ most ≤ 15 ⌝ }
+    ensures { λ r. ⌜ Parted source (now (text .entry)) most lo hi at r ⌝ }
+{
+    let run = digits(text, at, source, most, 0);
+    if run.count == 0 {
+        return Part::No;
+    }
+    if run.value < lo {
+        return Part::No;
+    }
+    if hi < run.value {
+        return Part::No;
+    }
+    match char_at(text, run.next, source) {
+        Char::Byte(b, j) => {
+            if b == b',' {
+                return Part::Comma(run.value, j);
+            }
+            Part::No
+        }
+        Char::End => Part::Last(run.value),
+    }
+}
+
+// The whole number that the value at `at` writes.
+pub fn whole_value(text: &[u8], at: usize, lo: u64, hi: u64) -> Whole
+    ensures { λ r. ⌜ r ≡ wholeIn lo hi (value-there (now (text .entry)) at) ⌝ }
+{
+    if text.len() <= at {
+        return Whole::No;
+    }
+    match part_at(text, at + 1, Source::Value(text[at]), 7, lo, hi) {
+        Part::Last(n) => Whole::Is(n),
+        Part::Comma(_, _) => Whole::No,
+        Part::No => Whole::No,
+    }
+}
+
+// The three lengths that the value at `at` writes.
+pub fn three_lengths(text: &[u8], at: usize, width: u64, depth: u64, height: u64) -> Three
+    ensures { λ r. ⌜ r ≡ threeIn width depth height (value-there (now (text .entry)) at) ⌝ }
+{
+    if text.len() <= at {
+        return Three::No;
+    }
+    let source = Source::Value(text[at]);
+    match part_at(text, at + 1, source, 7, 1, width) {
+        Part::Comma(i, second) => match part_at(text, second, source, 7, 1, depth) {
+            Part::Comma(j, third) => match part_at(text, third, source, 7, 1, height) {
+                Part::Last(k) => Three::Are(Lengths { i: i, j: j, k: k }),
+                Part::Comma(_, _) => Three::No,
+                Part::No => Three::No,
+            },
+            Part::Last(_) => Three::No,
+            Part::No => Three::No,
+        },
+        Part::Last(_) => Three::No,
+        Part::No => Three::No,
+    }
+}
+
+fn is_within(d: u64, lo: u64, hi: u64) -> u64
+    ensures { λ r. ⌜ r ≡ cond (between lo hi d) 1 0 ⌝ }
+{
+    if d < lo {
+        return 0;
+    }
+    if hi < d {
+        return 0;
+    }
+    1
+}
+
+// How many of the dimensions that the value at `at` lists are from `lo` to `hi`.
+pub fn dimensions_between(text: &[u8], at: usize, lo: u64, hi: u64) -> Whole
+    ensures { λ r. ⌜ r ≡ betweenIn lo hi (value-there (now (text .entry)) at) ⌝ }
+{
+    if text.len() <= at {
+        return Whole::No;
+    }
+    let source = Source::Value(text[at]);
+    let mut n: u64 = 0;
+    let mut i = at + 1;
+    loop {
+        match part_at(text, i, source, 1, 0, 9) {
+            Part::Comma(d, j) => {
+                n += is_within(d, lo, hi);
+                i = j;
+            }
+            Part::Last(d) => {
+                return Whole::Is(n + is_within(d, lo, hi));
+            }
+            Part::No => {
+                return Whole::No;
+            }
+        }
+    }
+}
+
+// How many dimensions the value at `at` lists.
+pub fn dimension_list(text: &[u8], at: usize) -> Whole
+    ensures { λ r. ⌜ r ≡ listedIn (value-there (now (text .entry)) at) ⌝ }
+{
+    dimensions_between(text, at, 0, 9)
+}
+
+fn exponent_from(text: &[u8], at: usize, source: Source, most: u64, negative: bool) -> Exponent
+    ensures { λ r. ⌜ r ≡ exponentFrom most (signIf negative) (stream source (now (text .entry)) at) ⌝ }
+{
+    match part_at(text, at, source, 2, 0, most) {
+        Part::Last(n) => Exponent::Is(signed(negative, n)),
+        Part::Comma(_, _) => Exponent::No,
+        Part::No => Exponent::No,
+    }
+}
+
+// The exponent that the value at `at` writes.
+pub fn exponent_value(text: &[u8], at: usize, most: u64) -> Exponent
+    ensures { λ r. ⌜ r ≡ exponentIn most (value-there (now (text .entry)) at) ⌝ }
+{
+    if text.len() <= at {
+        return Exponent::No;
+    }
+    let source = Source::Value(text[at]);
+    match char_at(text, at + 1, source) {
+        Char::Byte(b, j) => {
+            if b == b'-' {
+                return exponent_from(text, j, source, most, true);
+            }
+            exponent_from(text, at + 1, source, most, false)
+        }
+        Char::End => Exponent::No,
+    }
+}
+
+// The decimal that the value at `at` writes.
+pub fn decimal_value(text: &[u8], at: usize) -> Decimals
+    ensures { λ r. ⌜ r ≡ decimalIn (value-there (now (text .entry)) at) ⌝ }
+{
+    if text.len() <= at {
+        return Decimals::No;
+    }
+    let source = Source::Value(text[at]);
+    match decimal_at(text, at + 1, source) {
+        Spelling::Reads(d, j) => match char_at(text, j, source) {
+            Char::Byte(_, _) => Decimals::No,
+            Char::End => Decimals::Is(d),
+        },
+        Spelling::Fails => Decimals::No,
+    }
+}
+
+// The text from `at` on is sixteen decimals, the last four equal to 0 0 0 1.
+pub fn sixteen_ok(text: &[u8], at: usize) -> bool
+    ensures { λ r. ⌜ r ≡ sixteen (says (drop at (now (text .entry)))) ⌝ }
+{
+    let mut left: u64 = 16;
+    let mut i = at;
+    while 0 < left {
+        let from = blanks(text, i);
+        match decimal_at(text, from, Source::Contents) {
+            Spelling::Reads(d, j) => {
+                left -= 1;
+                i = j;
+                if !right_at(left, d) {
+                    return false;
+                }
+            }
+            Spelling::Fails => {
+                return false;
+            }
+        }
+    }
+    let from = blanks(text, i);
+    match letter(text, from) {
+        Char::Byte(_, _) => false,
+        Char::End => true,
+    }
+}
