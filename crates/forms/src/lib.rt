@@ -10,6 +10,7 @@ ghost use lib.ListN.{drop};
 ghost use Rattle.nodes.specs.Texts.{text-of};
 ghost use Rattle.nodes.specs.Values.{value-there};
 ghost use Rattle.nodes.specs.TextBytes.{says};
+ghost use Rattle.forms.specs.Passed.{Passed};
 ghost use Rattle.numbers.specs.Numbers.{whole, volumeDimensions, dimensionList, exponent, decimal, wholes, sixteen};
 
 pub fn is_whole(text: &[u8], v: usize, least: u64, most: u64) -> bool
@@ -57,13 +58,31 @@ pub fn are_lengths(text: &[u8], v: usize, width: u64, depth: u64, height: u64) -
     }
 }
 
+// The place behind the plain numbers up to `most` that are next.
+fn plain_wholes(text: &[u8], at: usize, most: u64) -> usize
+    ensures { λ r. ⌜ Passed (now (text .entry)) at most r ⌝ }
+{
+    let mut i = at;
+    loop {
+        let quick = number_lists::quick_number(text, i);
+        if quick == 0 {
+            return i;
+        }
+        if most < quick / 16 {
+            return i;
+        }
+        i = i + (quick % 16) as usize;
+    }
+}
+
 // The contents from `at` on list whole numbers up to `most`.
 fn wholes_from(text: &[u8], at: usize, most: u64) -> bool
     ensures { λ r. ⌜ r ≡ wholes most (says (drop at (now (text .entry)))) ⌝ }
 {
     let mut i = at;
     loop {
-        match number_lists::next_number(text, i) {
+        let from = plain_wholes(text, i, most);
+        match number_lists::any_number(text, from) {
             Next::Number(n, j) => {
                 i = j;
                 if most < n {

@@ -4,5 +4,9 @@
 pub mod chars;
 // The next number of a list.
 mod listed;
+// The next number of a list where plain bytes write it.
+mod quick;
 
-pub use listed::next_number;
+pub use listed::any_number;
+pub use quick::next_number;
+pub use quick::quick_number;

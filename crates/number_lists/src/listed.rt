@@ -65,7 +65,7 @@ fn plain_digits(text: &[u8], at: usize, stop: usize) -> Run
     run_of(n, at, i)
 }
 
-fn run_of(n: u64, at: usize, next: usize) -> Run
+pub(crate) fn run_of(n: u64, at: usize, next: usize) -> Run
     requires { ⌜ at ≤ next ⌝ }
     ensures { λ r. ⌜ r ≡ runOf n at next ⌝ }
 {
@@ -77,7 +77,7 @@ fn run_of(n: u64, at: usize, next: usize) -> Run
 }
 
 // A plain blank stands behind the digits.
-fn ends_plain(text: &[u8], run: Run) -> bool
+pub(crate) fn ends_plain(text: &[u8], run: Run) -> bool
     requires { ⌜ run .next < length (now text) ⌝ }
     ensures { λ r. ⌜ r ≡ blank (getD (now (text .entry)) (run .next) 0) ⌝ }
 {
@@ -130,7 +130,7 @@ fn number_at(text: &[u8], at: usize) -> Next
 }
 
 // Up to where eight bytes and more stand ahead.
-fn eight_left(text: &[u8]) -> usize
+pub(crate) fn eight_left(text: &[u8]) -> usize
     ensures { λ r. ⌜ EightLeft (now (text .entry)) r ⌝ }
 {
     if text.len() < 8 {
@@ -139,8 +139,8 @@ fn eight_left(text: &[u8]) -> usize
     text.len() - 8
 }
 
-// The next number of the list in a text, from `at` on.
-pub fn next_number(text: &[u8], at: usize) -> Next
+// The next number, whatever stands before it or in it: plain bytes first.
+pub fn any_number(text: &[u8], at: usize) -> Next
     ensures { λ r. ⌜ r ≡ nextNumber (now (text .entry)) at ⌝ }
 {
     let last = eight_left(text);

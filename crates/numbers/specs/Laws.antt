@@ -10,6 +10,7 @@ pub mod Forms
 pub mod Lists
 pub mod Listed
 pub mod Next
+pub mod Quick
 pub mod Signs
 pub mod Walk
 pub mod Nth

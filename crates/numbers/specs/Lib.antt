@@ -3,6 +3,7 @@ pub mod Stream
 pub mod Parted
 pub mod Answers
 pub mod Spelled
+pub mod Quick
 pub mod Sixteen
 pub mod Laws
 pub mod Tests

@@ -1,4 +1,4 @@
-use Rattle.forms.specs.Laws.Forms.{listing}
+use Rattle.forms.specs.Laws.Passed.{listing}
 use Prim.Native.Nat.{_-_}
 use lib.ListN.{length}
 use Rattle.forms.specs.Laws.Forms.{Listing}
@@ -18,6 +18,7 @@ wholes-from-spec =
     Inv-loop
     μ-loop
     (λ c. search listing)
+    (λ c κs. search listing)
     (λ c κs. search listing)
     (λ c. search listing)
     (λ c. search listing)

@@ -142,8 +142,6 @@ module _ {text : List ℕ} {at most i : ℕ} (go : Listing text at most i) {r : 
     pub listing-on : n ≤ most → Listing text at most j
     listing-on h = record { same-list = one ∙ rw (le-leb n most h) }
 
-pub ruleset listing = (listing-start, listing-end, listing-bad, listing-less, listing-many, listing-on, needs)
-
 -- THE TEXT OF AN ELEMENT
 module _ (text : List ℕ) (at : ℕ) {f : Found} (e : f ≡ inside text at) where
   text-there : {i : ℕ} → f ≡ At i → says (drop i text) ≡ text-of text at

@@ -1,9 +1,9 @@
 use Rattle.numbers.specs.Laws.Next.{hurrying}
-use Rattle.number_lists.proofs.listed.next_number.Statement.{statement}
-use Rattle.number_lists.proofs.listed.next_number.Tie as tie
+use Rattle.number_lists.proofs.listed.any_number.Statement.{statement}
+use Rattle.number_lists.proofs.listed.any_number.Tie as tie
 
-pub next-number-spec : {M : Type 1} → statement M
-next-number-spec =
+pub any-number-spec : {M : Type 1} → statement M
+any-number-spec =
     tie.close
     (tie.spec
     (λ c κs. search hurrying)

@@ -1,0 +1,11 @@
+-- Numbers of a list that are passed over: whether it lists whole numbers is told by the rest.
+use mathlib.Core.Path.{_≡_}
+use mathlib.Core.List.{List}
+use Prim.Native.Nat.{ℕ, _≤_}
+use lib.ListN.{drop}
+use Rattle.nodes.specs.TextBytes.{says}
+use Rattle.numbers.specs.Numbers.{wholes}
+
+pub record Passed (text : List ℕ) (at most i : ℕ) : Type 0 where
+  pub same-list : wholes most (says (drop at text)) ≡ wholes most (says (drop i text))
+  pub ahead : at ≤ i

@@ -1,0 +1,35 @@
+use Prim.Native.Nat.{_-_}
+use Rattle.numbers.specs.Laws.Quick.{Counted, counting}
+use Rattle.number_lists.proofs.quick.seven_digits.Statement.{statement}
+use Rattle.number_lists.proofs.quick.seven_digits.Tie as tie
+
+abbrev Inv-loop : tie.InvT-loop
+Inv-loop text at n₀ k₀ n k = Counted text at n k
+
+abbrev μ-loop : tie.MeasureT-loop
+μ-loop text at n₀ k₀ n k = 7 - k
+
+pub seven-digits-spec : {M : Type 1} → statement M
+seven-digits-spec =
+    tie.close
+    (tie.spec
+    Inv-loop
+    μ-loop
+    (λ c. search counting)
+    (λ c. search counting)
+    (λ c. search counting)
+    (λ c κs. search counting)
+    (λ c. search counting)
+    (λ c κs. search counting)
+    (λ c. search counting)
+    (λ c. search counting)
+    (λ c κs. search counting)
+    (λ c. search counting)
+    (λ c. search counting)
+    (λ c. search counting)
+    (λ c. search counting)
+    (λ c. search counting)
+    (λ c. search counting)
+    (λ c. search counting)
+    (λ c κs. search counting)
+    (λ c. search counting))
