@@ -118,6 +118,7 @@ int main() {
     repeats("ascending", keys(n, [](size_t i, size_t) { return (uint64_t)i; }), 0);
     repeats("descending", keys(n, [](size_t i, size_t n) { return (uint64_t)(n - i); }), 0);
     repeats("ascending, the last two exchanged", keys(n, [](size_t i, size_t n) { return (uint64_t)(i + 2 == n ? n - 1 : i + 1 == n ? n - 2 : i); }), 0);
+    repeats("descending, the last two exchanged", keys(n, [](size_t i, size_t n) { return (uint64_t)(i + 2 == n ? 0 : i + 1 == n ? 1 : n - 1 - i); }), 0);
     repeats("two ascending runs, interleaved", keys(n, [](size_t i, size_t n) { return (uint64_t)(i < n / 2 ? 2 * i + 1 : 2 * (i - n / 2)); }), 0);
     repeats("steps of 7919", keys(n, [](size_t i, size_t n) { return (uint64_t)(17 * one << 34) + i * 7919 % n; }), 0);
     repeats("powers of two far apart", keys(n, [](size_t i, size_t) { return (uint64_t)(one << (i % 40)) + i / 40 * (i % 2); }), 14);

@@ -7,4 +7,3 @@ pub mod Record
 pub mod Bytes
 pub mod Unique
 pub mod Computed
-pub mod Halving

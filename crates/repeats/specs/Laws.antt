@@ -1,0 +1,3 @@
+pub mod Halving
+pub mod Chain
+pub mod Near
