@@ -2,7 +2,8 @@
 
    Nothing here allocates, keeps state or calls the system. All memory is lent by the caller: each slice is
    a pointer and the number of its elements. Slices lent for writing overlap no other slice of the call. The
-   pointer of an empty slice is not followed (give any address that is not null).
+   pointer of an empty slice is not followed: any address will do, null too. Any other pointer is that of so
+   many elements.
 
    Every function returns its number: 0, or the number of refusal (the smallest that applies):
 

@@ -71,6 +71,9 @@ class Library:
                 question.append(struct.pack("<Q", one))
                 continue
             count = given.pop(0)
+            if one is None:  # an empty slice whose pointer is null
+                question.append(b"\xff" * 8)
+                continue
             size = count if kind in "bB" else 8 * count
             question += [struct.pack("<Q", count), bytes(memoryview(one).cast("B")[:size]) if size else b""]
             if kind in "BN":

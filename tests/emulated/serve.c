@@ -2,7 +2,7 @@
 
    A question is the number of a function and its arguments, each slice as its length and its contents, all numbers of 64
    bits. The answer is what the function returned, whether all that it may not touch is as it was, and then each slice that
-   it may write. Every slice stands between two marked stretches. */
+   it may write. Every slice stands between two marked stretches. The length NONE asks for an empty slice whose pointer is null. */
 #include "dzwonolin.h"
 
 long read(int file, void *to, size_t count);
@@ -11,6 +11,7 @@ void *malloc(size_t size);
 void free(void *memory);
 void _exit(int status);
 
+#define NONE (~(uint64_t)0)
 enum { GUARD = 64, MARK = 0xA5, ARGUMENTS = 5 };
 
 /* b, n: bytes and numbers to be read; B, N: to be written; v: a number. */
@@ -19,7 +20,7 @@ static const char *const SHAPES[] = {"bnNNN", "bnvvN", "nvN", "nBN", "bNN"};
 struct argument {
     uint64_t count;
     size_t size;
-    uint8_t *memory, *slice, *kept;
+    uint8_t *memory, *slice, *kept, *given;
 };
 
 static void take(void *to, size_t count)
@@ -46,12 +47,16 @@ static void give(const void *from, size_t count)
 
 static void take_slice(struct argument *one, char kind)
 {
+    int null = one->count == NONE;
+    if (null)
+        one->count = 0;
     one->size = one->count * (kind == 'b' || kind == 'B' ? 1 : 8);
     one->memory = malloc(one->size + 2 * GUARD);
     one->kept = malloc(one->size + 1);
     if (!one->memory || !one->kept)
         _exit(2);
     one->slice = one->memory + GUARD;
+    one->given = null ? 0 : one->slice;
     for (int i = 0; i < GUARD; i++)
         one->memory[i] = one->slice[one->size + i] = MARK;
     take(one->slice, one->size);
@@ -70,8 +75,8 @@ static int untouched(const struct argument *one, char kind)
     return same;
 }
 
-#define BYTES(i) a[i].slice, a[i].count
-#define NUMBERS(i) (uint64_t *)a[i].slice, a[i].count
+#define BYTES(i) a[i].given, a[i].count
+#define NUMBERS(i) (uint64_t *)a[i].given, a[i].count
 
 static uint64_t call(uint64_t function, struct argument *a)
 {
