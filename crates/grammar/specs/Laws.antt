@@ -6,3 +6,4 @@ pub mod Classes
 pub mod Theorems
 pub mod Words
 pub mod Plain
+pub mod Brackets

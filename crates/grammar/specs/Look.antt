@@ -5,9 +5,8 @@ use mathlib.Core.Option
 use mathlib.Core.Bool.{Bool, true, false, _&&_, _||_, not, cond}
 use Prim.Native.Nat.{ℕ}
 use Prim.Native.String.{String}
-use Rattle.grammar.specs.Bytes.{ascii}
+use Rattle.grammar.specs.Bytes.{ascii, same}
 use Rattle.grammar.specs.Document.{Attribute, attribute, Element, element, Contents, nothing, child, run}
-use Rattle.grammar.specs.Parser.{same}
 use Rattle.lists.specs.Lists.{those, any}
 
 -- bytes: a name, a value, a text

@@ -9,6 +9,7 @@ use mathlib.Core.Bool.{Bool, true, false, _&&_, _||_, not}
 use lib.Dec.{eqb, leb}
 use lib.ListN.{length}
 use Rattle.grammar.specs.Bytes.{ascii, blank, nameStart, nameByte, quote, special, begins, letter}
+unfoldable pub use Rattle.grammar.specs.Bytes.{same}
 use Rattle.grammar.specs.Characters.{lead1, lead2, lead3, lead4, continues, noncharacter}
 use Rattle.grammar.specs.Document.{Attribute, attribute, Element, element, Contents, nothing, child, merged, together}
 use Rattle.grammar.specs.Read.{Read, fail, got, Reader, bind, _>>=_, _>>_, pure, test, mark, byte, span, seen, before, alt, all-of}
@@ -127,12 +128,6 @@ ends p (a ∷ s) = elim (blank a) [ true ↦ ends p s | false ↦ p a ]
 -- > or /
 unfoldable pub closing : ℕ → Bool
 closing a = eqb a 62 || eqb a 47
-
-unfoldable pub same : List ℕ → List ℕ → Bool
-same [] [] = true
-same [] (b ∷ t) = false
-same (a ∷ s) [] = false
-same (a ∷ s) (b ∷ t) = eqb a b && same s t
 
 unfoldable pub absent : List ℕ → List Attribute → Bool
 absent n [] = true

@@ -14,3 +14,5 @@ pub mod Tags
 pub mod Prologue
 pub mod Elements
 pub mod Document
+pub mod Unique
+pub mod Utf8

@@ -1,14 +1,12 @@
--- THE TABLE P of document 01. Each line is computed from the definitions; `promised-number` and `promised` (Theorems) make it a line
--- about every reader that keeps the promise.
+-- THE TABLE P of document 01, computed from the definitions; `promised-number` and `promised` (Theorems) make each
+-- line one about every reader that keeps the promise.
 use mathlib.Core.Path.{_≡_, refl}
-use mathlib.Core.List.{List, [], _∷_}
-use mathlib.Core.Option.{some}
+use mathlib.Core.List.{List, [], _∷_, map}
 use Prim.Native.Nat.{ℕ}
 use lib.ListN.{length}
 use Rattle.lists.specs.Lists.{lists}
 use Rattle.grammar.specs.Bytes.{ascii}
-use Rattle.grammar.specs.Document.{element, run, nothing}
-use Rattle.grammar.specs.Parser.{parse, computing}
+use Rattle.grammar.specs.Parser.{computing}
 use Rattle.grammar.specs.Look.{looks}
 use Rattle.grammar.specs.Laws.Plain.{erasing}
 use Rattle.numbers.specs.Numbers.{numbers}
@@ -39,10 +37,6 @@ three = 9 ∷ 9 ∷ 9 ∷ []
 abbrev pub two : List ℕ
 two = 9 ∷ 9 ∷ []
 
--- the number, with the lengths 2,3 and 3 places of each
-abbrev numberFor : List ℕ → ℕ
-numberFor text = numberOf text (2 ∷ 3 ∷ []) three three
-
 -- P1: A, with 3 places of each, is accepted. Dimension 0 is scalars of 2, dimension 1 brain of 3 that begins at 0;
 -- its records: index 0 and 1, surface, structure 18, vertices 4 and 1; index 2, voxel, structure 6, 2 3 5.
 pub p1 : answerOf caseA (2 ∷ 3 ∷ []) three three
@@ -67,54 +61,42 @@ pub p2 : sheetOf 5 (recordsOf caseA (2 ∷ 3 ∷ []) three three)
 unfolding cases byteWords sheetOf headOf
 p2 = refl
 
--- P3: empty text: 3
-pub p3 : numberFor [] ≡ 3
-unfolding cases
-p3 = refl
+-- A row of the table: a text, the lengths, the places of work, and the number.
+pub record Row : Type 0 where
+  pub text : List ℕ
+  pub lengths : List ℕ
+  pub work : List ℕ
+  pub number : ℕ
 
--- P4: `<a b="1" b="2"/>`: 3
-pub p4 : numberFor (ascii "<a b=\"1\" b=\"2\"/>") ≡ 3
-unfolding cases
-p4 = refl
+abbrev row : List ℕ → List ℕ → List ℕ → ℕ → Row
+row text lengths work number = record { text = text; lengths = lengths; work = work; number = number }
 
--- P5: `<a>&amp;lt;</a>` holds the four characters `&lt;`
-pub p5 : parse (ascii "<a>&amp;lt;</a>") ≡ some (element (ascii "a") [] (run (ascii "&lt;") nothing) (ascii "&amp;lt;"))
-unfolding cases
-p5 = refl
+-- with the lengths 2,3 and 3 places
+abbrev of : List ℕ → ℕ → Row
+of text number = row text (2 ∷ 3 ∷ []) three number
 
--- P6: A with offset 2 made 1: 11
-pub p6 : numberFor (variant "1" "1" "4 1") ≡ 11
-unfolding cases
-p6 = refl
+-- THE TABLE: what the paper says of the text, in its order. P2 is above; P5 is a line on markup alone (grammar/specs/Tests/Documents).
+abbrev pub paper : List Row
+paper =
+    of caseA 0  -- P1
+    ∷ of [] 3  -- P3: empty text
+    ∷ of (ascii "<a b=\"1\" b=\"2\"/>") 3  -- P4
+    ∷ of (variant "1" "1" "4 1") 11  -- P6: offset 2 made 1
+    ∷ of (variant "1" "2" "5 1") 12  -- P7: vertices `5 1`
+    ∷ of (variant "1" "2" "4 4") 14  -- P8: vertices `4 4`
+    ∷ row (variant "1" "2" "4 4") (2 ∷ 3 ∷ []) two 13  -- P8: the same with 2 places of work
+    ∷ of (variant "1" "2" "4 -1") 7  -- P9: vertices `4 -1`
+    ∷ row caseA (3 ∷ 3 ∷ []) three 9  -- P10: lengths 3,3
+    ∷ of (variant "0,1" "2" "4 1") 8  -- P11: brain dimension `0,1`
+    ∷ []
 
--- P7: A with vertices `5 1`: 12
-pub p7 : numberFor (variant "1" "2" "5 1") ≡ 12
-unfolding cases
-p7 = refl
+-- what the definitions say of it
+abbrev told : Row → ℕ
+told r = numberOf (r .text) (r .lengths) three (r .work)
 
--- P8: A with vertices `4 4`: 14, and with 2 places of work: 13
-pub p8 : numberFor (variant "1" "2" "4 4") ≡ 14
+pub paper-told : map told paper ≡ map (λ (r : Row). r .number) paper
 unfolding cases
-p8 = refl
-
-pub p8-work : numberOf (variant "1" "2" "4 4") (2 ∷ 3 ∷ []) three two ≡ 13
-unfolding cases
-p8-work = refl
-
--- P9: A with vertices `4 -1`: 7
-pub p9 : numberFor (variant "1" "2" "4 -1") ≡ 7
-unfolding cases
-p9 = refl
-
--- P10: A with lengths 3,3: 9
-pub p10 : numberOf caseA (3 ∷ 3 ∷ []) three three ≡ 9
-unfolding cases
-p10 = refl
-
--- P11: A with brain dimension `0,1`: 8
-pub p11 : numberFor (variant "0,1" "2" "4 1") ≡ 8
-unfolding cases
-p11 = refl
+paper-told = refl
 
 -- ---- So every reader that keeps the promise accepts A and refuses P7: none only refuses, and none answers always the same.
 

@@ -33,8 +33,8 @@ pub record Produced (w : List ℕ) : Type 0 where
   pub many : List (List ℕ)
   pub remarks : Sequence Remark many w
 
-high : (b : ℕ) → 128 ≤ b → eqb b 45 ≡ false
-high b h = ne-eqb b 45 λ e. omega arith
+high : (q b : ℕ) → q ≤ 127 → 128 ≤ b → eqb b q ≡ false
+high q b l h = ne-eqb b q λ e. omega arith
 
 continues-high : (b : ℕ) → continues b ≡ true → 128 ≤ b
 unfolding continues
@@ -55,17 +55,19 @@ lead4-second a b e =
     or-elim (128 ≤ b) (between 241 243 a && continues b) _ e₁ (λ h. continues-high b (and-right (between 241 243 a) _ h)) λ h.
     within 128 143 b (and-right (eqb a 244) _ h) .0
 
-past : (b : ℕ) {s : List ℕ} → eqb b 45 ≡ false → Nowhere (ascii "--") s → Nowhere (ascii "--") (b ∷ s)
+-- another byte than the first of the bytes sought
+pub past : {q : ℕ} {k : List ℕ} (b : ℕ) {s : List ℕ} → eqb b q ≡ false → Nowhere (q ∷ k) s → Nowhere (q ∷ k) (b ∷ s)
 unfolding begins
-past b {s} e n = let here : begins (ascii "--") (b ∷ s) ≡ false = rw e in nowhere-more here n
+past {q} {k} b {s} e n = let here : begins (q ∷ k) (b ∷ s) ≡ false = rw e in nowhere-more here n
 
--- the bytes of a character behind its first are no dashes
-tail-past : {a : ℕ} {w : List ℕ} → Character a w → (s : List ℕ) → Nowhere (ascii "--") s → Nowhere (ascii "--") (w ++ s)
-tail-past (utf8-1 h) s n = n
-tail-past (utf8-2 {b = b} h k) s n = past b (high b (continues-high b k)) n
-tail-past (utf8-3 {a} {b} {c} h k l) s n = past b (high b (lead3-second a b h)) (past c (high c (continues-high c k)) n)
-tail-past (utf8-4 {a} {b} {c} {d} h k l) s n =
-    past b (high b (lead4-second a b h)) (past c (high c (continues-high c k)) (past d (high d (continues-high d l)) n))
+-- the bytes of a character behind its first are no ASCII
+pub tail-past : {q : ℕ} {k : List ℕ} → q ≤ 127 → {a : ℕ} {w : List ℕ} → Character a w → (s : List ℕ) → Nowhere (q ∷ k) s
+    → Nowhere (q ∷ k) (w ++ s)
+tail-past l (utf8-1 h) s n = n
+tail-past {q} l (utf8-2 {b = b} h k) s n = past b (high q b l (continues-high b k)) n
+tail-past {q} l (utf8-3 {a} {b} {c} h k m) s n = past b (high q b l (lead3-second a b h)) (past c (high q c l (continues-high c k)) n)
+tail-past {q} l (utf8-4 {a} {b} {c} {d} h k m) s n =
+    past b (high q b l (lead4-second a b h)) (past c (high q c l (continues-high c k)) (past d (high q d l (continues-high d m)) n))
 
 dash : Character 45 []
 unfolding lead1 blank
@@ -79,16 +81,16 @@ remarks-characters (one-more (Grammar.dashed h e) t) = let ih = remarks-characte
 remarks-dashes : {l : List (List ℕ)} {w : List ℕ} → Sequence Remark l w → Nowhere (ascii "--") (w ++ ascii "-")
 unfolding begins
 remarks-dashes no-more = nowhere-more refl nowhere-end
-remarks-dashes (one-more (Grammar.plain {a} {w} h e) t) = simp append-assoc (past a e (tail-past h _ (remarks-dashes t)))
+remarks-dashes (one-more (Grammar.plain {a} {w} h e) t) = simp append-assoc (past a e (tail-past (omega arith) h _ (remarks-dashes t)))
 remarks-dashes (one-more {s = s} (Grammar.dashed {a} {w} h e) t) =
     simp append-assoc (let here : begins (ascii "--") (45 ∷ a ∷ (w ++ (s ++ ascii "-"))) ≡ false = rw e in
-    nowhere-more here (past a e (tail-past h _ (remarks-dashes t))))
+    nowhere-more here (past a e (tail-past (omega arith) h _ (remarks-dashes t))))
 
-nowhere-drop : {k : List ℕ} (x y : List ℕ) → Nowhere k (x ++ y) → Nowhere k y
+pub nowhere-drop : {k : List ℕ} (x y : List ℕ) → Nowhere k (x ++ y) → Nowhere k y
 nowhere-drop [] y n = n
 nowhere-drop (a ∷ x) y (nowhere-more e n) = nowhere-drop x y n
 
-nowhere-first : {k : List ℕ} {a : ℕ} {s : List ℕ} → Nowhere k (a ∷ s) → begins k (a ∷ s) ≡ false
+pub nowhere-first : {k : List ℕ} {a : ℕ} {s : List ℕ} → Nowhere k (a ∷ s) → begins k (a ∷ s) ≡ false
 nowhere-first (nowhere-more e n) = e
 
 ascii-alone : {a : ℕ} {w : List ℕ} → Character a w → a ≤ 127 → w ≡ []

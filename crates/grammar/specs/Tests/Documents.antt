@@ -47,13 +47,6 @@ P5 : documentOf (ascii "<a>&amp;lt;</a>") ≡ some (node (ascii "a") [] (charact
 unfolding erasing computing
 P5 = refl
 
-abbrev pub caseA : List ℕ
-caseA = ascii "<CIFTI Version=\"2\"><Matrix><MatrixIndicesMap AppliesToMatrixDimension=\"1\" IndicesMapToDataType=\"CIFTI_INDEX_TYPE_BRAIN_MODELS\"><Volume VolumeDimensions=\"8,8,8\"><TransformationMatrixVoxelIndicesIJKtoXYZ MeterExponent=\"-3\">1 0 0 0 0 1 0 0 0 0 1 0 0 0 0 1</TransformationMatrixVoxelIndicesIJKtoXYZ></Volume><BrainModel IndexOffset=\"2\" IndexCount=\"1\" ModelType=\"CIFTI_MODEL_TYPE_VOXELS\" BrainStructure=\"CIFTI_STRUCTURE_BRAIN_STEM\"><VoxelIndicesIJK>2 3 5</VoxelIndicesIJK></BrainModel><BrainModel IndexOffset=\"0\" IndexCount=\"2\" ModelType=\"CIFTI_MODEL_TYPE_SURFACE\" BrainStructure=\"CIFTI_STRUCTURE_CORTEX_RIGHT\" SurfaceNumberOfVertices=\"5\"><VertexIndices>4 1</VertexIndices></BrainModel></MatrixIndicesMap><MatrixIndicesMap AppliesToMatrixDimension=\"0\" IndicesMapToDataType=\"CIFTI_INDEX_TYPE_SCALARS\"><NamedMap><MapName>a</MapName></NamedMap><NamedMap><MapName>b</MapName></NamedMap></MatrixIndicesMap></Matrix></CIFTI>"
-
-case-A : legal caseA ≡ true
-unfolding cases computing
-case-A = refl
-
 -- `<n/>` is the same as no contents
 empty-tag : documentOf (ascii "<a/>") ≡ documentOf (ascii "<a></a>")
 unfolding erasing computing
