@@ -3,6 +3,7 @@ use super::listing::fill_vertices;
 use super::listing::fill_voxels;
 use models::listing::list_start;
 use nodes::Found;
+use records::Place;
 ghost use mathlib.Core.Path.{_≡_};
 ghost use Rattle.records.specs.Fill.{wrote};
 ghost use Rattle.nodes.specs.Places.{the};
@@ -11,17 +12,17 @@ ghost use Rattle.maps.specs.Table.{recordsOf};
 ghost use Rattle.table.specs.Model.{Fillable};
 
 // The records of the model at `model`, which is of this kind, one behind the other from `at` on.
-pub(crate) fn fill_model(text: &[u8], model: usize, kind: u64, out: &mut [u64], at: usize)
-    requires { ⌜ Fillable (now text) model kind (now out) at ⌝ }
-    ensures { λ _. ⌜ now (out .exit) ≡ wrote at (recordsOf (modelOf (the (now (text .entry)) model))) (now (out .entry)) ⌝ }
+pub(crate) fn fill_model(text: &[u8], model: usize, kind: u64, out: &mut [u64], at: Place)
+    requires { ⌜ Fillable (now text) model kind (now out) (at .0) ⌝ }
+    ensures { λ _. ⌜ now (out .exit) ≡ wrote (at .0) (recordsOf (modelOf (the (now (text .entry)) model))) (now (out .entry)) ⌝ }
 {
     match list_start(text, model) {
         Found::At(start) => {
             if 32 <= kind {
-                fill_voxels(text, start, kind - 32, out, at);
+                fill_voxels(text, start, kind - 32, out, at.0);
                 return;
             }
-            fill_vertices(text, start, kind, out, at);
+            fill_vertices(text, start, kind, out, at.0);
         }
         Found::Nothing => {}
     }

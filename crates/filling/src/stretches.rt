@@ -7,6 +7,7 @@ use maps::survey::nth;
 use models::gather::Models;
 use models::judge::Judged;
 use models::judge::models_held;
+use records::Place;
 ghost use mathlib.Core.Path.{_≡_};
 ghost use lib.ListN.{length};
 ghost use Rattle.cifti.specs.Answer.{filledWith, stretches};
@@ -15,14 +16,14 @@ ghost use Rattle.table.specs.Stretch.{Writable, Written};
 ghost use Rattle.table.specs.Stretches.{Fillable};
 
 // The stretch of the map, if it has one, from `start` on; answers where the next begins.
-fn fill_one(text: &[u8], note: MapNote, models: Models, records: &mut [u64], start: usize) -> usize
-    requires { ⌜ Writable (now text) note models (length (now records)) start ⌝ }
-    ensures { λ next. ⌜ Written (now (text .entry)) (note .at) (now (records .entry)) start next (now (records .exit)) ⌝ }
+fn fill_one(text: &[u8], note: MapNote, models: Models, records: &mut [u64], start: Place) -> Place
+    requires { ⌜ Writable (now text) note models (length (now records)) (start .0) ⌝ }
+    ensures { λ next. ⌜ Written (now (text .entry)) (note .at) (now (records .entry)) (start .0) (next .0) (now (records .exit)) ⌝ }
 {
     let kind = note.kind;
     if is_brain(kind) {
         let n = fill_models(text, models, records, start);
-        return start + n;
+        return Place(start.0 + n);
     }
     start
 }
@@ -37,7 +38,8 @@ pub fn fill_all(text: &[u8], maps: Maps, judged: Judged, records: &mut [u64])
     while i < maps.count {
         let note = nth(maps, i);
         let models = models_held(judged, i);
-        next = fill_one(text, note, models, records, next);
+        let there = fill_one(text, note, models, records, Place(next));
+        next = there.0;
         i += 1;
     }
 }

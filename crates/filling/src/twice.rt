@@ -8,6 +8,7 @@ use models::gather::Models;
 use models::judge::Judged;
 use models::judge::models_held;
 use record_fields::key;
+use records::Place;
 use repeats::repeats_in;
 ghost use mathlib.Core.Path.{_≡_};
 ghost use mathlib.Core.List.{map};
@@ -48,7 +49,7 @@ fn map_twice(text: &[u8], note: MapNote, models: Models, work: &mut [u64]) -> bo
 {
     let kind = note.kind;
     if is_brain(kind) {
-        let n = fill_models(text, models, work, 0);
+        let n = fill_models(text, models, work, Place(0));
         return key_twice(work, n);
     }
     false

@@ -1,5 +1,6 @@
 // The ranges of a map's models: condition 11's second half, by a chain over the arrays.
 use models::gather::Models;
+use records::Index;
 ghost use mathlib.Core.Path.{_≡_};
 ghost use Rattle.lists.specs.Ranges.{beginsAt, sumOf, tiling};
 ghost use Rattle.models.specs.Gathered.{Sized};
@@ -20,13 +21,13 @@ fn sum(models: Models) -> u64
 }
 
 // The first model whose range begins at the index; the count of models where there is none.
-fn begins_at(models: Models, index: u64) -> usize
+fn begins_at(models: Models, index: Index) -> usize
     requires { ⌜ Sized models ⌝ }
-    ensures { λ r. ⌜ beginsAt index (rangesOf models) ≡ rangeIf models r ⌝ }
+    ensures { λ r. ⌜ beginsAt (index .0) (rangesOf models) ≡ rangeIf models r ⌝ }
 {
     let mut i: usize = 0;
     while i < models.count {
-        if models.offset[i] == index {
+        if models.offset[i] == index.0 {
             return i;
         }
         i += 1;
@@ -42,7 +43,7 @@ pub(crate) fn ranges_tile(models: Models) -> bool
     let end = sum(models);
     let mut index: u64 = 0;
     while index < end {
-        let i = begins_at(models, index);
+        let i = begins_at(models, Index(index));
         if models.count <= i {
             return false;
         }

@@ -1,3 +1,3 @@
 pub mod Halving
-pub mod Chain
+pub mod OneWay
 pub mod Near

@@ -62,21 +62,21 @@ unfolding cases byteWords sheetOf headOf
 p2 = refl
 
 -- A row of the table: a text, the lengths, the places of work, and the number.
-pub record Row : Type 0 where
+pub record PaperRow : Type 0 where
   pub text : List ℕ
   pub lengths : List ℕ
   pub work : List ℕ
   pub number : ℕ
 
-abbrev row : List ℕ → List ℕ → List ℕ → ℕ → Row
+abbrev row : List ℕ → List ℕ → List ℕ → ℕ → PaperRow
 row text lengths work number = record { text = text; lengths = lengths; work = work; number = number }
 
 -- with the lengths 2,3 and 3 places
-abbrev of : List ℕ → ℕ → Row
+abbrev of : List ℕ → ℕ → PaperRow
 of text number = row text (2 ∷ 3 ∷ []) three number
 
 -- THE TABLE: what the paper says of the text, in its order. P2 is above; P5 is a line on markup alone (grammar/specs/Tests/Documents).
-abbrev pub paper : List Row
+abbrev pub paper : List PaperRow
 paper =
     of caseA 0  -- P1
     ∷ of [] 3  -- P3: empty text
@@ -91,10 +91,10 @@ paper =
     ∷ []
 
 -- what the definitions say of it
-abbrev told : Row → ℕ
+abbrev told : PaperRow → ℕ
 told r = numberOf (r .text) (r .lengths) three (r .work)
 
-pub paper-told : map told paper ≡ map (λ (r : Row). r .number) paper
+pub paper-told : map told paper ≡ map (λ (r : PaperRow). r .number) paper
 unfolding cases
 paper-told = refl
 

@@ -6,7 +6,7 @@ use Rattle.filling.proofs.placing.fill_models.Statement.{statement}
 use Rattle.filling.proofs.placing.fill_models.Tie as tie
 
 abbrev Inv-loop : tie.InvT-loop
-Inv-loop text out₀ start models n₀ i₀ out n i = PlacedTo text models out₀ start n i out
+Inv-loop text out₀ start models n₀ i₀ out n i = PlacedTo text models out₀ (start .0) n i out
 
 abbrev μ-loop : tie.MeasureT-loop
 μ-loop text out₀ start models n₀ i₀ out n i = models .count - i
@@ -26,16 +26,16 @@ fill-models-spec =
     (λ c. search placing)
     (λ c. omega (
       arith,
-      placed-offset (c .before .before .before .before .before .loop .inv)
-          (c .before .before .before .before .loop-test .taken),
+      placed-offset (c .before .before .before .before .before .before .loop .inv)
+          (c .before .before .before .before .before .loop-test .taken),
     ))
     (λ c κs. search placing)
     (λ c. search placing)
     (λ c. search placing)
     (λ c. omega (
       arith,
-      placed-sum (c .before .before .before .before .before .before .before .before .before .loop .inv)
-          (c .before .before .before .before .before .before .before .before .loop-test .taken),
+      placed-sum (c .before .before .before .before .before .before .before .before .before .before .loop .inv)
+          (c .before .before .before .before .before .before .before .before .before .loop-test .taken),
     ))
     (λ c. search placing)
     (λ c. search placing)

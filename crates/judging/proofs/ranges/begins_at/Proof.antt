@@ -4,7 +4,7 @@ use Rattle.judging.proofs.ranges.begins_at.Statement.{statement}
 use Rattle.judging.proofs.ranges.begins_at.Tie as tie
 
 abbrev Inv-loop : tie.InvT-loop
-Inv-loop index models i₀ i = Beginning models index i
+Inv-loop index models i₀ i = Beginning models (index .0) i
 
 abbrev μ-loop : tie.MeasureT-loop
 μ-loop index models i₀ i = models .count - i
