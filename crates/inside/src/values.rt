@@ -6,8 +6,10 @@ use nodes::Char;
 use nodes::Found;
 use steps::characters::Reference;
 ghost use mathlib.Core.Path.{_≡_};
+ghost use lib.ListN.{drop, getD};
 ghost use Rattle.grammar.specs.Parser.{same};
-ghost use Rattle.nodes.specs.Values.{decoded-at, value-there};
+ghost use Rattle.nodes.specs.Values.{decoded-at, value-there, tells};
+ghost use Rattle.nodes.specs.Fronts.{behind-quote, begins-at};
 ghost use Rattle.nodes.specs.Found.{value-at-name};
 
 // The decoded byte at `at` in a value between two quotes.
@@ -37,18 +39,14 @@ pub fn decoded(text: &[u8], at: usize, quote: u8) -> Char
     Char::Byte(b, at + 1)
 }
 
-// The value that begins at `at`, with its quote, is the word.
-pub fn value_is(text: &[u8], at: usize, word: &[u8]) -> bool
-    ensures { λ r. ⌜ r ≡ same (value-there (now (text .entry)) at) (now (word .entry)) ⌝ }
+// The decoded bytes from `at` up to the quote are the word.
+pub fn rest_is(text: &[u8], at: usize, quote: u8, word: &[u8]) -> bool
+    ensures { λ r. ⌜ r ≡ same (tells quote (drop at (now (text .entry)))) (now (word .entry)) ⌝ }
 {
-    if text.len() <= at {
-        return word.len() == 0;
-    }
-    let q = text[at];
     let mut k = 0;
-    let mut i = at + 1;
+    let mut i = at;
     loop {
-        match decoded(text, i, q) {
+        match decoded(text, i, quote) {
             Char::Byte(b, j) => {
                 if word.len() <= k {
                     return false;
@@ -67,6 +65,57 @@ pub fn value_is(text: &[u8], at: usize, word: &[u8]) -> bool
             }
         }
     }
+}
+
+// The quote of the value at `v`; 0 behind the text.
+pub fn quote_at(text: &[u8], v: usize) -> u8
+    ensures { λ r. ⌜ r ≡ getD (now (text .entry)) v 0 ⌝ }
+{
+    if text.len() <= v {
+        return 0;
+    }
+    text[v]
+}
+
+// The place behind the quote of the value at `v`.
+fn behind_quote(text: &[u8], v: usize) -> usize
+    ensures { λ r. ⌜ r ≡ behind-quote (now (text .entry)) v ⌝ }
+{
+    if text.len() <= v {
+        return v;
+    }
+    v + 1
+}
+
+// The place behind the front part, where the value at `v` begins with it.
+pub fn begins(text: &[u8], v: usize, front: &[u8]) -> Found
+    ensures { λ r. ⌜ r ≡ begins-at (now (text .entry)) v (now (front .entry)) ⌝ }
+{
+    let q = quote_at(text, v);
+    let mut k = 0;
+    let mut i = behind_quote(text, v);
+    while k < front.len() {
+        match decoded(text, i, q) {
+            Char::Byte(b, j) => {
+                if b != front[k] {
+                    return Found::Nothing;
+                }
+                k += 1;
+                i = j;
+            }
+            Char::End => {
+                return Found::Nothing;
+            }
+        }
+    }
+    Found::At(i)
+}
+
+// The value that begins at `v`, with its quote, is the word.
+pub fn value_is(text: &[u8], v: usize, word: &[u8]) -> bool
+    ensures { λ r. ⌜ r ≡ same (value-there (now (text .entry)) v) (now (word .entry)) ⌝ }
+{
+    rest_is(text, behind_quote(text, v), quote_at(text, v), word)
 }
 
 // The value of the attribute with the name, nothing where it is missing, is the word.

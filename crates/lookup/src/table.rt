@@ -6,7 +6,7 @@ ghost use lib.ListN.{getD};
 ghost use Rattle.grammar.specs.Bytes.{ascii};
 ghost use Rattle.shape.specs.Lines.{entryPlace, linePlace, attributePlace};
 ghost use Rattle.shape.specs.Table.{entry, kindCell, attributeCell, lineCell, choiceCell, caseCell, bound as boundOf, formCell, linesTo};
-ghost use Rattle.shape.specs.Table.{wordAt};
+ghost use Rattle.shape.specs.Table.{wordAt, frontAt};
 ghost use Rattle.shape.specs.Asked.{Cell};
 
 pub fn wide(x: u32) -> usize
@@ -113,6 +113,17 @@ pub fn word<'l>(table: &[u32], letters: &'l [u8], w: usize) -> &'l [u8]
         return &letters[0..0];
     }
     &letters[from..to]
+}
+
+// The letters of a front part; none where there is none.
+pub(crate) fn front<'l>(table: &[u32], letters: &'l [u8], front: usize) -> &'l [u8]
+    requires { ⌜ front < 4294967296 ⌝ }
+    ensures { λ r. ⌜ now r ≡ ascii (frontAt (now (table .entry)) (now (letters .entry)) front) ⌝ }
+{
+    if front == 0 {
+        return &letters[0..0];
+    }
+    word(table, letters, front - 1)
 }
 
 // The first of the entries from `from` up to `to` whose word is the name, or `to`; a part and a size as above.

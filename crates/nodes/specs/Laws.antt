@@ -8,6 +8,7 @@ pub mod Names
 pub mod Attributes
 pub mod ScanEnds
 pub mod Values
+pub mod Fronts
 pub mod Texts
 pub mod Walk
 pub mod Along

@@ -6,6 +6,7 @@ pub mod Ahead
 pub mod Names
 pub mod Attributes
 pub mod Values
+pub mod Fronts
 pub mod Found
 pub mod Texts
 pub mod Inside
@@ -14,3 +15,4 @@ pub mod ElementEnd
 pub mod ScanSteps
 pub mod TextBytes
 pub mod Laws
+pub mod Tests

@@ -1,5 +1,5 @@
 -- A TABLE of numbers and a text of letters, and the rows that they stand for: a total function, so that any table is one of a schema.
-use mathlib.Core.List.{List, []}
+use mathlib.Core.List.{List, [], _++_}
 use mathlib.Core.Bool.{Bool, _&&_, cond}
 use Prim.Native.Nat.{ℕ, zero, suc, _+_, _-_, _*_}
 use Prim.Native.String.{String}
@@ -20,7 +20,7 @@ use Rattle.shape.specs.Letters.{lettered}
 --   3 choices (4): word of the attribute; cases from, up to; else (0: none; or a kind, and 1)
 --   4 cases (2): word; kind
 --   5 words (1): where the word begins in the letters; it ends where the next one begins
---   6 forms (4): what it is; and its limits
+--   6 forms (4): what it is; and its limits. Of words: from, up to, and their front part (0: none; or a word, and 1)
 unfoldable pub entry : (t : List ℕ) (part size row column : ℕ) → ℕ
 entry t p n r c = getD t (getD t p 0 + n * r + c) 0
 
@@ -77,6 +77,17 @@ lettersOf t l w = cond (leb (bound t w) (bound t (w + 1)) && leb (bound t (w + 1
 unfoldable pub wordAt : (t l : List ℕ) → ℕ → String
 wordAt t l w = lettered (lettersOf t l w)
 
+-- the front part that words have in common: it is written once, and the words of a form are their rests
+unfoldable pub frontLetters : (t l : List ℕ) → ℕ → List ℕ
+frontLetters t l zero = []
+frontLetters t l (suc w) = lettersOf t l w
+
+unfoldable pub frontAt : (t l : List ℕ) → ℕ → String
+frontAt t l f = lettered (frontLetters t l f)
+
+unfoldable pub frontedAt : (t l : List ℕ) (front : ℕ) → ℕ → String
+frontedAt t l f w = lettered (frontLetters t l f ++ lettersOf t l w)
+
 -- the word of an entry, of a part whose entries have so many numbers
 unfoldable pub entryWord : (t l : List ℕ) (part size row : ℕ) → String
 entryWord t l p n i = wordAt t l (entry t p n i 0)
@@ -104,7 +115,7 @@ module _ (t l : List ℕ) where
   -- FORMS
   unfoldable pub formBy : (form low high third : ℕ) → Form
   formBy f a b c =
-      cond (eqb f 1) (word (countUp (wordAt t l) a (b - a)))
+      cond (eqb f 1) (word (countUp (frontedAt t l c) a (b - a)))
       (cond (eqb f 2) (number dimensionList)
       (cond (eqb f 3) (number (whole a b))
       (cond (eqb f 4) (number decimal)
@@ -117,11 +128,14 @@ module _ (t l : List ℕ) where
 
   -- the words of a form that is one of words
   unfoldable pub wordsAt : ℕ → List String
-  wordsAt f = countUp (wordAt t l) (formCell t f 1) (formCell t f 2 - formCell t f 1)
+  wordsAt f = countUp (frontedAt t l (formCell t f 3)) (formCell t f 1) (formCell t f 2 - formCell t f 1)
 
-  -- the words from one up to another
-  abbrev pub wordsFrom : (from to : ℕ) → List String
-  wordsFrom from to = countUp (wordAt t l) from (to - from)
+  -- the words from one up to another, each behind the front part; and their rests
+  abbrev pub wordsFrom : (front from to : ℕ) → List String
+  wordsFrom front from to = countUp (frontedAt t l front) from (to - from)
+
+  abbrev pub restsFrom : (from to : ℕ) → List String
+  restsFrom from to = countUp (wordAt t l) from (to - from)
 
   -- ATTRIBUTES
   unfoldable pub attributeAt : ℕ → AttributeRow
@@ -172,7 +186,7 @@ module _ (t l : List ℕ) where
   rowsOf k = rowBy (textAt t k) (orderAt t k) (attributesOfKind k) (linesOfKind k)
 
 unfoldable pub tableWords : Unit {0}
-unfolding entry watched attributesFrom attributesTo linesFrom linesTo textAt orderAt lettersOf wordAt entryWord textFormBy textFormAt
+unfolding entry watched attributesFrom attributesTo linesFrom linesTo textAt orderAt lettersOf wordAt frontLetters frontAt frontedAt entryWord textFormBy textFormAt
     attributeBy choiceBy orderBy formBy formAt wordsAt attributeAt attributesOfKind watchedWord timesAt caseAt casesOf whichBy whichAt
     lineAt linesOfKind rowBy rowsOf
 tableWords = tt

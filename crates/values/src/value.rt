@@ -16,7 +16,8 @@ fn word_right(text: &[u8], v: usize, table: &[u32], letters: &[u8], form: usize)
     if table::form_cell(table, form, 0) == 1 {
         let from = table::form_cell(table, form, 1);
         let to = table::form_cell(table, form, 2);
-        return words::word_place(text, v, table, letters, from, to) < to;
+        let front = table::form_cell(table, form, 3);
+        return words::word_place(text, v, table, letters, front, from, to) < to;
     }
     true
 }

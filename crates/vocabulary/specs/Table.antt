@@ -3,10 +3,11 @@
 use mathlib.Core.List.{List, [], _∷_, _++_}
 use Prim.Native.Nat.{ℕ, _+_}
 use Prim.Native.String.{String}
-use Rattle.lists.specs.Lists.{eachIn}
-use lib.ListN.{length}
+use Rattle.lists.specs.Lists.{each, eachIn}
+use lib.ListN.{length, drop}
 use Rattle.grammar.specs.Bytes.{ascii}
 use Rattle.cifti.specs.Words.{structures, units}
+use Rattle.shape.specs.Letters.{lettered, lettering}
 
 -- attributes from, up to; children from, up to; text; order
 kinds : List ℕ
@@ -84,7 +85,7 @@ cases =
     ∷ 32 ∷ 12  -- voxels
     ∷ []
 
--- what it is; limits
+-- what it is; limits, or of words from, up to, and their front part and 1
 forms : List ℕ
 forms =
     0 ∷ 0 ∷ 0 ∷ 0  -- any value, any text
@@ -95,16 +96,24 @@ forms =
     ∷ 5 ∷ 30 ∷ 0 ∷ 0  -- an exponent
     ∷ 6 ∷ 2048 ∷ 2048 ∷ 4096  -- the sizes of a volume
     ∷ 1 ∷ 33 ∷ 37 ∷ 0  -- a unit
-    ∷ 1 ∷ 37 ∷ 69 ∷ 0  -- a structure
+    ∷ 1 ∷ 38 ∷ 70 ∷ 38  -- a structure, behind word 37
     ∷ 1 ∷ 0 ∷ 0 ∷ 0  -- text: the sixteen
     ∷ 2 ∷ 1048575 ∷ 0 ∷ 0  -- text: vertices
     ∷ 2 ∷ 4095 ∷ 0 ∷ 0  -- text: voxels
     ∷ 1 ∷ 28 ∷ 31 ∷ 0  -- a kind of map
     ∷ []
 
+-- what stands in front of every name of a structure, and the rest of each name
+front : String
+front = "CIFTI_STRUCTURE_"
+
+rests : List String
+unfolding front structures each lettering
+rests = each (λ s. lettered (drop (length (ascii front)) (ascii s))) structures
+
 -- the words, from 0
 vocabulary : List String
-unfolding structures units
+unfolding front rests units
 vocabulary =
     "Version" ∷ "AppliesToMatrixDimension" ∷ "IndicesMapToDataType" ∷ "NumberOfSeriesPoints"  -- 0
     ∷ "SeriesStart" ∷ "SeriesStep" ∷ "SeriesExponent" ∷ "SeriesUnit" ∷ "IndexOffset" ∷ "IndexCount"  -- 4
@@ -113,7 +122,7 @@ vocabulary =
     ∷ "NamedMap" ∷ "MapName" ∷ "TransformationMatrixVoxelIndicesIJKtoXYZ" ∷ "VertexIndices"  -- 23
     ∷ "VoxelIndicesIJK" ∷ "CIFTI_INDEX_TYPE_BRAIN_MODELS" ∷ "CIFTI_INDEX_TYPE_SERIES"  -- 27
     ∷ "CIFTI_INDEX_TYPE_SCALARS" ∷ "CIFTI_MODEL_TYPE_SURFACE" ∷ "CIFTI_MODEL_TYPE_VOXELS"  -- 30
-    ∷ (units ++ structures)  -- 33, 37
+    ∷ (units ++ (front ∷ rests))  -- 33, 37, 38
 
 unfoldable pub letters : List ℕ
 unfolding vocabulary eachIn

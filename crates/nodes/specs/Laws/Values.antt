@@ -19,7 +19,7 @@ use Rattle.steps.specs.declared.characters.Reference.{Reference}
 use Rattle.steps.specs.declared.characters.Reference.the-variants as reference-is
 use Rattle.nodes.specs.Places.{pick}
 use Rattle.nodes.specs.Values.{Next, a-byte, or-else, next-byte, as-char, decoded-at, value-there, tells, Decodes, decoded-byte}
-use Rattle.nodes.specs.Values.{decoded-end, value-begins, tells-none}
+use Rattle.nodes.specs.Values.{decoded-end}
 use Rattle.nodes.specs.Attributes.{place}
 use Rattle.nodes.specs.Found.{value-at-name, value-found, value-missing}
 use Rattle.nodes.specs.declared.Found.{Found}
@@ -85,32 +85,26 @@ module _ (text : List ℕ) (at q : ℕ) (h : at < length text) (nq : getD text a
 
 pub ruleset decoding = (decode-past, decode-quote, decode-reference, decode-ampersand, decode-blank, decode-plain, needs)
 
--- A VALUE AND A WORD
+-- DECODED BYTES UP TO A QUOTE, AND A WORD
 same-empty : (w : List ℕ) → same [] w ≡ eqb (length w) 0
 unfolding same
 same-empty [] = refl
 same-empty (a ∷ w) = sym (ne-eqb (length (a ∷ w)) 0 (λ e. omega arith))
 
-pub record Wording (text : List ℕ) (v : ℕ) (word : List ℕ) (q k i : ℕ) : Type 0 where
+pub record Wording (text : List ℕ) (at q : ℕ) (word : List ℕ) (k i : ℕ) : Type 0 where
   inside : k ≤ length word
-  same-word : same (value-there text v) word ≡ same (tells q (drop i text)) (drop k word)
+  same-word : same (tells q (drop at text)) word ≡ same (tells q (drop i text)) (drop k word)
 
-pub word-past : (text : List ℕ) (v : ℕ) (word : List ℕ) → length text ≤ v → eqb (length word) 0 ≡ same (value-there text v) word
-word-past text v word h =
-    let l : length text ≤ v + 1 = omega arith in
-    let e : value-there text v ≡ [] = value-begins text v ∙ rw (at-end text (v + 1) l) (tells-none _) in
-    sym (rw e (same-empty word))
+pub word-start : (text : List ℕ) (at q : ℕ) (word : List ℕ) → Wording text at q word 0 at
+word-start text at q word = record { inside = omega arith; same-word = refl }
 
-pub word-start : (text : List ℕ) (v : ℕ) (word : List ℕ) → Wording text v word (getD text v 0) 0 (v + 1)
-word-start text v word = record { inside = omega arith; same-word = rw (value-begins text v) }
-
-module _ (text : List ℕ) (v : ℕ) (word : List ℕ) (q k i : ℕ) (go : Wording text v word q k i) {c : Char}
+module _ (text : List ℕ) (at q : ℕ) (word : List ℕ) (k i : ℕ) (go : Wording text at q word k i) {c : Char}
     (ec : c ≡ decoded-at text i q) where
-  pub word-yes : c ≡ End → length word ≤ k → true ≡ same (value-there text v) word
+  pub word-yes : c ≡ End → length word ≤ k → true ≡ same (tells q (drop at text)) word
   unfolding same
   word-yes e h = sym (go .same-word ∙ rw (decoded-end text q i ec e, at-end word k h))
 
-  pub word-short : c ≡ End → k < length word → false ≡ same (value-there text v) word
+  pub word-short : c ≡ End → k < length word → false ≡ same (tells q (drop at text)) word
   unfolding same
   word-short e h = sym (go .same-word ∙ rw (decoded-end text q i ec e, at-byte word k h))
 
@@ -121,21 +115,21 @@ module _ (text : List ℕ) (v : ℕ) (word : List ℕ) (q k i : ℕ) (go : Wordi
     pub word-less : length text - j < length text - i
     word-less = omega (arith, says .inside, says .ahead)
 
-    pub word-long : length word ≤ k → false ≡ same (value-there text v) word
+    pub word-long : length word ≤ k → false ≡ same (tells q (drop at text)) word
     unfolding same
     word-long h = sym (go .same-word ∙ rw (says .splits, at-end word k h))
 
-    both : k < length word → same (value-there text v) word ≡ (eqb b (getD word k 0) && same (tells q (drop j text)) (drop (k + 1) word))
+    both : k < length word → same (tells q (drop at text)) word ≡ (eqb b (getD word k 0) && same (tells q (drop j text)) (drop (k + 1) word))
     unfolding same
     both h = go .same-word ∙ rw (says .splits, at-byte word k h)
 
-    pub word-other : k < length word → (b ≡ getD word k 0 → ⊥) → false ≡ same (value-there text v) word
+    pub word-other : k < length word → (b ≡ getD word k 0 → ⊥) → false ≡ same (tells q (drop at text)) word
     word-other h f = sym (both h ∙ rw (ne-eqb _ _ f))
 
-    pub word-more : k < length word → b ≡ getD word k 0 → Wording text v word q (k + 1) j
+    pub word-more : k < length word → b ≡ getD word k 0 → Wording text at q word (k + 1) j
     word-more h e = record { inside = omega arith; same-word = both h ∙ rw (eq-eqb _ _ e) }
 
-pub ruleset wording = (word-past, word-start, word-yes, word-short, word-less, word-long, word-other, word-more, needs)
+pub ruleset wording = (word-start, word-yes, word-short, word-less, word-long, word-other, word-more, needs)
 
 -- THE VALUE OF A NAME
 module _ (text : List ℕ) (at : ℕ) (name word : List ℕ) {f : Found} (e : f ≡ place text at name) where

@@ -13,7 +13,7 @@ use Rattle.grammar.specs.Bytes.{ascii}
 use Rattle.shape.specs.Letters.{lettered}
 use Rattle.shape.specs.Laws.Letters.{lettered-bytes}
 use Rattle.shape.specs.Asked.{Cell}
-use Rattle.shape.specs.Table.{entry, kindCell, bound, linesFrom, linesTo, textAt, lettersOf, wordAt}
+use Rattle.shape.specs.Table.{entry, kindCell, bound, linesFrom, linesTo, textAt, lettersOf, wordAt, frontLetters, frontAt}
 
 past : (l : List ℕ) (i : ℕ) → length l ≤ i → getD l i 0 ≡ 0
 past [] i h = refl
@@ -90,3 +90,22 @@ module _ (t l : List ℕ) (w : ℕ) {from to : ℕ} (f : from ≡ bound t w) (g 
       (sym (lettered-bytes (take (to - from) (drop from l)) (take-bytes (drop from l) (drop-bytes l b from) (to - from))))
 
 pub ruleset wording = (word-turned, word-out, word-there, needs)
+
+-- a front part: no letters, or those of a word
+front-so : (t l : List ℕ) (w : ℕ) → ascii (wordAt t l w) ≡ ascii (frontAt t l (suc w))
+unfolding wordAt frontAt frontLetters
+front-so t l w = refl
+
+module _ (t l : List ℕ) (front : ℕ) {r : List ℕ} where
+  pub front-none : front ≡ 0 → r ≡ take (0 - 0) (drop 0 l) → r ≡ ascii (frontAt t l front)
+  unfolding frontAt frontLetters lettered
+  front-none h e = e ∙ rw h
+
+  pub front-word : (front ≡ 0 → ⊥) → r ≡ ascii (wordAt t l (front - 1)) → r ≡ ascii (frontAt t l front)
+  front-word h e = go front h e
+    where
+      go : (n : ℕ) → (n ≡ 0 → ⊥) → r ≡ ascii (wordAt t l (n - 1)) → r ≡ ascii (frontAt t l n)
+      go zero h e = absurd (h refl)
+      go (suc n) h e = let z : suc n - 1 ≡ n = omega arith in e ∙ rw z (front-so t l n)
+
+pub ruleset fronting = (front-none, front-word, needs)

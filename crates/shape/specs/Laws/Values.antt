@@ -14,7 +14,7 @@ use Rattle.nodes.specs.Texts.{text-of, text-law}
 use Rattle.numbers.specs.Numbers.{whole, volumeDimensions, dimensionList, exponent, decimal, wholes, sixteen}
 use Rattle.schema.specs.Schema.{Form, word, number, anyValue, isWord, isNumber, isText}
 use Rattle.schema.specs.Words.{numberIn}
-use Rattle.shape.specs.Table.{wordAt, formBy, formAt, formCell, textFormBy, textFormAt}
+use Rattle.shape.specs.Table.{frontedAt, formBy, formAt, formCell, textFormBy, textFormAt}
 use Rattle.shape.specs.Faults.{fault}
 use Rattle.shape.specs.Parts.{amongWords, numberBy, textNumbered, textFault}
 use Rattle.shape.specs.Asked.{Known}
@@ -54,7 +54,7 @@ module _ (t l : List ℕ) (x : Word) where
   number-form f a b c = go (eqb f 1) refl
     where
       go : (o : Bool) → eqb f 1 ≡ o
-          → isNumber (cond o (word (countUp (wordAt t l) a (b - a)))
+          → isNumber (cond o (word (countUp (frontedAt t l c) a (b - a)))
           (cond (eqb f 2) (number dimensionList)
           (cond (eqb f 3) (number (whole a b))
           (cond (eqb f 4) (number decimal)
@@ -66,10 +66,11 @@ module _ (t l : List ℕ) (x : Word) where
       go false e = number-so x a b c (eqb f 2) (eqb f 3) (eqb f 4) (eqb f 5) (eqb f 6)
 
   module _ (f : ℕ) {id : ℕ} (i : id ≡ formCell t f 0) where
-    pub right-words : id ≡ 1 → {from : ℕ} → from ≡ formCell t f 1 → {to : ℕ} → to ≡ formCell t f 2 → {p : ℕ}
-        → p ≡ from + numberIn (countUp (wordAt t l) from (to - from)) x → ltb p to ≡ isWord (formAt t l f) x
+    pub right-words : id ≡ 1 → {from : ℕ} → from ≡ formCell t f 1 → {to : ℕ} → to ≡ formCell t f 2 → {front : ℕ}
+        → front ≡ formCell t f 3 → {p : ℕ} → p ≡ from + numberIn (countUp (frontedAt t l front) from (to - from)) x
+        → ltb p to ≡ isWord (formAt t l f) x
     unfolding formAt formBy isWord amongWords
-    right-words o {from} a {to} b k = among-found (wordAt t l) x from to k ∙ rw (← i, o, ← a, ← b)
+    right-words o {from} a {to} b {front} e k = among-found (frontedAt t l front) x from to k ∙ rw (← i, o, ← a, ← b, ← e)
 
     pub right-free : (id ≡ 1 → ⊥) → true ≡ isWord (formAt t l f) x
     unfolding formAt formBy

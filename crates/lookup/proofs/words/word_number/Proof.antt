@@ -10,5 +10,6 @@ word-number-spec =
     (λ c κs. search numbered)
     (λ c κs. search numbered)
     (λ c κs. search numbered)
+    (λ c κs. search numbered)
     (λ c. search numbered)
     (λ c. search numbered))

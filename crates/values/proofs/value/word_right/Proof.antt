@@ -10,5 +10,6 @@ word-right-spec =
     (λ c κs. search forming)
     (λ c κs. search forming)
     (λ c κs. search forming)
+    (λ c κs. search forming)
     (λ c. search forming)
     (λ c. search forming))
