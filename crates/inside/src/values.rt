@@ -48,7 +48,7 @@ pub fn rest_is(text: &[u8], at: usize, quote: u8, word: &[u8]) -> bool
     loop {
         match decoded(text, i, quote) {
             Char::Byte(b, j) => {
-                if word.len() <= k {
+                if k >= word.len() {
                     return false;
                 }
                 if b != word[k] {
@@ -92,15 +92,15 @@ pub fn begins(text: &[u8], v: usize, front: &[u8]) -> Found
     ensures { λ r. ⌜ r ≡ begins-at (now (text .entry)) v (now (front .entry)) ⌝ }
 {
     let q = quote_at(text, v);
-    let mut k = 0;
+    let mut met = 0;
     let mut i = behind_quote(text, v);
-    while k < front.len() {
+    while met < front.len() {
         match decoded(text, i, q) {
             Char::Byte(b, j) => {
-                if b != front[k] {
+                if b != front[met] {
                     return Found::Nothing;
                 }
-                k += 1;
+                met += 1;
                 i = j;
             }
             Char::End => {

@@ -1,8 +1,6 @@
 // CIFTI's table of rows, lent to the walk: conditions 3, 6 and 7 of any text, and the numbers of the words that the paper names.
 use lookup::words::word_number;
 use shape::Checked;
-use table::LETTERS;
-use table::TABLE;
 ghost use mathlib.Core.Path.{_≡_};
 ghost use Rattle.nodes.specs.Values.{value-there};
 ghost use Rattle.cifti.specs.Words.{structures, units, numberIn};
@@ -18,8 +16,8 @@ mod table;
 pub fn checked(text: &[u8]) -> Checked
     ensures { λ r. ⌜ ChecksCifti (now (text .entry)) r ⌝ }
 {
-    let table = TABLE;
-    let letters = LETTERS;
+    let table = table::numbers();
+    let letters = table::letters();
     walk::check(text, &table, &letters, 0)
 }
 
@@ -27,8 +25,8 @@ pub fn checked(text: &[u8]) -> Checked
 fn named(text: &[u8], v: usize, form: u32) -> u64
     ensures { λ r. ⌜ r ≡ numberIn (wordsAt table letters form) (value-there (now (text .entry)) v) ⌝ }
 {
-    let table = TABLE;
-    let letters = LETTERS;
+    let table = table::numbers();
+    let letters = table::letters();
     word_number(text, v, &table, &letters, form)
 }
 

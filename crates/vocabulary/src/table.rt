@@ -1,6 +1,10 @@
-// CIFTI's table: all its rows, words and limits, as tools/cifti_table writes them from specs/Table.antt.
+// CIFTI's table: all its rows, words and limits, as tools/cifti_table writes them from specs/Table.antt. A constant costs code
+// wherever it is laid out, so each is laid out by one function.
+ghost use mathlib.Core.Path.{_≡_};
+ghost use Rattle.vocabulary.specs.Table.{table, letters as lettersOf};
+
 // Where each part begins and the watched word; kinds; attributes; children; choices; cases; words; forms.
-pub(crate) const TABLE: [u32; 340] = [
+const TABLE: [u32; 340] = [
     8,
     98,
     143,
@@ -344,5 +348,17 @@ pub(crate) const TABLE: [u32; 340] = [
 ];
 
 // The letters of the words, one behind the other.
-pub(crate) const LETTERS: [u8; 1018] =
+const LETTERS: [u8; 1018] =
     *b"VersionAppliesToMatrixDimensionIndicesMapToDataTypeNumberOfSeriesPointsSeriesStartSeriesStepSeriesExponentSeriesUnitIndexOffsetIndexCountModelTypeBrainStructureSurfaceNumberOfVerticesVolumeDimensionsMeterExponentMatrixMetaDataMatrixIndicesMapMDNameValueBrainModelVolumeNamedMapMapNameTransformationMatrixVoxelIndicesIJKtoXYZVertexIndicesVoxelIndicesIJKCIFTI_INDEX_TYPE_BRAIN_MODELSCIFTI_INDEX_TYPE_SERIESCIFTI_INDEX_TYPE_SCALARSCIFTI_MODEL_TYPE_SURFACECIFTI_MODEL_TYPE_VOXELSSECONDHERTZMETERRADIANCIFTI_STRUCTURE_ACCUMBENS_LEFTACCUMBENS_RIGHTALL_WHITE_MATTERALL_GREY_MATTERAMYGDALA_LEFTAMYGDALA_RIGHTBRAIN_STEMCAUDATE_LEFTCAUDATE_RIGHTCEREBELLAR_WHITE_MATTER_LEFTCEREBELLAR_WHITE_MATTER_RIGHTCEREBELLUMCEREBELLUM_LEFTCEREBELLUM_RIGHTCEREBRAL_WHITE_MATTER_LEFTCEREBRAL_WHITE_MATTER_RIGHTCORTEXCORTEX_LEFTCORTEX_RIGHTDIENCEPHALON_VENTRAL_LEFTDIENCEPHALON_VENTRAL_RIGHTHIPPOCAMPUS_LEFTHIPPOCAMPUS_RIGHTOTHEROTHER_GREY_MATTEROTHER_WHITE_MATTERPALLIDUM_LEFTPALLIDUM_RIGHTPUTAMEN_LEFTPUTAMEN_RIGHTTHALAMUS_LEFTTHALAMUS_RIGHT";
+
+pub(crate) fn numbers() -> [u32; 340]
+    ensures { λ r. ⌜ r ≡ table ⌝ }
+{
+    TABLE
+}
+
+pub(crate) fn letters() -> [u8; 1018]
+    ensures { λ r. ⌜ r ≡ lettersOf ⌝ }
+{
+    LETTERS
+}

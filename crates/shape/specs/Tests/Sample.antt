@@ -13,10 +13,12 @@ use Rattle.grammar.specs.Parser.{parse, computing}
 use Rattle.grammar.specs.Look.{looks}
 use Rattle.numbers.specs.Numbers as N
 use Rattle.numbers.specs.Numbers.{whole}
-use Rattle.schema.specs.Schema.{schema, anyValue, number, required, optional, anyText, atMostOnce, anyTimes, atLeastOnce, neededBelow}
+use Rattle.schema.specs.Words.{numberIn}
+use Rattle.schema.specs.Schema.{schema, anyValue, word, number, required, optional, anyText, atMostOnce, anyTimes, atLeastOnce}
+use Rattle.schema.specs.Schema.{neededBelow}
 use Rattle.schema.specs.Schema.{_⇒_, always, chosenElse, child, anyOrder, inOrder, Row, branch, leaf}
 use Rattle.shape.specs.Letters.{lettering}
-use Rattle.shape.specs.Table.{tableWords, rowsOf}
+use Rattle.shape.specs.Table.{tableWords, rowsOf, formAt, wordsAt}
 use Rattle.shape.specs.Faults.{fault, faultOf}
 
 unfoldable table : List ℕ
@@ -32,6 +34,7 @@ table =
     ∷ 8 ∷ 3  -- its case
     ∷ 0 ∷ 5 ∷ 9 ∷ 13 ∷ 18 ∷ 25 ∷ 29 ∷ 34 ∷ 39 ∷ 46  -- words
     ∷ 0 ∷ 0 ∷ 0 ∷ 0 ∷ 3 ∷ 1 ∷ 9999 ∷ 0 ∷ 3 ∷ 1 ∷ 99 ∷ 0  -- forms
+    ∷ 1 ∷ 6 ∷ 8 ∷ 6 ∷ 1 ∷ 6 ∷ 8 ∷ 0  -- words behind `part`, and the same without it
     ∷ []
 
 unfoldable letters : List ℕ
@@ -64,6 +67,33 @@ prose = refl
 picture : rowsOf table letters 3 ≡ branch (required "kind" anyValue ∷ required "width" (number (whole 1 99)) ∷ []) anyOrder []
 unfolding sampling
 picture = refl
+
+-- ---- Words, with their front part and without.
+
+fronted : formAt table letters 3 ≡ word ("partindex" ∷ "partentry" ∷ [])
+unfolding sampling
+fronted = refl
+
+bare : formAt table letters 4 ≡ word ("index" ∷ "entry" ∷ [])
+unfolding sampling
+bare = refl
+
+-- the number of a word; that of a rest alone, of the front part alone and of what goes on behind a word is their number
+fronted-number : numberIn (wordsAt table letters 3) (ascii "partentry") ≡ 1
+unfolding sampling numberIn
+fronted-number = refl
+
+rest-alone : numberIn (wordsAt table letters 3) (ascii "entry") ≡ 2
+unfolding sampling numberIn
+rest-alone = refl
+
+front-alone : numberIn (wordsAt table letters 3) (ascii "part") ≡ 2
+unfolding sampling numberIn
+front-alone = refl
+
+goes-on : numberIn (wordsAt table letters 3) (ascii "partindexed") ≡ 2
+unfolding sampling numberIn
+goes-on = refl
 
 -- ---- Texts, and their faults; 3 where a text is no document.
 

@@ -6,6 +6,7 @@ use mathlib.Core.Option
 use mathlib.Core.Bool.{Bool, true, false, not, cond}
 use Prim.Native.Nat.{ℕ, zero, suc}
 use lib.ListN.{getD}
+use borrow.Author.Needs.{needs}
 use Rattle.lists.specs.Lists.{countUp, each}
 use Rattle.grammar.specs.Document.{Element}
 use Rattle.grammar.specs.Look.{Word}
@@ -95,7 +96,7 @@ root-fault : (e : Element) → faultOf table letters 0 e ≡ rootFault e
 unfolding rootFault shapeWrong numberWrong faultOf elementNumber
 root-fault e = rw (shape-is e, number-is e) (fault-so (everywhere rows shaped cifti e) (everywhere rows numbered cifti e))
 
-pub cifti-checked : {text : List ℕ} {r : Checked} → Checks table letters 0 text r → ChecksCifti text r
+cifti-checked : {text : List ℕ} {r : Checked} → Checks table letters 0 text r → ChecksCifti text r
 cifti-checked {text} {r} c = record {
   unwritten = λ n. c .none (λ e w. never-some (sym n ∙ parse-iff text e .1 w));
   written = λ e p. judged e p (c .some-one e (parse-iff text e .0 p));
@@ -108,3 +109,13 @@ cifti-checked {text} {r} c = record {
       stands = j .stands;
       fault-is = j .number-is ∙ root-fault e ∙ ap rootFault (sym (j .root-is));
     }
+
+-- as the code lends it
+module _ {t l : List ℕ} (te : t ≡ table) (le : l ≡ letters) where
+  pub lent-checked : {text : List ℕ} {r : Checked} → Checks t l 0 text r → ChecksCifti text r
+  lent-checked c = cifti-checked (rw (te, le) at c)
+
+  pub lent-number : (f : ℕ) (x : Word) {r : ℕ} → r ≡ numberIn (wordsAt t l f) x → r ≡ numberIn (wordsAt table letters f) x
+  lent-number f x e = e ∙ rw (te, le)
+
+pub ruleset lending = (lent-checked, lent-number, needs)

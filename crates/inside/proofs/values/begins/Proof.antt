@@ -5,10 +5,10 @@ use Rattle.inside.proofs.values.begins.Statement.{statement}
 use Rattle.inside.proofs.values.begins.Tie as tie
 
 abbrev Inv-loop : tie.InvT-loop
-Inv-loop text v front q k₀ i₀ k i = Fronting text v front q k i
+Inv-loop text v front q met₀ i₀ met i = Fronting text v front q met i
 
 abbrev μ-loop : tie.MeasureT-loop
-μ-loop text v front q k₀ i₀ k i = length front - k
+μ-loop text v front q met₀ i₀ met i = length front - met
 
 pub begins-spec : {M : Type 1} → statement M
 begins-spec =
