@@ -186,7 +186,7 @@ module _ (t l : List ℕ) where
   rowsOf k = rowBy (textAt t k) (orderAt t k) (attributesOfKind k) (linesOfKind k)
 
 unfoldable pub tableWords : Unit {0}
-unfolding entry watched attributesFrom attributesTo linesFrom linesTo textAt orderAt lettersOf wordAt frontLetters frontAt frontedAt entryWord textFormBy textFormAt
-    attributeBy choiceBy orderBy formBy formAt wordsAt attributeAt attributesOfKind watchedWord timesAt caseAt casesOf whichBy whichAt
-    lineAt linesOfKind rowBy rowsOf
+unfolding entry watched attributesFrom attributesTo linesFrom linesTo textAt orderAt lettersOf wordAt frontLetters frontAt frontedAt
+    entryWord textFormBy textFormAt attributeBy choiceBy orderBy formBy formAt wordsAt attributeAt attributesOfKind watchedWord timesAt
+    caseAt casesOf whichBy whichAt lineAt linesOfKind rowBy rowsOf
 tableWords = tt

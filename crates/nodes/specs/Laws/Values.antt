@@ -119,7 +119,8 @@ module _ (text : List ℕ) (at q : ℕ) (word : List ℕ) (k i : ℕ) (go : Word
     unfolding same
     word-long h = sym (go .same-word ∙ rw (says .splits, at-end word k h))
 
-    both : k < length word → same (tells q (drop at text)) word ≡ (eqb b (getD word k 0) && same (tells q (drop j text)) (drop (k + 1) word))
+    both : k < length word
+        → same (tells q (drop at text)) word ≡ (eqb b (getD word k 0) && same (tells q (drop j text)) (drop (k + 1) word))
     unfolding same
     both h = go .same-word ∙ rw (says .splits, at-byte word k h)
 

@@ -1,7 +1,6 @@
 -- FRONT PARTS of values, computed: any bytes and places, also where the value ends too soon or there is none.
 use mathlib.Core.Path.{_≡_, refl}
-use mathlib.Core.List.{List, []}
-use Prim.Native.Nat.{ℕ}
+use mathlib.Core.List.{[]}
 use Prim.Native.String.{String}
 use Rattle.grammar.specs.Bytes.{ascii}
 use Rattle.grammar.specs.Parser.{computing}

@@ -1,7 +1,7 @@
 -- The number of a word of a form: by its front part, and by its rest.
 use mathlib.Core.Path.{_≡_, refl, ap, ap₂, sym, _∙_}
 use mathlib.Core.List.{List, [], _∷_, _++_}
-use mathlib.Core.Bool.{Bool, true, false, _&&_, cond}
+use mathlib.Core.Bool.{Bool, true, false, _&&_, cond, false≢true}
 use Prim.Native.Nat.{ℕ, zero, suc, _+_, _-_, _<_, _≤_}
 use native.Mathlib.Omega.{arith}
 use lib.Dec.{eqb}
@@ -34,7 +34,7 @@ same-behind (a ∷ f) x w = rw (eq-eqb a a refl) (same-behind f x w)
 
 other-front : (f x w : List ℕ) → begins f x ≡ false → same x (f ++ w) ≡ false
 unfolding same begins
-other-front [] x w h = absurd (mathlib.Core.Bool.false≢true (sym h))
+other-front [] x w h = absurd (false≢true (sym h))
 other-front (a ∷ f) [] w h = refl
 other-front (a ∷ f) (b ∷ x) w h = go (eqb b a) h (λ k. other-front f x w k)
   where
