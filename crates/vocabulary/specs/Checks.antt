@@ -1,17 +1,21 @@
--- What CIFTI's table says of a text: conditions 3, 6 and 7.
+-- What CIFTI's table says of a text: conditions 3, 6 and 7, and the numbers of words.
 use mathlib.Core.Path.{_≡_}
 use mathlib.Core.List.{List}
 use mathlib.Core.Option.{Option, some}
 use mathlib.Core.Option
-use mathlib.Core.Bool.{cond}
+use mathlib.Core.Bool.{Bool, true, false, cond}
 use Prim.Native.Nat.{ℕ}
 use Rattle.grammar.specs.Document.{Element}
 use Rattle.grammar.specs.Parser.{parse}
 use Rattle.nodes.specs.Places.{Stands, the}
 use Rattle.nodes.specs.Root.{root}
+use Rattle.nodes.specs.Values.{value-there}
 use Rattle.nodes.specs.declared.Kid.the-variants.{Child}
 use Rattle.cifti.specs.Conditions.{shapeWrong, numberWrong}
+use Rattle.cifti.specs.Words.{numberIn}
+use Rattle.shape.specs.Table.{wordsAt}
 use Rattle.shape.specs.declared.Checked.{Checked}
+use Rattle.vocabulary.specs.Table.{table, letters}
 
 -- 6 or 7, whichever applies first to a root, or 0
 unfoldable pub rootFault : Element → ℕ
@@ -28,3 +32,8 @@ pub record Judged (text : List ℕ) (at fault : ℕ) : Type 0 where
 pub record ChecksCifti (text : List ℕ) (r : Checked) : Type 0 where
   pub unwritten : parse text ≡ Option.none → (r .number ≡ 3) × (r .root ≡ 0)
   pub written : (e : Element) → parse text ≡ some e → Judged text (r .root) (r .number)
+
+-- the answer to what is asked: conditions 3, 6 and 7, or the number of the value at v among the words of a form
+pub record Answers (text : List ℕ) (conditions : Bool) (v form : ℕ) (checked : Checked) (number : ℕ) : Type 0 where
+  pub checked-so : conditions ≡ true → ChecksCifti text checked
+  pub number-is : conditions ≡ false → number ≡ numberIn (wordsAt table letters form) (value-there text v)

@@ -7,27 +7,48 @@ ghost use Rattle.cifti.specs.Words.{structures, units, numberIn};
 ghost use Rattle.cifti.specs.Maps.{wordsOfKinds};
 ghost use Rattle.shape.specs.Table.{wordsAt};
 ghost use Rattle.vocabulary.specs.Table.{table, letters};
-ghost use Rattle.vocabulary.specs.Checks.{ChecksCifti};
+ghost use Rattle.vocabulary.specs.Checks.{ChecksCifti, Answers};
 
 // The numbers and letters.
 mod table;
+
+// An answer: conditions 3, 6 and 7, or a number among words. Only what was asked for is promised.
+struct Answer {
+    checked: Checked,
+    number: u64,
+}
+
+// Conditions 3, 6 and 7 of the text where they are asked for; else the place of the value at `v` among the words of a form of the
+// table, or their number. Both are asked here, so that the table is laid out in one place of the compiled library.
+fn asked(text: &[u8], conditions: bool, v: usize, form: u32) -> Answer
+    ensures { λ r. ⌜ Answers (now (text .entry)) conditions v form (r .checked) (r .number) ⌝ }
+{
+    let table = table::numbers();
+    let letters = table::letters();
+    if conditions {
+        return Answer {
+            checked: walk::check(text, &table, &letters, 0),
+            number: 0,
+        };
+    }
+    Answer {
+        checked: Checked { number: 3, root: 0 },
+        number: word_number(text, v, &table, &letters, form),
+    }
+}
 
 // Conditions 3, 6 and 7.
 pub fn checked(text: &[u8]) -> Checked
     ensures { λ r. ⌜ ChecksCifti (now (text .entry)) r ⌝ }
 {
-    let table = table::numbers();
-    let letters = table::letters();
-    walk::check(text, &table, &letters, 0)
+    asked(text, true, 0, 0).checked
 }
 
 // The place of the value at `v` among the words of a form of the table, or their number.
 fn named(text: &[u8], v: usize, form: u32) -> u64
     ensures { λ r. ⌜ r ≡ numberIn (wordsAt table letters form) (value-there (now (text .entry)) v) ⌝ }
 {
-    let table = table::numbers();
-    let letters = table::letters();
-    word_number(text, v, &table, &letters, form)
+    asked(text, false, v, form).number
 }
 
 // The structure that the value at `v` names; 32 where it names none.

@@ -3,7 +3,7 @@ use mathlib.Core.Path.{_≡_, refl, ap, ap₂, sym, _∙_}
 use mathlib.Core.List.{List, [], _∷_}
 use mathlib.Core.Option.{Option, some}
 use mathlib.Core.Option
-use mathlib.Core.Bool.{Bool, true, false, not, cond}
+use mathlib.Core.Bool.{Bool, true, false, not, cond, true≢false}
 use Prim.Native.Nat.{ℕ, zero, suc}
 use lib.ListN.{getD}
 use borrow.Author.Needs.{needs}
@@ -13,6 +13,7 @@ use Rattle.grammar.specs.Look.{Word}
 use Rattle.grammar.specs.Parser.{parse}
 use Rattle.grammar.specs.Laws.Theorems.{parse-iff}
 use Rattle.lists.specs.Laws.Booleans.{never-some}
+use Rattle.nodes.specs.Values.{value-there}
 use Rattle.nodes.specs.Places.{Stands, the}
 use Rattle.nodes.specs.Root.{root}
 use Rattle.nodes.specs.declared.Kid.the-variants.{Child}
@@ -27,7 +28,7 @@ use Rattle.shape.specs.Faults.{fault, faultOf}
 use Rattle.shape.specs.Checked.{Checks, Judges}
 use Rattle.shape.specs.declared.Checked.{Checked}
 use Rattle.vocabulary.specs.Table.{table, letters}
-use Rattle.vocabulary.specs.Checks.{rootFault, Judged, ChecksCifti}
+use Rattle.vocabulary.specs.Checks.{rootFault, Judged, ChecksCifti, Answers}
 use Rattle.schema.specs.Laws.Renamed.{rowNamed, renaming, shaped-named, numbered-named, walk-named}
 
 -- one computed equation over all kinds
@@ -110,12 +111,18 @@ cifti-checked {text} {r} c = record {
       fault-is = j .number-is ∙ root-fault e ∙ ap rootFault (sym (j .root-is));
     }
 
--- as the code lends it
-module _ {t l : List ℕ} (te : t ≡ table) (le : l ≡ letters) where
-  pub lent-checked : {text : List ℕ} {r : Checked} → Checks t l 0 text r → ChecksCifti text r
-  lent-checked c = cifti-checked (rw (te, le) at c)
+-- as the code lends it, and what it is asked
+module _ {t l : List ℕ} (te : t ≡ table) (le : l ≡ letters) {text : List ℕ} {asked : Bool} {v f n : ℕ} {r : Checked} where
+  pub lent-checked : asked ≡ true → Checks t l 0 text r → Answers text asked v f r n
+  lent-checked h c = record {
+    checked-so = λ _. cifti-checked (rw (te, le) at c);
+    number-is = λ no. absurd (true≢false (sym h ∙ no));
+  }
 
-  pub lent-number : (f : ℕ) (x : Word) {r : ℕ} → r ≡ numberIn (wordsAt t l f) x → r ≡ numberIn (wordsAt table letters f) x
-  lent-number f x e = e ∙ rw (te, le)
+  pub lent-number : asked ≡ false → n ≡ numberIn (wordsAt t l f) (value-there text v) → Answers text asked v f r n
+  lent-number h e = record {
+    checked-so = λ yes. absurd (true≢false (sym yes ∙ h));
+    number-is = λ _. e ∙ rw (te, le);
+  }
 
 pub ruleset lending = (lent-checked, lent-number, needs)
