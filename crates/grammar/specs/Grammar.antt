@@ -1,5 +1,6 @@
 -- THE GRAMMAR: `Writes e s` says that the bytes `s` may write the document whose root is `e`. It is a relation, production by production;
--- `_⊹_` is one text after another. Nothing here reads: no production looks at what stands behind it, but for the one on `]]>`.
+-- `_⊹_` is one text after another. Nothing here reads: no production looks at what stands behind it, but for the one on `]]>` and for a
+-- carriage return, which is no end of a line by itself where a line feed stands right behind it (`parted`).
 use mathlib.Core.Path.{_≡_, refl}
 use mathlib.Core.Logic.{_≢_}
 use mathlib.Core.List.{List, [], _∷_, _++_}
@@ -7,7 +8,7 @@ use Prim.Native.Nat.{ℕ, suc, _≤_}
 use mathlib.Core.Bool.{Bool, true, false}
 use lib.Dec.{eqb}
 use lib.ListN.{length}
-use Rattle.grammar.specs.Bytes.{_⊹_, ascii, blank, nameStart, nameByte, quote, special, Each, Sequence, begins}
+use Rattle.grammar.specs.Bytes.{_⊹_, ascii, blank, nameStart, nameByte, quote, special, Each, Sequence, Row, begins, parted}
 use Rattle.grammar.specs.Characters.{Character}
 use Rattle.grammar.specs.Document.{Attribute, attribute, Element, element, Contents, nothing, child, run, merged, together}
 
@@ -31,20 +32,28 @@ pub data Reference : List ℕ → List ℕ → Type 0 where
   quot : Reference (ascii "\"") (ascii "&quot;")
   apos : Reference (ascii "'") (ascii "&apos;")
 
--- A character of text, as it is read and as it is written.
+-- The end of a line: a carriage return with a line feed right behind it, or a carriage return alone. (A line feed alone is a character
+-- like others.)
+pub data LineEnd : List ℕ → Type 0 where
+  pair : LineEnd (ascii "\r\n")
+  lone : LineEnd (ascii "\r")
+
+-- A character of text, as it is read and as it is written: the end of a line reads as a line feed.
 pub data TextCharacter : List ℕ → List ℕ → Type 0 where
-  literal : {a : ℕ} {w : List ℕ} → Character a w → special a ≡ false → TextCharacter (a ∷ w) (a ∷ w)
+  literal : {a : ℕ} {w : List ℕ} → Character a w → special a ≡ false → eqb a 13 ≡ false → TextCharacter (a ∷ w) (a ∷ w)
+  line-end : {w : List ℕ} → LineEnd w → TextCharacter (ascii "\n") w
   reference : {b w : List ℕ} → Reference b w → TextCharacter b w
 
--- A character of a value between two quotes `q`: a blank reads as a space.
+-- A character of a value between two quotes `q`: a blank reads as a space, and so does the end of a line.
 pub data ValueCharacter (q : ℕ) : List ℕ → List ℕ → Type 0 where
   literal : {a : ℕ} {w : List ℕ} → Character a w → special a ≡ false → eqb a q ≡ false → blank a ≡ false → ValueCharacter q (a ∷ w) (a ∷ w)
-  space : {a : ℕ} → blank a ≡ true → ValueCharacter q (ascii " ") (a ∷ [])
+  space : {a : ℕ} → blank a ≡ true → eqb a 13 ≡ false → ValueCharacter q (ascii " ") (a ∷ [])
+  line-end : {w : List ℕ} → LineEnd w → ValueCharacter q (ascii " ") w
   reference : {b w : List ℕ} → Reference b w → ValueCharacter q b w
 
 -- A value in quotes.
 pub data Value : List ℕ → List ℕ → Type 0 where
-  value : (q : ℕ) {bs : List (List ℕ)} {w : List ℕ} → quote q ≡ true → Sequence (ValueCharacter q) bs w
+  value : (q : ℕ) {bs : List (List ℕ)} {w : List ℕ} → quote q ≡ true → Row (ValueCharacter q) parted bs w
       → Value (together bs) ((q ∷ []) ⊹ w ⊹ (q ∷ []))
 
 -- An attribute, with the blanks before it.
@@ -88,8 +97,8 @@ mutual
   pub data WritesContents : ℕ → Contents → List ℕ → Type 0 where
     none : {d : ℕ} → WritesContents d nothing []
     remark : {d : ℕ} {c : Contents} {w s : List ℕ} → Comment w → WritesContents d c s → WritesContents d c (w ⊹ s)
-    character : {d : ℕ} {c : Contents} {b w s : List ℕ} → TextCharacter b w → begins (ascii "]]>") (w ⊹ s) ≡ false → WritesContents d c s
-        → WritesContents d (merged b c) (w ⊹ s)
+    character : {d : ℕ} {c : Contents} {b w s : List ℕ} → TextCharacter b w → parted w s ≡ false → begins (ascii "]]>") (w ⊹ s) ≡ false
+        → WritesContents d c s → WritesContents d (merged b c) (w ⊹ s)
     inner : {d : ℕ} {e : Element} {c : Contents} {w s : List ℕ} → WritesElement d e w → WritesContents d c s
         → WritesContents d (child e c) (w ⊹ s)
 

@@ -91,19 +91,39 @@ reference-at s =
     (alt (standsFor (ascii "&gt;") (ascii ">") s)
     (alt (standsFor (ascii "&quot;") (ascii "\"") s) (standsFor (ascii "&apos;") (ascii "'") s))))
 
+-- a line feed, or nothing where none stands: `v` either way
+unfoldable pub feed-if : Bool → List ℕ → Reader (List ℕ)
+feed-if true v = standsFor (ascii "\n") v
+feed-if false v = pure v
+
+unfoldable pub feed-at : List ℕ → Reader (List ℕ)
+feed-at v s = feed-if (begins (ascii "\n") s) v s
+
+-- a carriage return, and the line feed right behind it if one stands there
+unfoldable pub line-end-at : List ℕ → Reader (List ℕ)
+line-end-at v = do
+  mark (ascii "\r")
+  feed-at v
+
+unfoldable pub text-byte : ℕ → Bool
+text-byte a = not (special a) && not (eqb a 13)
+
 unfoldable pub text-at : Reader (List ℕ)
-text-at s = alt (reference-at s) (literal-at (λ a. not (special a)) s)
+text-at s = alt (reference-at s) (alt (line-end-at (ascii "\n") s) (literal-at text-byte s))
+
+unfoldable pub spacing : ℕ → Bool
+spacing a = blank a && not (eqb a 13)
 
 unfoldable pub space-at : Reader (List ℕ)
 space-at = do
-  byte blank
+  byte spacing
   pure (ascii " ")
 
 unfoldable pub value-byte : ℕ → ℕ → Bool
 value-byte q a = not (special a) && (not (eqb a q) && not (blank a))
 
 unfoldable pub value-character-at : ℕ → Reader (List ℕ)
-value-character-at q s = alt (reference-at s) (alt (space-at s) (literal-at (value-byte q) s))
+value-character-at q s = alt (reference-at s) (alt (line-end-at (ascii " ") s) (alt (space-at s) (literal-at (value-byte q) s)))
 
 unfoldable pub value-at : Reader (List ℕ)
 value-at = do
@@ -298,10 +318,10 @@ parse s = answer (document-at (length s) s)
 
 -- the parser with all that it calls open: `unfolding computing` lets a proof compute `parse` at a text that is given
 unfoldable pub computing : List ℕ → Option Element
-unfolding name-at gap-at equals-at width-by width rest-by rest-at literal-at standsFor reference-at text-at space-at value-byte
-    value-character-at value-at attribute-at ends closing same absent distinct attributes-at no-dash plain-at dashed-at remark-at
-    comment-at look-by look₂ look-if look empty-at full-at element-at contents-by contents-at setting-at asking encoding-if
-    declaration-if declaration-at blank-at remarked-at aside-at no-aside end-at document-at answer parse bind test mark byte span stops
-    alt many-step many all-of seen before blank letter nameStart nameByte quote special begins lead1 continues lead2 lead3 lead4
-    noncharacter merged
+unfolding name-at gap-at equals-at width-by width rest-by rest-at literal-at standsFor reference-at feed-if feed-at line-end-at text-byte
+    text-at spacing space-at value-byte value-character-at value-at attribute-at ends closing same absent distinct attributes-at no-dash
+    plain-at dashed-at remark-at comment-at look-by look₂ look-if look empty-at full-at element-at contents-by contents-at setting-at
+    asking encoding-if declaration-if declaration-at blank-at remarked-at aside-at no-aside end-at document-at answer parse bind test
+    mark byte span stops alt many-step many all-of seen before blank letter nameStart nameByte quote special begins lead1 continues
+    lead2 lead3 lead4 noncharacter merged
 computing s = parse s

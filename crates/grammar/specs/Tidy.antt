@@ -35,7 +35,8 @@ reference-filled Grammar.quot = filled
 reference-filled Grammar.apos = filled
 
 text-filled : {b w : List ℕ} → TextCharacter b w → Filled b
-text-filled (TextCharacter.literal h e) = filled
+text-filled (TextCharacter.literal h e f) = filled
+text-filled (TextCharacter.line-end k) = filled
 text-filled (TextCharacter.reference k) = reference-filled k
 
 joined-tidy : {d : ℕ} {b : List ℕ} {c : Contents} → Filled b → Tidy d c → Tidy d (merged b c)
@@ -54,7 +55,7 @@ element-tidy t = elim t as (λ d e w _. TidyElement d e) (λ d c w _. Tidy d c) 
   | Grammar.empty nm at hu ↦ tidy-tag nm at tidy-nothing
   | Grammar.none ↦ tidy-nothing
   | Grammar.remark k (t → ih) ↦ ih
-  | Grammar.character k e (t → ih) ↦ joined-tidy (text-filled k) ih
+  | Grammar.character k p e (t → ih) ↦ joined-tidy (text-filled k) ih
   | Grammar.inner (k → ih₁) (t → ih₂) ↦ tidy-child ih₁ ih₂
 ]
 

@@ -1,6 +1,7 @@
 // Values of attributes.
 use super::characters::reference_end;
 use super::characters::wide_character_end;
+use letters::blanks::feed_end;
 use letters::classes::is_blank;
 use letters::classes::is_quote;
 use steps::Step;
@@ -23,6 +24,9 @@ fn odd_in_value_end(text: &[u8], at: usize, q: u8) -> Step
     let b = text[at];
     if b == b'&' {
         return reference_end(text, at);
+    }
+    if b == b'\r' {
+        return Step::To(feed_end(text, at + 1));
     }
     if is_blank(b) {
         return Step::To(at + 1);

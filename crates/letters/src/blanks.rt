@@ -3,9 +3,9 @@ use super::classes::is_blank;
 use steps::Step;
 ghost use mathlib.Core.Path.{_≡_};
 ghost use lib.ListN.{length, drop};
-ghost use Rattle.grammar.specs.Bytes.{blank, begins};
+ghost use Rattle.grammar.specs.Bytes.{ascii, blank, begins};
 ghost use Rattle.grammar.specs.Read.{span, mark};
-ghost use Rattle.grammar.specs.Parser.{gap-at, equals-at, ends, closing, asking};
+ghost use Rattle.grammar.specs.Parser.{gap-at, equals-at, feed-at, ends, closing, asking};
 ghost use Rattle.steps.specs.Step.{stepped};
 
 // Where the blanks at `at` end.
@@ -33,6 +33,19 @@ pub fn gap_end(text: &[u8], at: usize) -> Step
         return Step::No;
     }
     Step::To(blanks_end(text, at + 1))
+}
+
+// Where the end of a line ends, `at` behind its carriage return: behind the line feed, if one stands there.
+pub fn feed_end(text: &[u8], at: usize) -> usize
+    ensures { λ r. ⌜ Step.To r ≡ stepped (length (now (text .entry))) (feed-at (ascii "\n") (drop at (now (text .entry)))) ⌝ }
+{
+    if text.len() <= at {
+        return text.len();
+    }
+    if text[at] == b'\n' {
+        return at + 1;
+    }
+    at
 }
 
 // `=`, with blanks round it.

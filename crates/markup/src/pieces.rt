@@ -2,6 +2,7 @@
 use heads::characters::character_end;
 use heads::characters::reference_end;
 use heads::comments::comment_end;
+use letters::blanks::feed_end;
 use letters::blanks::starts;
 use steps::Step;
 use steps::pieces::Between;
@@ -37,7 +38,7 @@ pub fn front_at(text: &[u8], at: usize) -> Front
     Front::Start
 }
 
-// One character of text, or one reference.
+// One character of text, one reference, or one end of a line.
 pub fn text_end(text: &[u8], at: usize) -> Step
     ensures { λ r. ⌜ r ≡ stepped (length (now (text .entry))) (text-at (drop at (now (text .entry)))) ⌝ }
 {
@@ -47,6 +48,9 @@ pub fn text_end(text: &[u8], at: usize) -> Step
     let b = text[at];
     if b == b'&' {
         return reference_end(text, at);
+    }
+    if b == b'\r' {
+        return Step::To(feed_end(text, at + 1));
     }
     if b == b'<' {
         return Step::No;

@@ -3,6 +3,7 @@ pub mod Characters
 pub mod Until
 pub mod References
 pub mod Comments
+pub mod Feeds
 pub mod Values
 pub mod Keys
 pub mod Heads
@@ -10,6 +11,7 @@ pub mod Noted
 pub mod Attributes
 pub mod Parsing
 pub mod Pieces
+pub mod Between
 pub mod Tags
 pub mod Prologue
 pub mod Elements

@@ -10,7 +10,7 @@ use native.Mathlib.Omega.{arith}
 use borrow.Author.Tests.{eq-eqb, ne-eqb, not-true}
 use Rattle.lists.specs.Laws.Booleans.{or-left, not-so}
 use Rattle.grammar.specs.Bytes.{_⊹_, ascii, blank, nameStart, nameByte, letter, quote, special, Each, no-byte, a-byte, Sequence}
-use Rattle.grammar.specs.Bytes.{no-more, one-more, begins}
+use Rattle.grammar.specs.Bytes.{no-more, one-more, begins, parted}
 use Rattle.grammar.specs.Document.{Attribute, attribute, Element, element, Contents, nothing, child, merged}
 use Rattle.grammar.specs.Grammar
 use Rattle.grammar.specs.Grammar.{Name, Gap, Equals, Reference, TextCharacter, Attributes, Comment, WritesElement, WritesContents}
@@ -20,8 +20,8 @@ use Rattle.grammar.specs.Read.{mark-complete, mark-other, byte-complete,
 use Rattle.grammar.specs.Read.{with-fuel, seen-complete}
 use Rattle.grammar.specs.Laws.Facts.{blank-in, nameStart-in}
 use Rattle.grammar.specs.Laws.Tokens.{name-complete, gap-complete, equals-complete, blanks-end-name, high-no-blank}
-use Rattle.grammar.specs.Laws.Tokens.{quote-ends-blanks, text-complete, text-long, ends-blanks, attributes-complete}
-use Rattle.grammar.specs.Laws.Tokens.{attributes-end-name, comment-complete}
+use Rattle.grammar.specs.Laws.Tokens.{quote-ends-blanks, text-complete, text-long, parted-apart, ends-blanks}
+use Rattle.grammar.specs.Laws.Tokens.{attributes-complete, attributes-end-name, comment-complete}
 use Rattle.grammar.specs.Parser.{name-at, attributes-at, ends, closing, comment-at, Look, at-close, at-comment, at-element, at-text}
 use Rattle.grammar.specs.Parser.{look, look₂, look-by, look-if, empty-at, full-at, element-at, contents-by, contents-at, setting-at}
 use Rattle.grammar.specs.Parser.{asking, encoding-if, declaration-if, declaration-at, blank-at, remarked-at, aside-at, no-aside}
@@ -152,7 +152,9 @@ remark-read {d} {c} {w} {s} k ih = record {
 
 text-looks : {b w : List ℕ} → TextCharacter b w → (r : List ℕ) → look (w ++ r) ≡ at-text
 unfolding look look-if special
-text-looks (TextCharacter.literal {a} h e) r = rw (or-left (eqb a 60) (eqb a 38) e)
+text-looks (TextCharacter.literal {a} h e f) r = rw (or-left (eqb a 60) (eqb a 38) e)
+text-looks (TextCharacter.line-end Grammar.pair) r = refl
+text-looks (TextCharacter.line-end Grammar.lone) r = refl
 text-looks (TextCharacter.reference Grammar.amp) r = refl
 text-looks (TextCharacter.reference Grammar.lt) r = refl
 text-looks (TextCharacter.reference Grammar.gt) r = refl
@@ -171,10 +173,10 @@ begins-apart (a ∷ k) (b ∷ x) r (a-byte h t) e = go (eqb b a) e (begins-apart
     go true e ih = ih e
     go false e ih = refl
 
-character-read : {d : ℕ} {c : Contents} {b w s : List ℕ} → TextCharacter b w → begins (ascii "]]>") (w ⊹ s) ≡ false → ContentsRead d c s
-    → ContentsRead d (merged b c) (w ⊹ s)
+character-read : {d : ℕ} {c : Contents} {b w s : List ℕ} → TextCharacter b w → parted w s ≡ false → begins (ascii "]]>") (w ⊹ s) ≡ false
+    → ContentsRead d c s → ContentsRead d (merged b c) (w ⊹ s)
 unfolding contents-by bind
-character-read {d} {c} {b} {w} {s} k e ih = record {
+character-read {d} {c} {b} {w} {s} k p e ih = record {
   reads = λ n h r.
       with-fuel (λ n. contents-at n d ((w ++ s) ++ (60 ∷ 47 ∷ r)) ≡ got (merged b c) (60 ∷ 47 ∷ r)) (length (w ++ s)) n h λ m hm.
       let fits : length s < m = omega (arith, text-long k, length-append w s) in
@@ -185,7 +187,7 @@ character-read {d} {c} {b} {w} {s} k e ih = record {
         contents-suc,
         text-looks k,
         test-complete (not-so clear) (w ++ (s ++ (60 ∷ 47 ∷ r))),
-        text-complete k,
+        text-complete k (s ++ (60 ∷ 47 ∷ r)) (parted-apart w s 60 (47 ∷ r) refl p),
         ih .reads m fits r,
       );
 }
@@ -207,7 +209,7 @@ element-read t = elim t as (λ d e w _. ElementRead d e w) (λ d c w _. Contents
   | Grammar.empty nm at hu ↦ empty-read nm at hu
   | Grammar.none ↦ none-read
   | Grammar.remark k (t → ih) ↦ remark-read k ih
-  | Grammar.character k e (t → ih) ↦ character-read k e ih
+  | Grammar.character k p e (t → ih) ↦ character-read k p e ih
   | Grammar.inner (k → ih₁) (t → ih₂) ↦ inner-read ih₁ ih₂
 ]
 

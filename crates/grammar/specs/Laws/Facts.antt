@@ -1,7 +1,7 @@
 -- The classes of bytes lie apart: bounds on each, from which `omega` tells any two apart.
 use mathlib.Core.Path.{_≡_, ap}
 use Prim.Native.Nat.{ℕ, _≤_, _<_}
-use mathlib.Core.Bool.{true, _&&_, not}
+use mathlib.Core.Bool.{true, false, _&&_, not}
 use lib.Dec.{eqb, leb}
 use native.Mathlib.Omega.{arith}
 use borrow.Author.Tests.{leb-true, eqb-true}
@@ -24,6 +24,11 @@ blank-in a e =
     or-elim (Within 9 32 a) (eqb a 9) _ e₁ (λ h. let q = eqb-true a 9 h in omega arith) λ e₂.
     or-elim (Within 9 32 a) (eqb a 10) _ e₂ (λ h. let q = eqb-true a 10 h in omega arith) λ h.
     let q = eqb-true a 13 h in omega arith
+
+-- a carriage return is a blank
+pub no-return : (a : ℕ) → blank a ≡ false → eqb a 13 ≡ false
+unfolding blank
+no-return a e = or-right (eqb a 10) (eqb a 13) (or-right (eqb a 9) _ (or-right (eqb a 32) _ e))
 
 pub letter-in : (a : ℕ) → letter a ≡ true → Within 65 122 a
 unfolding letter

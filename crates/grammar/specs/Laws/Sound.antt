@@ -11,19 +11,21 @@ use lib.ListN.{length, length-append}
 use borrow.Author.Tests.{leb-true, eq-eqb, eqb-true, not-true}
 use Rattle.lists.specs.Laws.Booleans.{and-left, and-right, clash}
 use Rattle.grammar.specs.Bytes.{_⊹_, ascii, blank, nameStart, nameByte, quote, special, Each, no-byte, a-byte, Sequence, no-more}
-use Rattle.grammar.specs.Bytes.{one-more, begins}
+use Rattle.grammar.specs.Bytes.{one-more, begins, parted}
 use Rattle.grammar.specs.Characters.{Character, utf8-1, utf8-2, utf8-3, utf8-4, lead1, lead2, lead3, lead4, continues, noncharacter}
 use Rattle.grammar.specs.Document.{Attribute, attribute, Element, element, Contents, nothing, child, merged, together}
 use Rattle.grammar.specs.Grammar
-use Rattle.grammar.specs.Grammar.{Name, Gap, Equals, Reference, TextCharacter, ValueCharacter, Value, WritesAttribute, Absent}
-use Rattle.grammar.specs.Grammar.{Distinct, Attributes, Remark, Comment, WritesElement, WritesContents, Setting, Encoding}
+use Rattle.grammar.specs.Grammar.{Name, Gap, Equals, Reference, LineEnd, TextCharacter, ValueCharacter, Value, WritesAttribute}
+use Rattle.grammar.specs.Grammar.{Absent, Distinct, Attributes, Remark, Comment, WritesElement, WritesContents, Setting, Encoding}
 use Rattle.grammar.specs.Grammar.{Declaration, Aside, Writes}
 use Rattle.grammar.specs.Read.{Read, fail, got, Reader, bind, test, mark, byte, span, alt, all-of, Ok, failed, good, bind-ok}
 use Rattle.grammar.specs.Read.{ok-map, ok-got, alt-ok, Takes, test-sound, mark-sound, byte-sound, span-sound, all-of-sound}
-use Rattle.grammar.specs.Read.{seen-sound}
+use Rattle.grammar.specs.Read.{seen-sound, TakesWhole, whole-takes, row-sound}
 use Rattle.grammar.specs.Parser
 use Rattle.grammar.specs.Parser.{name-at, gap-at, equals-at, CharacterWidth, one, two, three, four, width, rest-by, rest-at}
-use Rattle.grammar.specs.Parser.{literal-at, standsFor, reference-at, text-at, space-at, value-byte, value-character-at, value-at}
+use Rattle.grammar.specs.Parser.{literal-at, standsFor, reference-at, feed-if, feed-at, line-end-at, text-byte, text-at}
+use Rattle.grammar.specs.Parser.{spacing, space-at, value-byte, value-character-at, value-at}
+use Rattle.grammar.specs.Laws.Facts.{no-return}
 use Rattle.grammar.specs.Parser.{attribute-at, ends, closing, same, absent, distinct, attributes-at, no-dash, plain-at, dashed-at}
 use Rattle.grammar.specs.Parser.{remark-at, comment-at, Look, at-close, at-comment, at-element, at-text, look, empty-at, full-at}
 use Rattle.grammar.specs.Parser.{element-at, contents-by, contents-at, setting-at, asking, encoding-if, declaration-if}
@@ -98,35 +100,101 @@ reference-sound s =
     (alt-ok (said-sound _ _ Grammar.gt s)
     (alt-ok (said-sound _ _ Grammar.quot s) (said-sound _ _ Grammar.apos s))))
 
-text-literal : {w : List ℕ} → Literal (λ a. not (special a)) w → TextCharacter w w
-text-literal (literal {a} h e) = TextCharacter.literal h (not-true (special a) e)
+reference-whole : {b w : List ℕ} → Reference b w → (r : List ℕ) → parted w r ≡ false
+unfolding parted
+reference-whole Grammar.amp r = refl
+reference-whole Grammar.lt r = refl
+reference-whole Grammar.gt r = refl
+reference-whole Grammar.quot r = refl
+reference-whole Grammar.apos r = refl
+
+-- a character that begins with no carriage return
+other-whole : (a : ℕ) (w r : List ℕ) → eqb a 13 ≡ false → parted (a ∷ w) r ≡ false
+unfolding parted
+other-whole a [] r e = rw e
+other-whole a (b ∷ w) r e = refl
+
+feed-sound : (t : Bool) (v s : List ℕ) → begins (ascii "\n") s ≡ t
+    → Ok (λ b r. (b ≡ v) × TakesWhole (λ _ w. LineEnd w) parted (13 ∷ s) b r) (feed-if t v s)
+unfolding feed-if standsFor parted
+feed-sound true v s e =
+    bind-ok (mark-sound (ascii "\n") s) λ _ r h. good (refl, (ascii "\r\n", ap (λ l. 13 ∷ l) h, Grammar.pair, refl))
+feed-sound false v s e = good (refl, (ascii "\r", refl, Grammar.lone, e))
+
+line-end-sound : (v s : List ℕ) → Ok (λ b r. (b ≡ v) × TakesWhole (λ _ w. LineEnd w) parted s b r) (line-end-at v s)
+unfolding line-end-at feed-at
+line-end-sound v s = bind-ok (mark-sound (ascii "\r") s) λ _ r₁ e₁. rw e₁ (feed-sound (begins (ascii "\n") r₁) v r₁ refl)
+
+text-literal : {w : List ℕ} → Literal text-byte w → (r : List ℕ) → TextCharacter w w × (parted w r ≡ false)
+unfolding text-byte
+text-literal (literal {a} {w} h e) r =
+    let l = not-true (special a) (and-left (not (special a)) _ e) in
+    let m = not-true (eqb a 13) (and-right (not (special a)) _ e) in
+    (TextCharacter.literal h l m, other-whole a w r m)
+
+pub text-whole : (s : List ℕ) → Ok (TakesWhole TextCharacter parted s) (text-at s)
+unfolding text-at
+text-whole s =
+    alt-ok (ok-map (reference-sound s) λ b r h. (h .0, h .1, TextCharacter.reference (h .2), reference-whole (h .2) r))
+    (alt-ok (ok-map (line-end-sound (ascii "\n") s) λ b r h. (h .1 .0, h .1 .1, rw (h .0) (TextCharacter.line-end (h .1 .2)), h .1 .3))
+    (ok-map (literal-sound text-byte s) λ w r h. (let k = text-literal (h .1) r in (w, h .0, k .0, k .1))))
 
 pub text-sound : (s : List ℕ) → Ok (Takes TextCharacter s) (text-at s)
-unfolding text-at
-text-sound s =
-    alt-ok (ok-map (reference-sound s) λ b r h. (h .0, h .1, TextCharacter.reference (h .2)))
-    (ok-map (literal-sound (λ a. not (special a)) s) λ w r h. (w, h .0, text-literal (h .1)))
+text-sound s = whole-takes (text-whole s)
 
-value-literal : (q : ℕ) {w : List ℕ} → Literal (value-byte q) w → ValueCharacter q w w
+value-literal : (q : ℕ) {w : List ℕ} → Literal (value-byte q) w → (r : List ℕ) → ValueCharacter q w w × (parted w r ≡ false)
 unfolding value-byte
-value-literal q (literal {a} h e) =
+value-literal q (literal {a} {w} h e) r =
     let l = and-left (not (special a)) _ e in
     let m = and-right (not (special a)) _ e in
-    ValueCharacter.literal h (not-true (special a) l) (not-true (eqb a q) (and-left _ (not (blank a)) m))
-    (not-true (blank a) (and-right (not (eqb a q)) _ m))
+    let n = not-true (blank a) (and-right (not (eqb a q)) _ m) in (
+      ValueCharacter.literal h (not-true (special a) l) (not-true (eqb a q) (and-left _ (not (blank a)) m)) n,
+      other-whole a w r (no-return a n),
+    )
+
+value-space : (q a : ℕ) → spacing a ≡ true → (r : List ℕ) → ValueCharacter q (ascii " ") (a ∷ []) × (parted (a ∷ []) r ≡ false)
+unfolding spacing
+value-space q a e r =
+    let m = not-true (eqb a 13) (and-right (blank a) _ e) in (ValueCharacter.space (and-left (blank a) _ e) m, other-whole a [] r m)
+
+pub value-character-whole : (q : ℕ) (s : List ℕ) → Ok (TakesWhole (ValueCharacter q) parted s) (value-character-at q s)
+unfolding value-character-at space-at
+value-character-whole q s =
+    alt-ok (ok-map (reference-sound s) λ b r h. (h .0, h .1, ValueCharacter.reference (h .2), reference-whole (h .2) r))
+    (alt-ok (ok-map (line-end-sound (ascii " ") s) λ b r h. (h .1 .0, h .1 .1, rw (h .0) (ValueCharacter.line-end (h .1 .2)), h .1 .3))
+    (alt-ok (bind-ok (byte-sound spacing s) λ a r h. good (let k = value-space q a (h .1) r in (a ∷ [], h .0, k .0, k .1)))
+    (ok-map (literal-sound (value-byte q) s) λ w r h. (let k = value-literal q (h .1) r in (w, h .0, k .0, k .1)))))
 
 pub value-character-sound : (q : ℕ) (s : List ℕ) → Ok (Takes (ValueCharacter q) s) (value-character-at q s)
-unfolding value-character-at space-at
-value-character-sound q s =
-    alt-ok (ok-map (reference-sound s) λ b r h. (h .0, h .1, ValueCharacter.reference (h .2)))
-    (alt-ok (bind-ok (byte-sound blank s) λ a r h. good (a ∷ [], h .0, ValueCharacter.space (h .1)))
-    (ok-map (literal-sound (value-byte q) s) λ w r h. (w, h .0, value-literal q (h .1))))
+value-character-sound q s = whole-takes (value-character-whole q s)
+
+-- what does not begin a longer text does not begin a shorter one
+pub begins-less : (k x r : List ℕ) → begins k (x ++ r) ≡ false → begins k x ≡ false
+unfolding begins
+begins-less [] x r e = e
+begins-less (a ∷ k) [] r e = refl
+begins-less (a ∷ k) (b ∷ x) r e = go (eqb b a) e (begins-less k x r)
+  where
+    go : (t : Bool) → (t && begins k (x ++ r)) ≡ false → (begins k (x ++ r) ≡ false → begins k x ≡ false) → (t && begins k x) ≡ false
+    go true e ih = ih e
+    go false e ih = refl
+
+-- what is not parted in a longer text is not in a shorter one
+parted-less : (w x r : List ℕ) → parted w (x ++ r) ≡ false → parted w x ≡ false
+unfolding parted
+parted-less [] x r e = refl
+parted-less (a ∷ b ∷ w) x r e = refl
+parted-less (a ∷ []) x r e = go (eqb a 13) e
+  where
+    go : (t : Bool) → (t && begins (ascii "\n") (x ++ r)) ≡ false → (t && begins (ascii "\n") x) ≡ false
+    go true h = begins-less (ascii "\n") x r h
+    go false h = refl
 
 pub value-sound : (s : List ℕ) → Ok (Takes Value s) (value-at s)
 unfolding value-at
 value-sound s =
     bind-ok (byte-sound quote s) λ q r₁ h₁.
-    bind-ok (all-of-sound (value-character-sound q) (begins (q ∷ [])) r₁) λ bs r₂ h₂.
+    bind-ok (row-sound (begins (q ∷ [])) (λ s _. value-character-whole q s) parted-less r₁) λ bs r₂ h₂.
     bind-ok (mark-sound (q ∷ []) r₂) λ _ r₃ e₃.
     good (_, simp append-assoc (cc), Grammar.value q (h₁ .1) (h₂ .2))
 
@@ -212,17 +280,6 @@ element-sound within ih (suc d) s =
     bind-ok (mark-sound (ascii ">") r₉) λ _ r e.
     good (_, simp append-assoc (cc), Grammar.full (h₂ .1) (h₃ .2) (h₄ .1) (h₆ .1) (h₉ .1)))
 
--- what does not begin a longer text does not begin a shorter one
-pub begins-less : (k x r : List ℕ) → begins k (x ++ r) ≡ false → begins k x ≡ false
-unfolding begins
-begins-less [] x r e = e
-begins-less (a ∷ k) [] r e = refl
-begins-less (a ∷ k) (b ∷ x) r e = go (eqb b a) e (begins-less k x r)
-  where
-    go : (t : Bool) → (t && begins k (x ++ r)) ≡ false → (begins k (x ++ r) ≡ false → begins k x ≡ false) → (t && begins k x) ≡ false
-    go true e ih = ih e
-    go false e ih = refl
-
 contents-by-sound : (more : ℕ → Reader Contents) → ((d : ℕ) (s : List ℕ) → Ok (Takes (WritesContents d) s) (more d s))
     → (d : ℕ) (k : Look) (s : List ℕ) → Ok (Takes (WritesContents d) s) (contents-by more d k s)
 unfolding contents-by
@@ -235,11 +292,14 @@ contents-by-sound more ih d at-element s =
     bind-ok (ih d r₁) λ c r₂ h₂. good (_, simp append-assoc (cc), Grammar.inner (h₁ .2) (h₂ .2))
 contents-by-sound more ih d at-text s =
     bind-ok (test-sound (not (begins (ascii "]]>") s)) s) λ _ r₀ h₀.
-    bind-ok (text-sound r₀) λ b r₁ h₁.
+    bind-ok (text-whole r₀) λ b r₁ h₁.
     bind-ok (ih d r₁) λ c r₂ h₂.
+    let e₁ = h₁ .1 in
+    let e₂ = h₂ .1 in
     let whole : s ≡ (h₁ .0 ⊹ h₂ .0) ++ r₂ = simp append-assoc (cc) in
     let clear = not-true (begins (ascii "]]>") s) (h₀ .0) in
-    good (_, whole, Grammar.character (h₁ .2) (begins-less (ascii "]]>") (h₁ .0 ⊹ h₂ .0) r₂ (rw whole at clear)) (h₂ .2))
+    let apart = parted-less (h₁ .0) (h₂ .0) r₂ (rw e₂ at (h₁ .3)) in
+    good (_, whole, Grammar.character (h₁ .2) apart (begins-less (ascii "]]>") (h₁ .0 ⊹ h₂ .0) r₂ (rw whole at clear)) (h₂ .2))
 
 pub contents-sound : (n d : ℕ) (s : List ℕ) → Ok (Takes (WritesContents d) s) (contents-at n d s)
 unfolding contents-at

@@ -10,18 +10,20 @@ use native.Mathlib.Omega.{arith}
 use borrow.Author.Tests.{leb-true, le-leb, lt-leb, eq-eqb, ne-eqb, eqb-true, not-true}
 use Rattle.lists.specs.Laws.Booleans.{and-left, and-right, or-right, refute, not-so}
 use Rattle.grammar.specs.Bytes.{_⊹_, ascii, blank, nameStart, nameByte, quote, special, Each, no-byte, a-byte, Sequence, no-more}
-use Rattle.grammar.specs.Bytes.{one-more, begins, letter}
+use Rattle.grammar.specs.Bytes.{one-more, begins, parted, letter}
 use Rattle.grammar.specs.Characters.{Character, utf8-1, utf8-2, utf8-3, utf8-4, lead1, lead2, lead3, lead4, continues, noncharacter}
 use Rattle.grammar.specs.Document.{Attribute, attribute, together}
 use Rattle.grammar.specs.Grammar
 use Rattle.grammar.specs.Grammar.{Name, Gap, Equals, Reference, TextCharacter, ValueCharacter, Value, WritesAttribute, Absent}
-use Rattle.grammar.specs.Grammar.{Distinct, Attributes, Remark, Comment}
+use Rattle.grammar.specs.Grammar.{Distinct, Attributes, Remark, Comment, LineEnd}
 use Rattle.grammar.specs.Read.{Read, fail, got, Reader, bind, test, mark, byte, span, stops, alt, all-of, test-complete}
 use Rattle.grammar.specs.Read.{mark-complete, mark-other, byte-complete, byte-other, span-complete, Item, all-of-complete}
+use Rattle.grammar.specs.Read.{RowItem, row-complete}
 use Rattle.grammar.specs.Laws.Facts.{blank-in, nameStart-in, nameByte-in, quote-in, closing-in, lead1-in, lead2-in, lead3-in}
-use Rattle.grammar.specs.Laws.Facts.{lead4-in}
+use Rattle.grammar.specs.Laws.Facts.{lead4-in, no-return}
 use Rattle.grammar.specs.Parser.{name-at, gap-at, equals-at, CharacterWidth, one, two, three, four, width, width-by, rest-by}
-use Rattle.grammar.specs.Parser.{rest-at, literal-at, standsFor, reference-at, text-at, space-at, value-byte, value-character-at}
+use Rattle.grammar.specs.Parser.{rest-at, literal-at, standsFor, reference-at, feed-if, feed-at, line-end-at, text-byte, text-at}
+use Rattle.grammar.specs.Parser.{spacing, space-at, value-byte, value-character-at}
 use Rattle.grammar.specs.Parser.{value-at, attribute-at, ends, closing, same, absent, distinct, attributes-at, no-dash, plain-at}
 use Rattle.grammar.specs.Parser.{dashed-at, remark-at, comment-at}
 
@@ -124,11 +126,28 @@ reference-other a e s =
       mark-other 38 a (ascii "apos;") s e,
     )
 
-pub text-complete : {b w : List ℕ} → TextCharacter b w → (r : List ℕ) → text-at (w ++ r) ≡ got b r
-unfolding text-at alt special
-text-complete (TextCharacter.literal {a} {w} h e) r =
-    rw (reference-other a (or-right (eqb a 60) (eqb a 38) e) (w ++ r)) (literal-complete (λ a. not (special a)) h (not-so e) r)
-text-complete (TextCharacter.reference k) r = rw (reference-complete k r)
+-- the end of a line; a text that begins with none
+pub line-end-complete : (v : List ℕ) {w : List ℕ} → LineEnd w → (r : List ℕ) → parted w r ≡ false → line-end-at v (w ++ r) ≡ got v r
+unfolding line-end-at feed-at feed-if standsFor begins parted bind mark test
+line-end-complete v Grammar.pair r e = refl
+line-end-complete v Grammar.lone r e = rw e
+
+pub line-end-other : (v : List ℕ) (a : ℕ) → eqb a 13 ≡ false → (s : List ℕ) → line-end-at v (a ∷ s) ≡ fail
+unfolding line-end-at bind
+line-end-other v a e s = rw (mark-other 13 a [] s e)
+
+pub line-end-no-reference : {w : List ℕ} → LineEnd w → (r : List ℕ) → reference-at (w ++ r) ≡ fail
+line-end-no-reference Grammar.pair r = reference-other 13 refl _
+line-end-no-reference Grammar.lone r = reference-other 13 refl _
+
+pub text-complete : {b w : List ℕ} → TextCharacter b w → (r : List ℕ) → parted w r ≡ false → text-at (w ++ r) ≡ got b r
+unfolding text-at alt special text-byte
+text-complete (TextCharacter.literal {a} {w} h e f) r p =
+    let fits : text-byte a ≡ true = rw (e, f) in
+    rw (reference-other a (or-right (eqb a 60) (eqb a 38) e) (w ++ r), line-end-other (ascii "\n") a f (w ++ r))
+    (literal-complete text-byte h fits r)
+text-complete (TextCharacter.line-end k) r p = rw (line-end-no-reference k r, line-end-complete (ascii "\n") k r p)
+text-complete (TextCharacter.reference k) r p = rw (reference-complete k r)
 
 -- a reference begins with `&`
 pub data Ampersand : List ℕ → Type 0 where
@@ -144,21 +163,34 @@ reference-ampersand Grammar.apos = ampersand _
 ampersand-long : {w : List ℕ} → Ampersand w → 0 < length w
 ampersand-long (ampersand w) = omega arith
 
+line-end-long : {w : List ℕ} → LineEnd w → 0 < length w
+line-end-long Grammar.pair = omega arith
+line-end-long Grammar.lone = omega arith
+
 pub text-long : {b w : List ℕ} → TextCharacter b w → 0 < length w
-text-long (TextCharacter.literal h e) = omega arith
+text-long (TextCharacter.literal h e f) = omega arith
+text-long (TextCharacter.line-end k) = line-end-long k
 text-long (TextCharacter.reference k) = ampersand-long (reference-ampersand k)
 
 -- values
-value-character-reads : (q : ℕ) {b w : List ℕ} → ValueCharacter q b w → (r : List ℕ) → value-character-at q (w ++ r) ≡ got b r
-unfolding value-character-at alt bind space-at special value-byte
-value-character-reads q (ValueCharacter.literal {a} {w} h e₁ e₂ e₃) r =
+value-character-reads : (q : ℕ) {b w : List ℕ} → ValueCharacter q b w → (r : List ℕ) → parted w r ≡ false
+    → value-character-at q (w ++ r) ≡ got b r
+unfolding value-character-at alt bind space-at special value-byte spacing
+value-character-reads q (ValueCharacter.literal {a} {w} h e₁ e₂ e₃) r p =
     let fits : value-byte q a ≡ true = rw (e₁, e₂, e₃) in
-    rw (reference-other a (or-right (eqb a 60) (eqb a 38) e₁) (w ++ r), byte-other blank a e₃ (w ++ r))
+    let other : spacing a ≡ false = rw e₃ in
+    rw (
+      reference-other a (or-right (eqb a 60) (eqb a 38) e₁) (w ++ r),
+      line-end-other (ascii " ") a (no-return a e₃) (w ++ r),
+      byte-other spacing a other (w ++ r),
+    )
     (literal-complete (value-byte q) h fits r)
-value-character-reads q (ValueCharacter.space {a} h) r =
+value-character-reads q (ValueCharacter.space {a} h f) r p =
     let low = blank-in a h in
-    rw (reference-other a (ne-eqb a 38 λ e. omega arith) r, byte-complete blank a h r)
-value-character-reads q (ValueCharacter.reference k) r = rw (reference-complete k r)
+    let fits : spacing a ≡ true = rw (h, f) in
+    rw (reference-other a (ne-eqb a 38 λ e. omega arith) r, line-end-other (ascii " ") a f r, byte-complete spacing a fits r)
+value-character-reads q (ValueCharacter.line-end k) r p = rw (line-end-no-reference k r, line-end-complete (ascii " ") k r p)
+value-character-reads q (ValueCharacter.reference k) r p = rw (reference-complete k r)
 
 ampersand-goes : (q : ℕ) → quote q ≡ true → {w : List ℕ} → Ampersand w → (r : List ℕ) → begins (q ∷ []) (w ++ r) ≡ false
 unfolding begins
@@ -167,32 +199,53 @@ ampersand-goes q h (ampersand w) r = let other = quote-in q h .1 in rw (ne-eqb 3
 value-character-goes : (q : ℕ) → quote q ≡ true → {b w : List ℕ} → ValueCharacter q b w → (r : List ℕ) → begins (q ∷ []) (w ++ r) ≡ false
 unfolding begins
 value-character-goes q h (ValueCharacter.literal k e₁ e₂ e₃) r = rw e₂
-value-character-goes q h (ValueCharacter.space {a} k) r =
+value-character-goes q h (ValueCharacter.space {a} k f) r =
     let low = blank-in a k in let high = quote-in q h .0 in rw (ne-eqb a q λ e. omega arith)
+value-character-goes q h (ValueCharacter.line-end Grammar.pair) r = let high = quote-in q h .0 in rw (ne-eqb 13 q λ e. omega arith)
+value-character-goes q h (ValueCharacter.line-end Grammar.lone) r = let high = quote-in q h .0 in rw (ne-eqb 13 q λ e. omega arith)
 value-character-goes q h (ValueCharacter.reference k) r = ampersand-goes q h (reference-ampersand k) r
 
 pub value-character-long : (q : ℕ) {b w : List ℕ} → ValueCharacter q b w → 0 < length w
 value-character-long q (ValueCharacter.literal k e₁ e₂ e₃) = omega arith
-value-character-long q (ValueCharacter.space k) = omega arith
+value-character-long q (ValueCharacter.space k f) = omega arith
+value-character-long q (ValueCharacter.line-end k) = line-end-long k
 value-character-long q (ValueCharacter.reference k) = ampersand-long (reference-ampersand k)
-
-value-item : (q : ℕ) → quote q ≡ true → Item (ValueCharacter q) (begins (q ∷ [])) (value-character-at q)
-value-item q h = record {
-  reads = λ k r. value-character-reads q k r;
-  goes = λ k r. value-character-goes q h k r;
-  long = λ k. value-character-long q k;
-}
 
 begins-one : (q : ℕ) (r : List ℕ) → begins (q ∷ []) (q ∷ r) ≡ true
 unfolding begins
 begins-one q r = rw (eq-eqb q q refl)
+
+-- what is not parted from the rest of a value is not parted from its end
+pub parted-apart : (w x : List ℕ) (q : ℕ) (r : List ℕ) → eqb q 10 ≡ false → parted w x ≡ false → parted w (x ++ (q ∷ r)) ≡ false
+unfolding parted begins
+parted-apart [] x q r h e = refl
+parted-apart (a ∷ b ∷ w) x q r h e = refl
+parted-apart (a ∷ []) [] q r h e = rw h (go (eqb a 13))
+  where
+    go : (t : Bool) → (t && false) ≡ false
+    go true = refl
+    go false = refl
+parted-apart (a ∷ []) (b ∷ x) q r h e = e
+
+value-item : (q : ℕ) → quote q ≡ true → (r : List ℕ)
+    → RowItem (ValueCharacter q) parted (begins (q ∷ [])) (value-character-at q) (q ∷ r)
+value-item q h r =
+    let high = quote-in q h .0 in
+    let feed : eqb q 10 ≡ false = ne-eqb q 10 λ e. omega arith in
+    record {
+      reads = λ k r e. value-character-reads q k r e;
+      goes = λ k r e. value-character-goes q h k r;
+      long = λ k. value-character-long q k;
+      apart = λ w x e. parted-apart w x q r feed e;
+      stops-there = begins-one q r;
+    }
 
 pub value-complete : {v w : List ℕ} → Value v w → (r : List ℕ) → value-at (w ++ r) ≡ got v r
 unfolding value-at bind
 value-complete (Grammar.value q {bs} {w} h t) r =
     simp append-assoc (rw (
       byte-complete quote q h (w ++ (q ∷ r)),
-      all-of-complete (value-item q h) t (q ∷ r) (begins-one q r),
+      row-complete (value-item q h r) t,
       mark-complete (q ∷ []) r,
     ))
 

@@ -34,10 +34,15 @@ no-less : all illegal (ascii "<a><</a>" ∷ ascii "<a>x<y</a>" ∷ ascii "<a b='
 unfolding cases computing
 no-less = refl
 
--- in text a carriage return reads as itself, and so do the other blanks
-text-blanks : holds (ascii " \t\r\n") (ascii " \t\r\n")
+-- in text a carriage return reads as a line feed, one line feed where one stands behind it; the other blanks read as themselves
+text-blanks : holds (ascii " \t\r\n\r\r\n\n\r") (ascii " \t\n\n\n\n\n")
 unfolding erasing computing
 text-blanks = refl
+
+-- a comment stands between the two: they are no pair
+text-parted : holds (ascii "\r<!---->\n") (ascii "\n\n")
+unfolding erasing computing
+text-parted = refl
 
 -- a comment writes nothing and parts no run
 comment-joins : holds (ascii "x<!-- - -->y") (ascii "xy")
@@ -79,12 +84,12 @@ brackets-in-comment : legal (ascii "<a><!--]]>--></a>") ≡ true
 unfolding cases computing
 brackets-in-comment = refl
 
--- in a value, a literal tab, line feed or carriage return reads as a space; so CR LF is two
+-- in a value, a literal tab, line feed or carriage return reads as a space; and so does a pair, which is one line feed before anything else
 value-blanks : has (ascii "' \t\n\r'") (ascii "    ")
 unfolding erasing computing
 value-blanks = refl
 
-value-crlf : has (ascii "'x\r\ny'") (ascii "x  y")
+value-crlf : has (ascii "'x\r\ny\r\r\n\n'") (ascii "x y   ")
 unfolding erasing computing
 value-crlf = refl
 

@@ -1,30 +1,29 @@
 -- The readers between tags, step by step.
-use mathlib.Core.Path.{_≡_, refl, ap, sym, _∙_, subst}
-use mathlib.Core.List.{List, [], _∷_, _++_}
-use Prim.Native.Nat.{ℕ, suc, _+_, _-_, _≤_, _<_}
+use mathlib.Core.Path.{_≡_, refl, ap, sym, _∙_}
+use mathlib.Core.List.{List, [], _∷_}
+use Prim.Native.Nat.{ℕ, _+_, _-_, _≤_, _<_}
 use native.Mathlib.Omega.{arith}
 use borrow.Author.Needs.{needs}
-use mathlib.Core.Bool.{Bool, true, false, _&&_, _||_, not}
+use mathlib.Core.Bool.{Bool, true, false}
 use lib.Dec.{eqb}
-use lib.ListN.{length, drop, getD, length-append, length-drop}
-use borrow.Author.Tests.{eq-eqb, ne-eqb, not-true}
-use Rattle.lists.specs.Laws.Booleans.{and-left, and-right, or-left, clash}
-use Rattle.grammar.specs.Bytes.{ascii, blank, begins, special, Each, no-byte, a-byte}
+use lib.ListN.{length, drop, getD}
+use borrow.Author.Tests.{eq-eqb, ne-eqb}
+use Rattle.lists.specs.Laws.Booleans.{clash}
+use Rattle.grammar.specs.Bytes.{ascii, blank, begins, parted, special}
 use Rattle.grammar.specs.Characters.{utf8-1, lead1}
 use Rattle.grammar.specs.Grammar.{TextCharacter}
-use Rattle.grammar.specs.Read.{Read, fail, got, Reader, bind, alt, byte, test, test-complete, mark, span, span-sound, Ok, failed, good}
-use Rattle.grammar.specs.Read.{ok-got, ok-map}
+use Rattle.grammar.specs.Read.{Read, fail, got, bind, alt, byte, test, mark}
 use Rattle.grammar.specs.Parser.{Look, at-close, at-comment, at-element, at-text, look, look-if, look₂, look-by, text-at, reference-at}
-use Rattle.grammar.specs.Parser.{standsFor, literal-at, comment-at}
-use Rattle.grammar.specs.Laws.Tokens.{text-complete, reference-other}
-use Rattle.steps.specs.Step.{stepped, tails, Tails, Went, went, went-on, arrives, refuses, fell, at-byte, at-end}
-use Rattle.steps.specs.Leaves.{span-tails, character-at, literal-is, literal-not}
+use Rattle.grammar.specs.Parser.{standsFor, feed-at, line-end-at, text-byte, literal-at, comment-at}
+use Rattle.grammar.specs.Laws.Tokens.{text-complete, reference-other, line-end-other}
+use Rattle.steps.specs.Step.{stepped, arrives, refuses, at-byte, at-end}
+use Rattle.steps.specs.Leaves.{character-at, literal-is, literal-not}
 use Rattle.steps.specs.Laws.Until.{stepped-value}
+use Rattle.steps.specs.Laws.Feeds.{feed-got, return-read}
 use Rattle.steps.specs.declared.Step.{Step}
 use Rattle.steps.specs.declared.Step.the-variants.{To, No}
-use Rattle.steps.specs.Row.{Piece, character, remark, text-piece-at, piece-by, piece-at, pieces-at, pause, halts, pieces-halt}
-use Rattle.steps.specs.Row.{pieces-go, piece-tails, piece-eats}
-use Rattle.steps.specs.Pieces.{front, plain, halted, stoppedBy}
+use Rattle.steps.specs.Row.{character, remark, text-piece-at, piece-by, piece-at}
+use Rattle.steps.specs.Pieces.{front, halted}
 use Rattle.steps.specs.declared.pieces.Front.{Front}
 use Rattle.steps.specs.declared.pieces.Front.the-variants as Front
 use Rattle.steps.specs.declared.pieces.Between.{Between}
@@ -91,8 +90,19 @@ alt-none fail = refl
 alt-none (got a r) = refl
 
 reference-none : text-at [] ≡ fail
-unfolding text-at reference-at standsFor mark alt bind literal-at byte
+unfolding text-at reference-at standsFor line-end-at mark alt bind literal-at byte
 reference-none = refl
+
+amp-text : (s : List ℕ) → text-at (38 ∷ s) ≡ reference-at (38 ∷ s)
+unfolding text-at text-byte special alt
+amp-text s = rw (line-end-other (ascii "\n") 38 refl s, literal-not text-byte 38 s refl) (alt-none (reference-at (38 ∷ s)))
+
+pub return-text : (s : List ℕ) → text-at (13 ∷ s) ≡ feed-at (ascii "\n") s
+unfolding text-at alt
+return-text s =
+    let known = return-read (ascii "\n") s in
+    let read = feed-got (ascii "\n") s in
+    rw (reference-other 13 refl s, known, read)
 
 module _ (text : List ℕ) (at : ℕ) where
   pub text-none : length text ≤ at → No ≡ stepped (length text) (text-at (drop at text))
@@ -101,32 +111,39 @@ module _ (text : List ℕ) (at : ℕ) where
   module _ (h : at < length text) where
     pub text-reference : getD text at 0 ≡ 38 → {x : Step} → x ≡ stepped (length text) (reference-at (drop at text))
         → x ≡ stepped (length text) (text-at (drop at text))
-    unfolding text-at special
     text-reference e k =
-        let marked : not (special (getD text at 0)) ≡ false = rw e in
-        k ∙ ap (stepped (length text)) (sym (alt-none (reference-at (drop at text)))
-        ∙ ap (alt (reference-at (drop at text)))
-        (sym (rw (at-byte text at h) (literal-not (λ a. not (special a)) (getD text at 0) (drop (at + 1) text) marked))))
+        let here : drop at text ≡ 38 ∷ drop (at + 1) text = rw (at-byte text at h, e) in
+        k ∙ ap (stepped (length text)) (ap reference-at here ∙ sym (amp-text (drop (at + 1) text)) ∙ ap text-at (sym here))
 
-    module _ (f : getD text at 0 ≡ 38 → ⊥) where
-      text-literal : text-at (drop at text) ≡ literal-at (λ a. not (special a)) (drop at text)
+    pub text-return : getD text at 0 ≡ 13 → {j : ℕ} → To j ≡ stepped (length text) (feed-at (ascii "\n") (drop (at + 1) text))
+        → To j ≡ stepped (length text) (text-at (drop at text))
+    text-return e k =
+        let here : drop at text ≡ 13 ∷ drop (at + 1) text = rw (at-byte text at h, e) in
+        k ∙ ap (stepped (length text)) (sym (return-text (drop (at + 1) text)) ∙ ap text-at (sym here))
+
+    module _ (f : getD text at 0 ≡ 38 → ⊥) (f₁ : getD text at 0 ≡ 13 → ⊥) where
+      text-literal : text-at (drop at text) ≡ literal-at text-byte (drop at text)
       unfolding text-at alt
-      text-literal = rw (at-byte text at h, reference-other (getD text at 0) (ne-eqb (getD text at 0) 38 f) (drop (at + 1) text))
+      text-literal = rw (
+        at-byte text at h,
+        reference-other (getD text at 0) (ne-eqb (getD text at 0) 38 f) (drop (at + 1) text),
+        line-end-other (ascii "\n") (getD text at 0) (ne-eqb (getD text at 0) 13 f₁) (drop (at + 1) text),
+      )
 
       pub text-open : getD text at 0 ≡ 60 → No ≡ stepped (length text) (text-at (drop at text))
-      unfolding special
+      unfolding special text-byte
       text-open e =
-          let marked : not (special (getD text at 0)) ≡ false = rw e in
+          let marked : text-byte (getD text at 0) ≡ false = rw e in
           refuses (length text) (text-at (drop at text))
-          (text-literal ∙ rw (at-byte text at h) (literal-not (λ a. not (special a)) (getD text at 0) (drop (at + 1) text) marked))
+          (text-literal ∙ rw (at-byte text at h) (literal-not text-byte (getD text at 0) (drop (at + 1) text) marked))
 
       pub text-plain : (getD text at 0 ≡ 60 → ⊥) → {x : Step} → x ≡ stepped (length text) (character-at (drop at text))
           → x ≡ stepped (length text) (text-at (drop at text))
-      unfolding special
+      unfolding special text-byte
       text-plain g k =
-          let free : not (special (getD text at 0)) ≡ true = rw (ne-eqb (getD text at 0) 60 g, ne-eqb (getD text at 0) 38 f) in
+          let free : text-byte (getD text at 0) ≡ true = rw (ne-eqb _ 60 g, ne-eqb _ 38 f, ne-eqb _ 13 f₁) in
           k ∙ ap (stepped (length text))
-          (sym (text-literal ∙ rw (at-byte text at h) (literal-is (λ a. not (special a)) (getD text at 0) (drop (at + 1) text) free)))
+          (sym (text-literal ∙ rw (at-byte text at h) (literal-is text-byte (getD text at 0) (drop (at + 1) text) free)))
 
 clear-piece : (s : List ℕ) → begins (ascii "]]>") s ≡ false → text-piece-at s ≡ text-at s
 unfolding text-piece-at bind test
@@ -137,8 +154,8 @@ unfolding begins
 other-clear text at h g = rw (at-byte text at h, ne-eqb (getD text at 0) 93 g)
 
 bracket-text : (s : List ℕ) → text-at (93 ∷ s) ≡ got (93 ∷ []) s
-unfolding lead1 blank special
-bracket-text s = text-complete (TextCharacter.literal (utf8-1 {a = 93} refl) refl) s
+unfolding lead1 blank special parted
+bracket-text s = text-complete (TextCharacter.literal (utf8-1 {a = 93} refl) refl refl) s refl
 
 -- a piece, by its first byte
 module _ (text : List ℕ) (at : ℕ) where
@@ -257,108 +274,9 @@ module _ (text : List ℕ) (at : ℕ) {f : Front} (q : f ≡ front (look (drop a
   unfolding front halted
   halt-text e = halts-as at-text e
 
--- one piece further
-between-bind : (n : ℕ) (p : Piece) (m : Read (List Piece)) → stoppedBy n (bind m (λ l r. got (p ∷ l) r)) ≡ stoppedBy n m
-unfolding stoppedBy bind
-between-bind n p fail = refl
-between-bind n p (got l r) = refl
-
-halts-piece : (l : Look) (s : List ℕ) → halts l ≡ true → piece-by l s ≡ fail
-unfolding halts piece-by
-halts-piece at-close s e = refl
-halts-piece at-comment s e = clash (cc)
-halts-piece at-element s e = refl
-halts-piece at-text s e = clash (cc)
-
-halted-on : (l : Look) (i : ℕ) → halts l ≡ false → Between.Bad ≡ halted l i
-unfolding halts halted
-halted-on at-close i e = clash (cc)
-halted-on at-comment i e = refl
-halted-on at-element i e = clash (cc)
-halted-on at-text i e = refl
-
-module _ (n : ℕ) (s : List ℕ) where
-  halting : pause s ≡ true → piece-at s ≡ fail
-  unfolding pause piece-at
-  halting h = halts-piece (look s) s h
-
-  between-piece : {p : Piece} {r : List ℕ} → piece-at s ≡ got p r → (t : Bool) → pause s ≡ t
-      → stoppedBy n (pieces-at s) ≡ stoppedBy n (pieces-at r)
-  unfolding bind
-  between-piece {p} {r} e true h = let f = halting h in clash (cc)
-  between-piece {p} {r} e false h = rw (pieces-go s h, e) (between-bind n p (pieces-at r))
-
-  between-fail : piece-at s ≡ fail → (t : Bool) → pause s ≡ t → halted (look s) (n - length s) ≡ stoppedBy n (pieces-at s)
-  unfolding bind stoppedBy pause
-  between-fail e true h = rw (pieces-halt s h)
-  between-fail e false h = rw (pieces-go s h, e) (sym (halted-on (look s) (n - length s) h))
-
--- plain bytes are pieces
-plain-text : (a : ℕ) (s : List ℕ) → plain a ≡ true → text-at (a ∷ s) ≡ got (a ∷ []) s
-unfolding plain
-plain-text a s e = text-complete (TextCharacter.literal (utf8-1 (and-left (lead1 a) _ e))
-    (not-true (special a) (and-left (not (special a)) _ (and-right (lead1 a) _ e)))) s
-
-plain-look : (a : ℕ) (s : List ℕ) → plain a ≡ true → look (a ∷ s) ≡ at-text
-unfolding plain look look-if special
-plain-look a s e = rw (or-left (eqb a 60) (eqb a 38) (not-true (special a) (and-left (not (special a)) _ (and-right (lead1 a) _ e))))
-
-plain-clear : (a : ℕ) (s : List ℕ) → plain a ≡ true → begins (ascii "]]>") (a ∷ s) ≡ false
-unfolding plain begins
-plain-clear a s e = rw (not-true (eqb a 93) (and-right (not (special a)) _ (and-right (lead1 a) _ e)))
-
-plain-piece : (a : ℕ) (s : List ℕ) → plain a ≡ true → piece-at (a ∷ s) ≡ got (character (a ∷ [])) s
-unfolding piece-at piece-by text-piece-at bind test
-plain-piece a s e = rw (plain-look a s e, plain-clear a s e, plain-text a s e)
-
-between-plain : (n : ℕ) {w : List ℕ} → Each plain w → (r : List ℕ) → stoppedBy n (pieces-at (w ++ r)) ≡ stoppedBy n (pieces-at r)
-between-plain n no-byte r = refl
-between-plain n (a-byte {a} {w} e h) r = between-piece n (a ∷ (w ++ r)) (plain-piece a (w ++ r) e) (pause (a ∷ (w ++ r))) refl
-    ∙ between-plain n h r
-
-abbrev pub Passing : List ℕ → ℕ → ℕ → Type 0
-Passing text at i = stoppedBy (length text) (pieces-at (drop at text)) ≡ stoppedBy (length text) (pieces-at (drop i text))
-
-module _ (text : List ℕ) (at i : ℕ) (inv : Passing text at i) {j : ℕ}
-    (q : To j ≡ stepped (length text) (span plain (drop i text))) {r : Step} (q₂ : r ≡ stepped (length text) (piece-at (drop j text))) where
-  skipped : Went (span plain) text i j
-  skipped = went (span plain) text i j (span-tails plain (drop i text)) q
-
-  parted : (drop i text ≡ skipped .value ++ drop j text) × Each plain (skipped .value)
-  parted = ok-got (subst (λ (m : Read (List ℕ)). Ok (λ w r. (drop i text ≡ w ++ r) × Each plain w) m) (skipped .reads)
-      (span-sound plain (drop i text)))
-
-  skips : Passing text i j
-  skips = ap (λ s. stoppedBy (length text) (pieces-at s)) (parted .0) ∙ between-plain (length text) (parted .1) (drop j text)
-
-  module _ {k : ℕ} (e : r ≡ To k) where
-    read : Went piece-at text j k
-    read = went piece-at text j k (piece-tails (drop j text)) (sym e ∙ q₂)
-
-    pub between-on : Passing text at k
-    between-on = inv ∙ skips ∙ between-piece (length text) (drop j text) (read .reads) (pause (drop j text)) refl
-
-    pub between-less : length (drop k text) < length (drop i text)
-    between-less = omega (
-      arith,
-      length-drop k text,
-      length-drop j text,
-      went-on read (piece-eats (drop j text)),
-      read .inside,
-      ap length (parted .0),
-      length-append (skipped .value) (drop j text),
-    )
-
-  pub between-halt : r ≡ No → {x : Between} → x ≡ halted (look (drop j text)) j → x ≡ stoppedBy (length text) (pieces-at (drop at text))
-  between-halt e k =
-      let here : length text - length (drop j text) ≡ j = omega (arith, length-drop j text, skipped .inside) in
-      k ∙ ap (halted (look (drop j text))) (sym here)
-      ∙ between-fail (length text) (drop j text) (fell (length text) (piece-at (drop j text)) (sym e ∙ q₂))
-      (pause (drop j text)) refl ∙ sym (inv ∙ skips)
-
 pub ruleset fronts = (front-end, front-text, front-last, front-close, front-comment, front-start, needs)
 
-pub ruleset texts = (text-none, text-reference, text-open, text-plain, needs)
+pub ruleset texts = (text-none, text-reference, text-return, text-open, text-plain, needs)
 
 pub ruleset brackets = (bracket-cut, bracket-clear, needs)
 
@@ -367,5 +285,3 @@ pub ruleset tagged = (piece-close, piece-start, piece-comment, piece-text, needs
 pub ruleset pieces = (piece-none, piece-byte, needs)
 
 pub ruleset halting-at = (halt-close, halt-start, halt-comment, halt-text, needs)
-
-pub ruleset passing = (between-on, between-less, between-halt, needs)

@@ -11,10 +11,14 @@ use Rattle.lists.specs.Laws.Booleans.{and-left, and-right, or-left, or-right, c
 use Rattle.grammar.specs.Bytes.{ascii, between, blank, quote, special, begins}
 use Rattle.grammar.specs.Document.{together}
 use Rattle.grammar.specs.Read.{Read, fail, got, bind, byte, mark, alt, all-of, mark-other, mark-complete, byte-complete, byte-other}
-use Rattle.grammar.specs.Parser.{standsFor, reference-at, space-at, literal-at, value-byte, value-character-at, value-at}
+use Rattle.grammar.specs.Parser.{standsFor, reference-at, feed-at, line-end-at, spacing, space-at, literal-at, value-byte}
+use Rattle.grammar.specs.Parser.{value-character-at, value-at}
+use Rattle.grammar.specs.Laws.Facts.{no-return, within}
+use Rattle.grammar.specs.Laws.Tokens.{line-end-other}
 use Rattle.steps.specs.Step.{stepped, at-byte, at-end, arrives, refuses}
 use Rattle.steps.specs.Laws.Until.{until, Going, going-start, going-stops, going-fails, going-stuck, going-goes, moved}
 use Rattle.steps.specs.Laws.Until.{stepped-each, stepped-value}
+use Rattle.steps.specs.Laws.Feeds.{feed-got, feed-steps, return-read}
 use Rattle.steps.specs.Leaves.{character-at, literal-is, literal-not, value-rest-at, value-character-eats, value-character-tails}
 use Rattle.steps.specs.Laws.Characters.{plain-step}
 use Rattle.steps.specs.declared.Step.{Step}
@@ -38,13 +42,18 @@ alt-fail (got a r) e = refl
 
 -- one character, by its first byte
 module _ (q b : ℕ) (s : List ℕ) where
-  first-blank : (b ≡ 38 → ⊥) → blank b ≡ true → value-character-at q (b ∷ s) ≡ got (ascii " ") s
-  unfolding value-character-at alt space-at bind
-  first-blank f e = rw (reference-other b (ne-eqb b 38 f) s, byte-complete blank b e s)
+  first-blank : (b ≡ 38 → ⊥) → (b ≡ 13 → ⊥) → blank b ≡ true → value-character-at q (b ∷ s) ≡ got (ascii " ") s
+  unfolding value-character-at alt space-at bind spacing
+  first-blank f g e =
+      let other = ne-eqb b 13 g in
+      let fits : spacing b ≡ true = rw (e, other) in
+      rw (reference-other b (ne-eqb b 38 f) s, line-end-other (ascii " ") b other s, byte-complete spacing b fits s)
 
   first-other : (b ≡ 38 → ⊥) → blank b ≡ false → value-character-at q (b ∷ s) ≡ literal-at (value-byte q) (b ∷ s)
-  unfolding value-character-at alt space-at bind
-  first-other f e = rw (reference-other b (ne-eqb b 38 f) s, byte-other blank b e s)
+  unfolding value-character-at alt space-at bind spacing
+  first-other f e =
+      let unfit : spacing b ≡ false = rw e in
+      rw (reference-other b (ne-eqb b 38 f) s, line-end-other (ascii " ") b (no-return b e) s, byte-other spacing b unfit s)
 
   in-value : (b ≡ 38 → ⊥) → blank b ≡ false → (eqb b 60 || eqb b q) ≡ false → value-byte q b ≡ true
   unfolding value-byte special
@@ -65,15 +74,23 @@ unfolding value-byte special
 amp-out q = refl
 
 amp-alone : (q : ℕ) (s : List ℕ) → value-character-at q (38 ∷ s) ≡ reference-at (38 ∷ s)
-unfolding value-character-at space-at bind alt blank
-amp-alone q s = alt-fail (reference-at (38 ∷ s)) (rw (byte-other blank 38 refl s) (literal-not (value-byte q) 38 s (amp-out q)))
+unfolding value-character-at space-at bind alt spacing blank
+amp-alone q s = alt-fail (reference-at (38 ∷ s))
+    (rw (line-end-other (ascii " ") 38 refl s, byte-other spacing 38 refl s) (literal-not (value-byte q) 38 s (amp-out q)))
+
+return-value : (q : ℕ) (s : List ℕ) → value-character-at q (13 ∷ s) ≡ feed-at (ascii " ") s
+unfolding value-character-at alt
+return-value q s =
+    let known = return-read (ascii " ") s in
+    let read = feed-got (ascii " ") s in
+    rw (reference-other 13 refl s, known, read)
 
 module _ (text : List ℕ) (at q : ℕ) where
   abbrev Character : Step → Type 0
   Character r = r ≡ stepped (length text) (value-character-at q (drop at text))
 
   pub character-none : length text ≤ at → Character No
-  unfolding value-character-at reference-at standsFor space-at literal-at alt bind mark byte
+  unfolding value-character-at reference-at standsFor line-end-at space-at literal-at alt bind mark byte
   character-none h = refuses (length text) (value-character-at q (drop at text)) (rw (at-end text at h))
 
   module _ (h : at < length text) where
@@ -83,10 +100,17 @@ module _ (text : List ℕ) (at q : ℕ) where
         k ∙ ap (stepped (length text)) (ap reference-at here ∙ sym (amp-alone q (drop (at + 1) text))
         ∙ ap (value-character-at q) (sym here))
 
+    pub character-return : getD text at 0 ≡ 13 → {j : ℕ} → To j ≡ stepped (length text) (feed-at (ascii "\n") (drop (at + 1) text))
+        → Character (To j)
+    character-return e k =
+        let here : drop at text ≡ 13 ∷ drop (at + 1) text = rw (at-byte text at h, e) in
+        k ∙ feed-steps (length text) (ascii "\n") (ascii " ") (drop (at + 1) text)
+        ∙ ap (stepped (length text)) (sym (return-value q (drop (at + 1) text)) ∙ ap (value-character-at q) (sym here))
+
     module _ (f : getD text at 0 ≡ 38 → ⊥) {t : Bool} (is : t ≡ blank (getD text at 0)) where
-      pub character-blank : t ≡ true → Character (To (at + 1))
-      character-blank e = arrives text (value-character-at q (drop at text)) {a = ascii " "} (at + 1) (omega arith)
-          (rw (at-byte text at h) (first-blank q (getD text at 0) (drop (at + 1) text) f (sym is ∙ e)))
+      pub character-blank : (getD text at 0 ≡ 13 → ⊥) → t ≡ true → Character (To (at + 1))
+      character-blank g e = arrives text (value-character-at q (drop at text)) {a = ascii " "} (at + 1) (omega arith)
+          (rw (at-byte text at h) (first-blank q (getD text at 0) (drop (at + 1) text) f g (sym is ∙ e)))
 
       module _ (e : t ≡ false) where
         from-here : value-character-at q (drop at text) ≡ literal-at (value-byte q) (getD text at 0 ∷ drop (at + 1) text)
@@ -124,11 +148,14 @@ module _ (text : List ℕ) (at q : ℕ) (h : at < length text) {t : Bool}
       f : getD text at 0 ≡ 38 → ⊥
       f = eqb-false (getD text at 0) 38 (or-right (eqb (getD text at 0) 60) (eqb (getD text at 0) 38) free)
 
+      g : getD text at 0 ≡ 13 → ⊥
+      g z = let above = within 32 127 (getD text at 0) low .0 in omega arith
+
       k : (eqb (getD text at 0) 60 || eqb (getD text at 0) q) ≡ false
       k = rw (or-left (eqb (getD text at 0) 60) (eqb (getD text at 0) 38) free, other)
 
       go : (t : Bool) → blank (getD text at 0) ≡ t → To (at + 1) ≡ stepped (length text) (value-character-at q (drop at text))
-      go true b = character-blank text at q h f refl b
+      go true b = character-blank text at q h f refl g b
       go false b = character-in text at q h f refl b k (plain-step text at h refl low)
 
 -- up to the other quote
@@ -143,7 +170,7 @@ module _ (q : ℕ) (text : List ℕ) (at i : ℕ) (go : InValue q text at i) whe
   Rest r = r ≡ stepped (length text) (value-rest-at q (drop at text))
 
   nothing-there : value-character-at q [] ≡ fail
-  unfolding value-character-at reference-at standsFor space-at literal-at alt bind mark byte
+  unfolding value-character-at reference-at standsFor line-end-at space-at literal-at alt bind mark byte
   nothing-there = refl
 
   pub value-open : length text ≤ i → Rest No

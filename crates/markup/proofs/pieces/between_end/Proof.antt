@@ -1,4 +1,4 @@
-use Rattle.steps.specs.Laws.Pieces.{passing, Passing}
+use Rattle.steps.specs.Laws.Between.{passing, Passing}
 use lib.ListN.{length, drop}
 use Rattle.markup.proofs.pieces.between_end.Statement.{statement}
 use Rattle.markup.proofs.pieces.between_end.Tie as tie

@@ -1,0 +1,13 @@
+use Rattle.steps.specs.Laws.Feeds.{feeding}
+use Rattle.letters.proofs.blanks.feed_end.Statement.{statement}
+use Rattle.letters.proofs.blanks.feed_end.Tie as tie
+
+pub feed-end-spec : {M : Type 1} → statement M
+feed-end-spec =
+    tie.close
+    (tie.spec
+    (λ c. search feeding)
+    (λ c. search feeding)
+    (λ c. search feeding)
+    (λ c. search feeding)
+    (λ c. search feeding))
