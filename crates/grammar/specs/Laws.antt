@@ -1,5 +1,6 @@
 pub mod Sound
 pub mod Facts
+pub mod Others
 pub mod Tokens
 pub mod Complete
 pub mod Classes

@@ -1,28 +1,43 @@
--- What a text writes is tidy: no run is empty, no two stand side by side, each name is a name, and each tag's attributes have distinct
--- names, 16 at most.
+-- What a text writes is tidy: no run is empty, no two stand side by side, each name is a name, each tag's attributes have distinct names,
+-- 16 at most, and no run and no value holds a carriage return.
 use mathlib.Core.Path.{_≡_, refl}
+use mathlib.Core.Bool.{false}
+use native.Mathlib.Omega.{arith}
+use lib.Dec.{eqb}
 use mathlib.Core.List.{List, [], _∷_, _++_}
-use Prim.Native.Nat.{ℕ, suc, _≤_}
+use Prim.Native.Nat.{ℕ, suc, _≤_, _<_}
 use lib.ListN.{length}
-use Rattle.grammar.specs.Document.{Attribute, Element, element, Contents, nothing, child, run, merged}
+use Rattle.grammar.specs.Bytes.{Each, no-byte, a-byte, blank, Sequence, no-more, one-more, Row, none-more, and-more, parted}
+use Rattle.grammar.specs.Document.{Attribute, attribute, Element, element, Contents, nothing, child, run, merged, together}
 use Rattle.grammar.specs.Grammar
-use Rattle.grammar.specs.Grammar.{Name, Reference, TextCharacter, Distinct, Attributes, WritesElement, WritesContents, Writes}
+use Rattle.grammar.specs.Grammar.{Name, Reference, TextCharacter, ValueCharacter, Value, WritesAttribute, Distinct, Attributes}
+use Rattle.grammar.specs.Grammar.{WritesElement, WritesContents, Writes}
+use Rattle.grammar.specs.Laws.Facts.{no-return}
+use Rattle.grammar.specs.Laws.Others.{other, character-other}
 
 -- contents that do not begin with a run
 pub data NoRun : Contents → Type 0 where
   no-contents : NoRun nothing
   no-run : {e : Element} {c : Contents} → NoRun (child e c)
 
+-- no carriage return stands in it; in none of the values
+abbrev pub NoReturn : List ℕ → Type 0
+NoReturn w = Each (other 13) w
+
+pub data NoReturns : List Attribute → Type 0 where
+  no-value : NoReturns []
+  a-value : {n v : List ℕ} {l : List Attribute} → NoReturn v → NoReturns l → NoReturns (attribute n v ∷ l)
+
 mutual
   -- `TidyElement d e`: tidy, and at most `d` deep
   pub data TidyElement : ℕ → Element → Type 0 where
-    tidy-element : {d : ℕ} {n : List ℕ} {l : List Attribute} {c : Contents} {k : List ℕ} → Name n → Distinct l → length l ≤ 16 → Tidy d c
-        → TidyElement (suc d) (element n l c k)
+    tidy-element : {d : ℕ} {n : List ℕ} {l : List Attribute} {c : Contents} {k : List ℕ} → Name n → Distinct l → length l ≤ 16
+        → NoReturns l → Tidy d c → TidyElement (suc d) (element n l c k)
 
   pub data Tidy : ℕ → Contents → Type 0 where
     tidy-nothing : {d : ℕ} → Tidy d nothing
     tidy-child : {d : ℕ} {e : Element} {c : Contents} → TidyElement d e → Tidy d c → Tidy d (child e c)
-    tidy-run : {d : ℕ} {a : ℕ} {w : List ℕ} {c : Contents} → NoRun c → Tidy d c → Tidy d (run (a ∷ w) c)
+    tidy-run : {d : ℕ} {a : ℕ} {w : List ℕ} {c : Contents} → NoRun c → NoReturn (a ∷ w) → Tidy d c → Tidy d (run (a ∷ w) c)
 
 data Filled : List ℕ → Type 0 where
   filled : {a : ℕ} {w : List ℕ} → Filled (a ∷ w)
@@ -39,15 +54,52 @@ text-filled (TextCharacter.literal h e f) = filled
 text-filled (TextCharacter.line-end k) = filled
 text-filled (TextCharacter.reference k) = reference-filled k
 
-joined-tidy : {d : ℕ} {b : List ℕ} {c : Contents} → Filled b → Tidy d c → Tidy d (merged b c)
+-- what each character reads as holds no return
+reference-clean : {b w : List ℕ} → Reference b w → NoReturn b
+unfolding other
+reference-clean Grammar.amp = a-byte refl no-byte
+reference-clean Grammar.lt = a-byte refl no-byte
+reference-clean Grammar.gt = a-byte refl no-byte
+reference-clean Grammar.quot = a-byte refl no-byte
+reference-clean Grammar.apos = a-byte refl no-byte
+
+text-clean : {b w : List ℕ} → TextCharacter b w → NoReturn b
+unfolding other
+text-clean (TextCharacter.literal h e f) = character-other 13 (omega arith) h f
+text-clean (TextCharacter.line-end k) = a-byte refl no-byte
+text-clean (TextCharacter.reference k) = reference-clean k
+
+value-clean : {q : ℕ} {b w : List ℕ} → ValueCharacter q b w → NoReturn b
+unfolding other
+value-clean (ValueCharacter.literal {a} h e₁ e₂ e₃) = character-other 13 (omega arith) h (no-return a e₃)
+value-clean (ValueCharacter.space h f) = a-byte refl no-byte
+value-clean (ValueCharacter.line-end k) = a-byte refl no-byte
+value-clean (ValueCharacter.reference k) = reference-clean k
+
+both-clean : {b w : List ℕ} → NoReturn b → NoReturn w → NoReturn (b ++ w)
+both-clean no-byte k = k
+both-clean (a-byte e h) k = a-byte e (both-clean h k)
+
+row-clean : {q : ℕ} {bs : List (List ℕ)} {w : List ℕ} → Row (ValueCharacter q) parted bs w → NoReturn (together bs)
+row-clean none-more = no-byte
+row-clean (and-more h e t) = both-clean (value-clean h) (row-clean t)
+
+written-clean : {v w : List ℕ} → Value v w → NoReturn v
+written-clean (Grammar.value q h t) = row-clean t
+
+attributes-clean : {l : List Attribute} {w : List ℕ} → Sequence WritesAttribute l w → NoReturns l
+attributes-clean no-more = no-value
+attributes-clean (one-more (Grammar.written u n e v) t) = a-value (written-clean v) (attributes-clean t)
+
+joined-tidy : {d : ℕ} {b : List ℕ} {c : Contents} → Filled b → NoReturn b → Tidy d c → Tidy d (merged b c)
 unfolding merged
-joined-tidy filled tidy-nothing = tidy-run no-contents tidy-nothing
-joined-tidy filled (tidy-child h k) = tidy-run no-run (tidy-child h k)
-joined-tidy filled (tidy-run h k) = tidy-run h k
+joined-tidy filled n tidy-nothing = tidy-run no-contents n tidy-nothing
+joined-tidy filled n (tidy-child h k) = tidy-run no-run n (tidy-child h k)
+joined-tidy filled n (tidy-run h m k) = tidy-run h (both-clean n m) k
 
 tidy-tag : {d : ℕ} {n t : List ℕ} {l : List Attribute} {c : Contents} {k : List ℕ} → Name n → Attributes l t → Tidy d c
     → TidyElement (suc d) (element n l c k)
-tidy-tag nm (Grammar.attributes t h k) q = tidy-element nm h k q
+tidy-tag nm (Grammar.attributes t h k) q = tidy-element nm h k (attributes-clean t) q
 
 element-tidy : {d : ℕ} {e : Element} {w : List ℕ} → WritesElement d e w → TidyElement d e
 element-tidy t = elim t as (λ d e w _. TidyElement d e) (λ d c w _. Tidy d c) [
@@ -55,7 +107,7 @@ element-tidy t = elim t as (λ d e w _. TidyElement d e) (λ d c w _. Tidy d c) 
   | Grammar.empty nm at hu ↦ tidy-tag nm at tidy-nothing
   | Grammar.none ↦ tidy-nothing
   | Grammar.remark k (t → ih) ↦ ih
-  | Grammar.character k p e (t → ih) ↦ joined-tidy (text-filled k) ih
+  | Grammar.character k p e (t → ih) ↦ joined-tidy (text-filled k) (text-clean k) ih
   | Grammar.inner (k → ih₁) (t → ih₂) ↦ tidy-child ih₁ ih₂
 ]
 

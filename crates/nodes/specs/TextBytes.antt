@@ -24,7 +24,7 @@ use Rattle.nodes.specs.Places.{element₁₆}
 use Rattle.nodes.specs.Laws.Depth.{comment-eats}
 use Rattle.nodes.specs.Laws.ReadSteps.{eats-child, Induction, induction}
 use Rattle.nodes.specs.Scan.{skip-at, skip-less, less-falls}
-use Rattle.nodes.specs.Laws.ScanEnds.{continues-high, lead3-high, lead4-high}
+use Rattle.grammar.specs.Laws.Others.{continues-high, lead3-high, lead4-high}
 use Rattle.nodes.specs.Skip.{skip-element}
 
 -- ON BYTES: a step over contents: it stops, passes a comment or a child, or reads a decoded byte

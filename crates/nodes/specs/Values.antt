@@ -24,7 +24,7 @@ use Rattle.grammar.specs.Laws.Facts.{blank-in, quote-in}
 use Rattle.grammar.specs.Unfuelled.{less, all-of-step}
 use Rattle.steps.specs.Step.{Tails}
 use Rattle.steps.specs.Leaves.{first-byte, reference-tails}
-use Rattle.nodes.specs.Laws.ScanEnds.{continues-high, lead3-high, lead4-high}
+use Rattle.grammar.specs.Laws.Others.{continues-high, lead3-high, lead4-high}
 use Rattle.nodes.specs.Places.{pick, unbind, Tail, tail-of, tail-more}
 use Rattle.nodes.specs.Attributes.{ValueAt}
 use Rattle.nodes.specs.declared.Char.{Char}

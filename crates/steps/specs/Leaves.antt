@@ -6,9 +6,11 @@ use mathlib.Core.Bool.{Bool, true, false}
 use lib.ListN.{length}
 use Rattle.grammar.specs.Bytes.{ascii, begins}
 use Rattle.grammar.specs.Read.{Read, fail, got, Reader, bind, mark, span, Ok, ok-map, mark-sound, span-sound, byte-complete, byte-other}
-use Rattle.grammar.specs.Parser.{name-at, gap-at, equals-at, literal-at, reference-at, value-character-at, value-at, remark-at}
-use Rattle.grammar.specs.Laws.Sound.{name-sound, gap-sound, equals-sound, reference-sound, value-character-sound, value-sound, remark-sound}
-use Rattle.grammar.specs.Laws.Tokens.{value-character-long, remark-long}
+use Rattle.grammar.specs.Parser.{name-at, gap-at, equals-at, literal-at, reference-at, line-end-at, value-character-at, value-at}
+use Rattle.grammar.specs.Parser.{remark-at}
+use Rattle.grammar.specs.Laws.Sound.{name-sound, gap-sound, equals-sound, reference-sound, line-end-takes, value-character-sound}
+use Rattle.grammar.specs.Laws.Sound.{value-sound, remark-sound}
+use Rattle.grammar.specs.Laws.Tokens.{line-end-long, value-character-long, remark-long}
 use Rattle.grammar.specs.Unfuelled.{less}
 use Rattle.steps.specs.Laws.Until.{until}
 use Rattle.steps.specs.Step.{Tails, tails}
@@ -56,6 +58,13 @@ referred n (got b r) = reference.Is (first-byte b) (n - length r)
 
 pub reference-tails : (s : List ℕ) → Ok (Tails s) (reference-at s)
 reference-tails s = tails (reference-sound s)
+
+-- the end of a line
+pub line-end-eats : (v s : List ℕ) → Ok (λ _ r. length r < length s) (line-end-at v s)
+line-end-eats v s = less (λ _ w h. line-end-long h) (line-end-takes v s)
+
+pub line-end-tails : (v s : List ℕ) → Ok (Tails s) (line-end-at v s)
+line-end-tails v s = tails (line-end-takes v s)
 
 -- VALUES
 pub value-character-eats : (q : ℕ) (s : List ℕ) → Ok (λ _ r. length r < length s) (value-character-at q s)

@@ -125,6 +125,9 @@ line-end-sound : (v s : List ℕ) → Ok (λ b r. (b ≡ v) × TakesWhole (λ _ 
 unfolding line-end-at feed-at
 line-end-sound v s = bind-ok (mark-sound (ascii "\r") s) λ _ r₁ e₁. rw e₁ (feed-sound (begins (ascii "\n") r₁) v r₁ refl)
 
+pub line-end-takes : (v s : List ℕ) → Ok (Takes (λ _ w. LineEnd w) s) (line-end-at v s)
+line-end-takes v s = ok-map (line-end-sound v s) λ b r h. (h .1 .0, h .1 .1, h .1 .2)
+
 text-literal : {w : List ℕ} → Literal text-byte w → (r : List ℕ) → TextCharacter w w × (parted w r ≡ false)
 unfolding text-byte
 text-literal (literal {a} {w} h e) r =

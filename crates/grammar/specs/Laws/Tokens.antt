@@ -163,7 +163,7 @@ reference-ampersand Grammar.apos = ampersand _
 ampersand-long : {w : List ℕ} → Ampersand w → 0 < length w
 ampersand-long (ampersand w) = omega arith
 
-line-end-long : {w : List ℕ} → LineEnd w → 0 < length w
+pub line-end-long : {w : List ℕ} → LineEnd w → 0 < length w
 line-end-long Grammar.pair = omega arith
 line-end-long Grammar.lone = omega arith
 

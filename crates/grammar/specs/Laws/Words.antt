@@ -7,12 +7,13 @@ use mathlib.Core.Bool.{Bool, true, false, _&&_, _||_}
 use lib.Dec.{eqb}
 use native.Mathlib.Omega.{arith}
 use borrow.Author.Tests.{eqb-true, ne-eqb}
-use Rattle.lists.specs.Laws.Booleans.{and-right, or-elim, clash}
-use Rattle.grammar.specs.Bytes.{_⊹_, ascii, blank, between, Sequence, no-more, one-more, begins}
-use Rattle.grammar.specs.Characters.{Character, utf8-1, utf8-2, utf8-3, utf8-4, lead1, lead3, lead4, continues}
+use Rattle.lists.specs.Laws.Booleans.{clash}
+use Rattle.grammar.specs.Bytes.{_⊹_, ascii, blank, Sequence, no-more, one-more, begins}
+use Rattle.grammar.specs.Characters.{Character, utf8-1, utf8-2, utf8-3, utf8-4, lead1}
 use Rattle.grammar.specs.Grammar
 use Rattle.grammar.specs.Grammar.{Remark}
-use Rattle.grammar.specs.Laws.Facts.{within, lead2-in, lead3-in, lead4-in}
+use Rattle.grammar.specs.Laws.Facts.{lead2-in, lead3-in, lead4-in}
+use Rattle.grammar.specs.Laws.Others.{continues-high, lead3-high, lead4-high}
 
 -- the bytes `k` begin at no place of the text
 pub data Nowhere (k : List ℕ) : List ℕ → Type 0 where
@@ -33,27 +34,8 @@ pub record Produced (w : List ℕ) : Type 0 where
   pub many : List (List ℕ)
   pub remarks : Sequence Remark many w
 
-high : (q b : ℕ) → q ≤ 127 → 128 ≤ b → eqb b q ≡ false
+high : (q b : ℕ) → q ≤ 127 → 127 < b → eqb b q ≡ false
 high q b l h = ne-eqb b q λ e. omega arith
-
-continues-high : (b : ℕ) → continues b ≡ true → 128 ≤ b
-unfolding continues
-continues-high b e = within 128 191 b e .0
-
-lead3-second : (a b : ℕ) → lead3 a b ≡ true → 128 ≤ b
-unfolding lead3
-lead3-second a b e =
-    or-elim (128 ≤ b) (eqb a 224 && between 160 191 b) _ e (λ h. let q = within 160 191 b (and-right (eqb a 224) _ h) in omega arith) λ e₁.
-    or-elim (128 ≤ b) (between 225 236 a && continues b) _ e₁ (λ h. continues-high b (and-right (between 225 236 a) _ h)) λ e₂.
-    or-elim (128 ≤ b) (eqb a 237 && between 128 159 b) _ e₂ (λ h. within 128 159 b (and-right (eqb a 237) _ h) .0) λ h.
-    continues-high b (and-right (between 238 239 a) _ h)
-
-lead4-second : (a b : ℕ) → lead4 a b ≡ true → 128 ≤ b
-unfolding lead4
-lead4-second a b e =
-    or-elim (128 ≤ b) (eqb a 240 && between 144 191 b) _ e (λ h. let q = within 144 191 b (and-right (eqb a 240) _ h) in omega arith) λ e₁.
-    or-elim (128 ≤ b) (between 241 243 a && continues b) _ e₁ (λ h. continues-high b (and-right (between 241 243 a) _ h)) λ h.
-    within 128 143 b (and-right (eqb a 244) _ h) .0
 
 -- another byte than the first of the bytes sought
 pub past : {q : ℕ} {k : List ℕ} (b : ℕ) {s : List ℕ} → eqb b q ≡ false → Nowhere (q ∷ k) s → Nowhere (q ∷ k) (b ∷ s)
@@ -65,9 +47,9 @@ pub tail-past : {q : ℕ} {k : List ℕ} → q ≤ 127 → {a : ℕ} {w : List �
     → Nowhere (q ∷ k) (w ++ s)
 tail-past l (utf8-1 h) s n = n
 tail-past {q} l (utf8-2 {b = b} h k) s n = past b (high q b l (continues-high b k)) n
-tail-past {q} l (utf8-3 {a} {b} {c} h k m) s n = past b (high q b l (lead3-second a b h)) (past c (high q c l (continues-high c k)) n)
+tail-past {q} l (utf8-3 {a} {b} {c} h k m) s n = past b (high q b l (lead3-high a b h)) (past c (high q c l (continues-high c k)) n)
 tail-past {q} l (utf8-4 {a} {b} {c} {d} h k m) s n =
-    past b (high q b l (lead4-second a b h)) (past c (high q c l (continues-high c k)) (past d (high q d l (continues-high d m)) n))
+    past b (high q b l (lead4-high a b h)) (past c (high q c l (continues-high c k)) (past d (high q d l (continues-high d m)) n))
 
 dash : Character 45 []
 unfolding lead1 blank

@@ -1,14 +1,17 @@
 -- The end of a line behind its carriage return: a line feed, or nothing. It is read the same, whatever it stands for.
 use mathlib.Core.Path.{_≡_, refl, _∙_}
-use mathlib.Core.List.{List, [], _∷_}
+use mathlib.Core.List.{List, [], _∷_, _++_}
 use Prim.Native.Nat.{ℕ, _+_, _≤_, _<_}
 use native.Mathlib.Omega.{arith}
 use borrow.Author.Needs.{needs}
-use mathlib.Core.Bool.{Bool, true, false}
+use mathlib.Core.Bool.{Bool, true, false, _&&_}
+use Rattle.lists.specs.Laws.Booleans.{clash}
 use borrow.Author.Tests.{eq-eqb, ne-eqb, eqb-true}
 use lib.Dec.{eqb}
 use lib.ListN.{length, drop, getD}
-use Rattle.grammar.specs.Bytes.{ascii, begins}
+use Rattle.grammar.specs.Bytes.{ascii, begins, parted}
+use Rattle.grammar.specs.Grammar
+use Rattle.grammar.specs.Grammar.{LineEnd}
 use Rattle.grammar.specs.Read.{Read, got, bind, mark, test}
 use Rattle.grammar.specs.Parser.{standsFor, feed-if, feed-at, line-end-at}
 use Rattle.steps.specs.Step.{stepped, at-byte, at-end, arrives}
@@ -39,6 +42,26 @@ feed-steps n v w s = rw (feed-got v s, feed-got w s)
 pub return-read : (v s : List ℕ) → line-end-at v (13 ∷ s) ≡ feed-at v s
 unfolding line-end-at mark test bind
 return-read v s = refl
+
+-- an end of a line is a return, and what stands behind it is left
+fed-alone : (s : List ℕ) → begins (ascii "\n") s ≡ false → fed s ≡ s
+unfolding begins fed left-by
+fed-alone [] e = refl
+fed-alone (b ∷ s) e = go (eqb b 10) e
+  where
+    go : (t : Bool) → (t && true) ≡ false → left-by t b s ≡ b ∷ s
+    go true e = clash (cc)
+    go false e = refl
+
+pub record Returns (w s : List ℕ) : Type 0 where
+  pub behind : List ℕ
+  pub whole : w ++ s ≡ 13 ∷ behind
+  pub leaves : fed behind ≡ s
+
+pub line-end-returns : {w : List ℕ} → LineEnd w → (s : List ℕ) → parted w s ≡ false → Returns w s
+unfolding parted fed left-by
+line-end-returns Grammar.pair s e = record { behind = 10 ∷ s; whole = refl; leaves = refl }
+line-end-returns Grammar.lone s e = record { behind = s; whole = refl; leaves = fed-alone s e }
 
 -- in a program
 module _ (text : List ℕ) (at : ℕ) where

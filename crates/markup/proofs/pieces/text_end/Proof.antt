@@ -12,4 +12,7 @@ text-end-spec =
     (λ c. search texts)
     (λ c. search texts)
     (λ c κs. search texts)
+    (λ c. search texts)
+    (λ c. search texts)
+    (λ c κs. search texts)
     (λ c. search texts))
