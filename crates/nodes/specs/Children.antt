@@ -186,7 +186,7 @@ module _ (text : List ℕ) where
   rows = record {
     closed = λ s q. record { row = λ _. row-closed s q };
     remarked = λ s r c t q e h. record { row = λ tail. rw (row-remarked s r q e) (h .row (tail-read (tails (comment-sound s)) e tail)) };
-    lettered = λ b w r c t k h. record {
+    lettered = λ b w r c t k _ h. record {
       row = λ tail. rw (row-lettered w r (to-tag-free (text-free k) r), elements-joined b c)
           (h .row (tail-more w r refl tail));
     };

@@ -151,7 +151,7 @@ scanning : Induction Scans
 scanning = record {
   closed = λ s q. record { same-end = λ d. refl };
   remarked = λ s r c t q e h. record { same-end = λ d. scan-remark s r q e d ∙ h .same-end d };
-  lettered = λ b w r c t k h. record { same-end = λ d. scan-text w r (to-tag-free (text-free k) r) d ∙ h .same-end d };
+  lettered = λ b w r c t k _ h. record { same-end = λ d. scan-text w r (to-tag-free (text-free k) r) d ∙ h .same-end d };
   childed = λ s r x c t q e inside h. record
       { same-end = λ d. scan-child s r x q e inside d ∙ inside r c t (eats-child s e) h .same-end d };
 }

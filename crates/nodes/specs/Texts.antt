@@ -9,17 +9,18 @@ use Rattle.lists.specs.Laws.Booleans.{clash}
 use Rattle.grammar.specs.Document.{Attribute, Element}
 use Rattle.grammar.specs.Look.{contentsOf, characters, textOf}
 use Rattle.grammar.specs.Read.{Read, fail, got, Ok, good}
-use Rattle.grammar.specs.Parser.{reference-at, comment-at, Look, at-close, at-comment, at-element, at-text, look}
+use Rattle.grammar.specs.Bytes.{ascii}
+use Rattle.grammar.specs.Parser.{reference-at, line-end-at, comment-at, Look, at-close, at-comment, at-element, at-text, look}
 use Rattle.grammar.specs.Laws.Sound.{comment-sound}
 use Rattle.steps.specs.Step.{Tails, tails}
-use Rattle.steps.specs.Leaves.{reference-tails}
+use Rattle.steps.specs.Leaves.{reference-tails, line-end-tails}
 use Rattle.nodes.specs.Places.{Stands, the, Tail, tail-of, tail-more}
 use Rattle.nodes.specs.Laws.ReadSteps.{Ending, bare, filled, spelled}
 use Rattle.nodes.specs.Scan.{tag-from, tag-at, skip-at, skip-less, less-tails}
 use Rattle.nodes.specs.Skip.{tag-read, tag-bare, tag-filled}
 use Rattle.nodes.specs.Children.{tail-behind}
 use Rattle.nodes.specs.TextBytes.{Move, stop, skip, char, past, referring, step-by, step, say, says, says-step, Shorter, skip-short}
-use Rattle.nodes.specs.TextBytes.{char-short, step-short, contents-say}
+use Rattle.nodes.specs.TextBytes.{char-short, bare-char, step-short, contents-say}
 use Rattle.nodes.specs.declared.Found.{Found}
 use Rattle.nodes.specs.declared.Found.the-variants.{At, Nothing}
 use Rattle.nodes.specs.declared.Text.{Text}
@@ -84,13 +85,14 @@ referring-tailed text s fail x t h k = k
 referring-tailed text s (got b r) x t (good h) k = char-tailed (tail-more (h .0) r (h .1) t)
 
 by-tailed : (text : List ℕ) (l : Look) (s : List ℕ) → Tail text s → Tailed text (step-by l s)
-unfolding step-by
+unfolding step-by bare-char
 by-tailed text at-close s t = stop-tailed
 by-tailed text at-element s t = past-tailed text s (skip-at s) t (less-tails (skip-less s))
 by-tailed text at-comment s t = past-tailed text s (comment-at s) t (tails (comment-sound s))
 by-tailed text at-text [] t = stop-tailed
-by-tailed text at-text (a ∷ s) t = referring-tailed text (a ∷ s) (reference-at (a ∷ s)) (char a s) t (reference-tails (a ∷ s))
-    (char-tailed (tail-more (a ∷ []) s refl t))
+by-tailed text at-text (a ∷ s) t = referring-tailed text (a ∷ s) (reference-at (a ∷ s)) _ t (reference-tails (a ∷ s))
+    (referring-tailed text (a ∷ s) (line-end-at (ascii "\n") (a ∷ s)) (char a s) t (line-end-tails (ascii "\n") (a ∷ s))
+    (char-tailed (tail-more (a ∷ []) s refl t)))
 
 step-tailed : (text s : List ℕ) → Tail text s → Tailed text (step s)
 unfolding step

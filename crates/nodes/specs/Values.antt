@@ -9,21 +9,22 @@ use lib.Dec.{eqb}
 use borrow.Author.Tests.{ne-eqb}
 use lib.ListN.{length, drop, getD, length-drop}
 use Rattle.lists.specs.Laws.Booleans.{and-left, or-right, clash}
-use Rattle.grammar.specs.Bytes.{blank, quote, special, begins}
+use Rattle.grammar.specs.Bytes.{ascii, blank, quote, special, begins, parted}
 use Rattle.grammar.specs.Characters.{Character, utf8-1, utf8-2, utf8-3, utf8-4}
 use Rattle.grammar.specs.Document.{together}
 use Rattle.grammar.specs.Grammar
 use Rattle.grammar.specs.Grammar.{ValueCharacter, Reference}
 use Rattle.grammar.specs.Read.{Read, fail, got, Reader, bind, byte, mark, all-of, many-step, Ok, good, ok-got, byte-sound}
-use Rattle.grammar.specs.Parser.{reference-at, value-character-at, value-at}
-use Rattle.grammar.specs.Laws.Sound.{reference-sound, value-character-sound}
+use Rattle.grammar.specs.Parser.{reference-at, line-end-at, value-character-at, value-at}
+use Rattle.grammar.specs.Laws.Sound.{reference-sound, value-character-sound, value-character-whole}
 use Rattle.grammar.specs.Laws.Tokens.{reference-complete, reference-other, reference-ampersand, Ampersand, ampersand}
-use Rattle.grammar.specs.Laws.Tokens.{value-character-long, high-no-blank}
+use Rattle.grammar.specs.Laws.Tokens.{line-end-other, value-character-long, high-no-blank}
 use lib.Seq.{drop-drop, getD-drop}
-use Rattle.grammar.specs.Laws.Facts.{blank-in, quote-in}
+use Rattle.grammar.specs.Laws.Facts.{blank-in, quote-in, no-return}
 use Rattle.grammar.specs.Unfuelled.{less, all-of-step}
 use Rattle.steps.specs.Step.{Tails}
-use Rattle.steps.specs.Leaves.{first-byte, reference-tails}
+use Rattle.steps.specs.Leaves.{first-byte, reference-tails, line-end-eats, line-end-tails}
+use Rattle.steps.specs.Laws.Feeds.{fed, feed-got, return-read, line-end-returns}
 use Rattle.grammar.specs.Laws.Others.{continues-high, lead3-high, lead4-high}
 use Rattle.nodes.specs.Places.{pick, unbind, Tail, tail-of, tail-more}
 use Rattle.nodes.specs.Attributes.{ValueAt}
@@ -39,9 +40,13 @@ unfoldable pub or-else : Read (List ℕ) → Next → Next
 or-else fail n = n
 or-else (got b r) n = a-byte (first-byte b) r
 
+-- a byte that begins no reference: the end of a line and a blank are a space
+unfoldable pub bare-byte : ℕ → List ℕ → Next
+bare-byte a s = or-else (line-end-at (ascii " ") (a ∷ s)) (a-byte (pick (blank a) 32 a) s)
+
 unfoldable pub next-byte : ℕ → List ℕ → Next
 next-byte q [] = no-byte
-next-byte q (a ∷ s) = pick (eqb a q) no-byte (or-else (reference-at (a ∷ s)) (a-byte (pick (blank a) 32 a) s))
+next-byte q (a ∷ s) = pick (eqb a q) no-byte (or-else (reference-at (a ∷ s)) (bare-byte a s))
 
 -- all of them: any bytes
 unfoldable pub tell : Next → (List ℕ → List ℕ) → List ℕ
@@ -73,15 +78,16 @@ ampersand-long : {w : List ℕ} → Ampersand w → 0 < length w
 ampersand-long (ampersand w) = omega arith
 
 pub next-short : (q : ℕ) (s : List ℕ) → ShorterNext s (next-byte q s)
-unfolding next-byte
+unfolding next-byte bare-byte
 next-short q [] = none-short
 next-short q (a ∷ s) = go (eqb a q)
   where
-    inner : ShorterNext (a ∷ s) (or-else (reference-at (a ∷ s)) (a-byte (pick (blank a) 32 a) s))
+    inner : ShorterNext (a ∷ s) (or-else (reference-at (a ∷ s)) (bare-byte a s))
     inner = or-else-short (a ∷ s) (reference-at (a ∷ s)) _
-        (less (λ b w h. ampersand-long (reference-ampersand h)) (reference-sound (a ∷ s))) (one-short (omega arith))
+        (less (λ b w h. ampersand-long (reference-ampersand h)) (reference-sound (a ∷ s)))
+        (or-else-short (a ∷ s) (line-end-at (ascii " ") (a ∷ s)) _ (line-end-eats (ascii " ") (a ∷ s)) (one-short (omega arith)))
 
-    go : (t : Bool) → ShorterNext (a ∷ s) (pick t no-byte (or-else (reference-at (a ∷ s)) (a-byte (pick (blank a) 32 a) s)))
+    go : (t : Bool) → ShorterNext (a ∷ s) (pick t no-byte (or-else (reference-at (a ∷ s)) (bare-byte a s)))
     go true = none-short
     go false = inner
 
@@ -110,14 +116,21 @@ tells-step q s =
     (λ r l. told-enough q (length s) (suc (length r)) r (omega arith) (omega arith))
 
 plain : (q a : ℕ) (s : List ℕ) → eqb a q ≡ false → eqb a 38 ≡ false → blank a ≡ false → tells q (a ∷ s) ≡ a ∷ tells q s
-unfolding next-byte or-else tell
-plain q a s e₁ e₂ e₃ = rw (tells-step q (a ∷ s), e₁, reference-other a e₂ s, e₃)
+unfolding next-byte bare-byte or-else tell
+plain q a s e₁ e₂ e₃ = rw (tells-step q (a ∷ s), e₁, reference-other a e₂ s, line-end-other (ascii " ") a (no-return a e₃) s, e₃)
 
-spaced : (q a : ℕ) (s : List ℕ) → eqb a q ≡ false → blank a ≡ true → tells q (a ∷ s) ≡ 32 ∷ tells q s
-unfolding next-byte or-else tell
-spaced q a s e₁ e₃ =
+spaced : (q a : ℕ) (s : List ℕ) → eqb a q ≡ false → blank a ≡ true → eqb a 13 ≡ false → tells q (a ∷ s) ≡ 32 ∷ tells q s
+unfolding next-byte bare-byte or-else tell
+spaced q a s e₁ e₃ e₄ =
     let low = blank-in a e₃ in
-    rw (tells-step q (a ∷ s), e₁, reference-other a (ne-eqb a 38 λ e. omega arith) s, e₃)
+    rw (tells-step q (a ∷ s), e₁, reference-other a (ne-eqb a 38 λ e. omega arith) s, line-end-other (ascii " ") a e₄ s, e₃)
+
+returned : (q : ℕ) → quote q ≡ true → (s : List ℕ) → tells q (13 ∷ s) ≡ 32 ∷ tells q (fed s)
+unfolding next-byte bare-byte or-else tell first-byte
+returned q h s =
+    let up = quote-in q h .0 in
+    let other : eqb 13 q ≡ false = ne-eqb 13 q λ e. omega arith in
+    rw (tells-step q (13 ∷ s), other, reference-other 13 refl s, return-read (ascii " ") s, feed-got (ascii " ") s)
 
 -- a byte of a character behind the first is plain
 high : (q a : ℕ) (s : List ℕ) → quote q ≡ true → 127 < a → tells q (a ∷ s) ≡ a ∷ tells q s
@@ -149,12 +162,15 @@ referred q h Grammar.gt s = by-reference q 62 _ s h (reference-complete Grammar.
 referred q h Grammar.quot s = by-reference q 34 _ s h (reference-complete Grammar.quot s)
 referred q h Grammar.apos s = by-reference q 39 _ s h (reference-complete Grammar.apos s)
 
-value-tells : (q : ℕ) → quote q ≡ true → {b w : List ℕ} → ValueCharacter q b w → (s : List ℕ) → tells q (w ++ s) ≡ b ++ tells q s
+value-tells : (q : ℕ) → quote q ≡ true → {b w : List ℕ} → ValueCharacter q b w → (s : List ℕ) → parted w s ≡ false
+    → tells q (w ++ s) ≡ b ++ tells q s
 unfolding special
-value-tells q h (ValueCharacter.literal {a} k e₁ e₂ e₃) s = character-tells q h k e₂ (or-right (eqb a 60) (eqb a 38) e₁) e₃ s
-value-tells q h (ValueCharacter.space {a} k) s = let low = blank-in a k in let up = quote-in q h .0 in
-    spaced q a s (ne-eqb a q λ e. omega arith) k
-value-tells q h (ValueCharacter.reference k) s = referred q h k s
+value-tells q h (ValueCharacter.literal {a} k e₁ e₂ e₃) s _ = character-tells q h k e₂ (or-right (eqb a 60) (eqb a 38) e₁) e₃ s
+value-tells q h (ValueCharacter.space {a} k f) s _ = let low = blank-in a k in let up = quote-in q h .0 in
+    spaced q a s (ne-eqb a q λ e. omega arith) k f
+value-tells q h (ValueCharacter.line-end k) s p =
+    let z = line-end-returns k s p in ap (tells q) (z .whole) ∙ returned q h (z .behind) ∙ ap (λ r. 32 ∷ tells q r) (z .leaves)
+value-tells q h (ValueCharacter.reference k) s _ = referred q h k s
 
 values-at : ℕ → Reader (List (List ℕ))
 values-at q = all-of (begins (q ∷ [])) (value-character-at q)
@@ -180,8 +196,8 @@ ended q (a ∷ s) e = rw (tells-step q (a ∷ s), and-left (eqb a q) _ e)
 
 one-character : (q : ℕ) → quote q ≡ true → (s b r : List ℕ) → value-character-at q s ≡ got b r → tells q s ≡ b ++ tells q r
 one-character q h s b r e =
-    let k = ok-got (rw e at (value-character-sound q s)) in
-    rw (k .1) (value-tells q h (k .2) r)
+    let k = ok-got (rw e at (value-character-whole q s)) in
+    rw (k .1) (value-tells q h (k .2) r (k .3))
 
 values-tell : (n q : ℕ) → quote q ≡ true → (s : List ℕ) → length s < n → (bs : List (List ℕ)) (r : List ℕ) → values-at q s ≡ got bs r
     → tells q s ≡ together bs
@@ -242,14 +258,16 @@ or-else-tailed text s fail n t h k = k
 or-else-tailed text s (got b r) n t (good h) k = one-tailed (tail-more (h .0) r (h .1) t)
 
 next-tailed : (text : List ℕ) (q : ℕ) (s : List ℕ) → Tail text s → Tailed text (next-byte q s)
-unfolding next-byte
+unfolding next-byte bare-byte
 next-tailed text q [] t = none-tailed
 next-tailed text q (a ∷ s) t = go (eqb a q)
   where
-    inner : Tailed text (or-else (reference-at (a ∷ s)) (a-byte (pick (blank a) 32 a) s))
-    inner = or-else-tailed text (a ∷ s) (reference-at (a ∷ s)) _ t (reference-tails (a ∷ s)) (one-tailed (tail-more (a ∷ []) s refl t))
+    inner : Tailed text (or-else (reference-at (a ∷ s)) (bare-byte a s))
+    inner = or-else-tailed text (a ∷ s) (reference-at (a ∷ s)) _ t (reference-tails (a ∷ s))
+        (or-else-tailed text (a ∷ s) (line-end-at (ascii " ") (a ∷ s)) _ t (line-end-tails (ascii " ") (a ∷ s))
+        (one-tailed (tail-more (a ∷ []) s refl t)))
 
-    go : (c : Bool) → Tailed text (pick c no-byte (or-else (reference-at (a ∷ s)) (a-byte (pick (blank a) 32 a) s)))
+    go : (c : Bool) → Tailed text (pick c no-byte (or-else (reference-at (a ∷ s)) (bare-byte a s)))
     go true = none-tailed
     go false = inner
 

@@ -5,12 +5,13 @@ use Prim.Native.Nat.{ℕ, zero, suc, _+_, _-_, _≤_, _<_}
 use native.Mathlib.Omega.{arith}
 use mathlib.Core.Bool.{Bool, true, false, _&&_}
 use lib.Dec.{eqb}
-use borrow.Author.Tests.{ne-eqb}
+use borrow.Author.Tests.{ne-eqb, eqb-true}
 use lib.ListN.{length, drop}
 use Rattle.lists.specs.Laws.Booleans.{clash}
 use Rattle.lists.specs.Lists.{all}
-use Rattle.grammar.specs.Bytes.{blank, special, Each, no-byte, a-byte}
-use Rattle.grammar.specs.Laws.Facts.{blank-in}
+use Rattle.grammar.specs.Bytes.{ascii, blank, special, Each, no-byte, a-byte}
+use Rattle.grammar.specs.Laws.Facts.{blank-in, no-return}
+use Rattle.grammar.specs.Laws.Tokens.{line-end-other}
 use Rattle.grammar.specs.Grammar
 use Rattle.grammar.specs.Grammar.{Reference}
 use Rattle.grammar.specs.Read.{Read, fail, got, bind, Ok, good, ok-map, span, span-sound, Takes}
@@ -18,6 +19,7 @@ use Rattle.grammar.specs.Parser.{Look, at-close, at-comment, at-element, at-tex
 use Rattle.grammar.specs.Laws.Sound.{comment-sound, reference-sound}
 use Rattle.steps.specs.Step.{Tails, tails}
 use Rattle.steps.specs.Leaves.{first-byte, span-tails}
+use Rattle.steps.specs.Laws.Feeds.{left-by, fed}
 use Rattle.nodes.specs.Places.{Stands, the, Tail, tail-of, tail-more, tail-read, pick}
 use Rattle.nodes.specs.Laws.Depth.{comment-eats}
 use Rattle.nodes.specs.Scan.{to-tag, to-tag-tail, past-tag, past-tag-less, Less, tag-at, tag-less, scan-by, scan, scan-step}
@@ -25,7 +27,8 @@ use Rattle.nodes.specs.Scan.{leave-at, passed, skip-at}
 use Rattle.nodes.specs.Skip.{tag-here, no-text, no-text-comment, no-text-element, scan-element, skip-element}
 use Rattle.nodes.specs.Children.{kid-then, kid-by, kid-at, kid-step, first, first-by, left}
 use Rattle.nodes.specs.ElementEnd.{Behind}
-use Rattle.nodes.specs.TextBytes.{Move, referring, past, step-by, step, say, says, says-step, plain, child-says}
+use Rattle.nodes.specs.TextBytes.{Move, referring, past, bare-char, step-by, step, say, says, says-step, plain, returned}
+use Rattle.nodes.specs.TextBytes.{child-says}
 use Rattle.nodes.specs.Texts.{inside-by, inside, text-from, text-of}
 use Rattle.nodes.specs.Ahead.{afterGap, past-gap, gap-short, ending, ahead-then, ahead-by, ahead-at, ahead-step, first-ahead}
 use Rattle.nodes.specs.Ahead as Ahead-of
@@ -53,9 +56,27 @@ blank-open : (a : ℕ) (s : List ℕ) → blank a ≡ true → to-tag (a ∷ s) 
 unfolding to-tag
 blank-open a s h = let x = blank-in a h in rw (ne-eqb a 60 (λ e. omega arith))
 
-blank-says : (a : ℕ) (s : List ℕ) → blank a ≡ true → all blank (says (a ∷ s)) ≡ all blank (says s)
+plain-says : (a : ℕ) (s : List ℕ) → blank a ≡ true → eqb a 13 ≡ false → all blank (says (a ∷ s)) ≡ all blank (says s)
 unfolding all
-blank-says a s h = ap (all blank) (plain a s (blank-special a h)) ∙ rw h
+plain-says a s h f = ap (all blank) (plain a s (blank-special a h) f) ∙ rw h
+
+-- a line feed behind a return is a blank too
+fed-says : (s : List ℕ) → all blank (says (fed s)) ≡ all blank (says s)
+unfolding fed left-by blank
+fed-says [] = refl
+fed-says (b ∷ s) = go (eqb b 10) refl
+  where
+    go : (t : Bool) → eqb b 10 ≡ t → all blank (says (left-by t b s)) ≡ all blank (says (b ∷ s))
+    go true e = let same = eqb-true b 10 e in rw same (sym (plain-says 10 s refl refl))
+    go false e = refl
+
+blank-says : (a : ℕ) (s : List ℕ) → blank a ≡ true → all blank (says (a ∷ s)) ≡ all blank (says s)
+unfolding all blank
+blank-says a s h = go (eqb a 13) refl
+  where
+    go : (t : Bool) → eqb a 13 ≡ t → all blank (says (a ∷ s)) ≡ all blank (says s)
+    go true e = let same = eqb-true a 13 e in rw (same, returned s) (fed-says s)
+    go false e = plain-says a s h e
 
 tag-again : (s : List ℕ) → to-tag (to-tag s) ≡ to-tag s
 unfolding to-tag
@@ -128,9 +149,10 @@ reference-dark Grammar.quot = refl
 reference-dark Grammar.apos = refl
 
 letter-dark : (a : ℕ) (s : List ℕ) → blank a ≡ false → look (a ∷ s) ≡ at-text → all blank (says (a ∷ s)) ≡ false
-unfolding step step-by referring say all
+unfolding step step-by bare-char referring say all
 letter-dark a s h q =
-    let z : says (a ∷ s) ≡ say (referring (reference-at (a ∷ s)) (Move.char a s)) says = says-step (a ∷ s) ∙ rw q in
+    let z : says (a ∷ s) ≡ say (referring (reference-at (a ∷ s)) (Move.char a s)) says =
+    says-step (a ∷ s) ∙ rw (q, line-end-other (ascii "\n") a (no-return a h) s) in
     ap (all blank) z ∙ go (reference-at (a ∷ s)) (reference-sound (a ∷ s))
   where
     go : (m : Read (List ℕ)) → Ok (Takes Reference (a ∷ s)) m → all blank (say (referring m (Move.char a s)) says) ≡ false

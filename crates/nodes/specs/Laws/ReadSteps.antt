@@ -3,16 +3,16 @@ use mathlib.Core.Path.{_≡_, refl, ap, sym, _∙_, subst}
 use mathlib.Core.List.{List, [], _∷_, _++_}
 use Prim.Native.Nat.{ℕ, zero, suc, _+_, _<_}
 use native.Mathlib.Omega.{arith}
-use mathlib.Core.Bool.{not}
+use mathlib.Core.Bool.{false, not}
 use lib.ListN.{length, length-append}
-use Rattle.grammar.specs.Bytes.{ascii, blank, begins}
+use Rattle.grammar.specs.Bytes.{ascii, blank, begins, parted}
 use Rattle.grammar.specs.Document.{Attribute, Element, element, Contents, nothing, child, merged}
 use Rattle.grammar.specs.Grammar.{TextCharacter}
 use Rattle.grammar.specs.Read.{Read, fail, got, Reader, bind, test, mark, span, seen, before, alt, ok-got, mark-complete, mark-sound}
 use Rattle.grammar.specs.Read.{test-sound}
 use Rattle.grammar.specs.Parser.{Look, at-close, at-comment, at-element, at-text, look, comment-at, text-at, name-at, attributes-at}
 use Rattle.grammar.specs.Parser.{empty-at, full-at, element-at, contents-by}
-use Rattle.grammar.specs.Laws.Sound.{text-sound}
+use Rattle.grammar.specs.Laws.Sound.{text-whole}
 use Rattle.grammar.specs.Laws.Tokens.{text-long}
 use Rattle.grammar.specs.Unfuelled.{contents, contents-step}
 use Rattle.steps.specs.Laws.Until.{bind-assoc, bind-each}
@@ -119,7 +119,8 @@ eats-child s e = ok-got (rw e at (element-eats 16 s))
 pub record Induction (P : List ℕ → Contents → List ℕ → Type 0) : Type 0 where
   pub closed : (s : List ℕ) → look s ≡ at-close → P s nothing s
   pub remarked : (s r : List ℕ) (c : Contents) (t : List ℕ) → look s ≡ at-comment → comment-at s ≡ got tt r → P r c t → P s c t
-  pub lettered : (b w r : List ℕ) (c : Contents) (t : List ℕ) → TextCharacter b w → P r c t → P (w ++ r) (merged b c) t
+  pub lettered : (b w r : List ℕ) (c : Contents) (t : List ℕ) → TextCharacter b w → parted w r ≡ false → P r c t
+      → P (w ++ r) (merged b c) t
   -- `inside`: the same for all that is shorter
   pub childed : (s r : List ℕ) (x : Element) (c : Contents) (t : List ℕ) → look s ≡ at-element → element₁₆ s ≡ got x r
       → (inside : (s₁ : List ℕ) (c₁ : Contents) (t₁ : List ℕ) → length s₁ < length s → contents 16 s₁ ≡ got c₁ t₁ → P s₁ c₁ t₁)
@@ -152,7 +153,7 @@ module _ (P : List ℕ → Contents → List ℕ → Type 0) (ind : Induction P)
       let b₁ = unbind (text-at (b₀ .rest)) _ (b₀ .then) in
       let b₂ = unbind (contents 16 (b₁ .rest)) (λ c r. got (merged (b₁ .value) c) r) (b₁ .then) in
       let h₀ : s ≡ b₀ .rest = ok-got (rw (b₀ .reads) at (test-sound (not (begins (ascii "]]>") s)) s)) .1 in
-      let h₁ = ok-got (rw (b₁ .reads) at (text-sound (b₀ .rest))) in
+      let h₁ = ok-got (rw (b₁ .reads) at (text-whole (b₀ .rest))) in
       let here : h₁ .0 ++ b₁ .rest ≡ s = sym (h₀ ∙ h₁ .1) in
       let z = b₂ .then in
       let w : merged (b₁ .value) (b₂ .value) ≡ c = cc in
@@ -160,7 +161,8 @@ module _ (P : List ℕ → Contents → List ℕ → Type 0) (ind : Induction P)
       let short : length (b₁ .rest) < length s = omega (arith, text-long (h₁ .2), length-append (h₁ .0) (b₁ .rest), ap length here) in
       let p : P (b₁ .rest) (b₂ .value) t = ih (b₁ .rest) (b₂ .value) t short (b₂ .reads ∙ ap (got (b₂ .value)) w₁) in
       subst (λ (s : List ℕ). P s c t) here
-      (subst (λ (c : Contents). P (h₁ .0 ++ b₁ .rest) c t) w (ind .lettered (b₁ .value) (h₁ .0) (b₁ .rest) (b₂ .value) t (h₁ .2) p))
+      (subst (λ (c : Contents). P (h₁ .0 ++ b₁ .rest) c t) w
+      (ind .lettered (b₁ .value) (h₁ .0) (b₁ .rest) (b₂ .value) t (h₁ .2) (h₁ .3) p))
 
   by-look : (l : Look) (c : Contents) → look s ≡ l → contents-by contents 16 l s ≡ got c t → P s c t
   unfolding contents-by

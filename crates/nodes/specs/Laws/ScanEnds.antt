@@ -7,6 +7,7 @@ use mathlib.Core.Bool.{Bool, true, false, not, _&&_, _||_}
 use lib.Dec.{eqb}
 use borrow.Author.Tests.{eq-eqb, ne-eqb, not-true}
 use Rattle.lists.specs.Laws.Booleans.{or-elim, and-right, or-left, clash, not-so}
+use Rattle.grammar.specs.Bytes.{Row, none-more, and-more, parted}
 use Rattle.grammar.specs.Bytes.{blank, letter, nameStart, nameByte, quote, special, Each, no-byte, a-byte, Sequence, no-more, one-more}
 use Rattle.grammar.specs.Characters.{Character, utf8-1, utf8-2, utf8-3, utf8-4, continues, lead3, lead4}
 use Rattle.grammar.specs.Document.{Attribute}
@@ -37,6 +38,9 @@ module _ (q : ℕ) (h : quote q ≡ true) where
   letter-other : (a : ℕ) → 39 < a → other q a ≡ true
   letter-other a l = let x = quote-in q h .0 in is-other q a λ e. omega arith
 
+  low-other : (a : ℕ) → a < 34 → other q a ≡ true
+  low-other a l = let x = quote-in q h .0 in is-other q a λ e. omega arith
+
   amp-other : other q 38 ≡ true
   amp-other = let f = quote-in q h .1 in is-other q 38 λ e. f (sym e)
 
@@ -59,8 +63,10 @@ module _ (q : ℕ) (h : quote q ≡ true) where
 
   value-other : {b w : List ℕ} → ValueCharacter q b w → Each (other q) w
   value-other (ValueCharacter.literal k e₁ e₂ e₃) = let x = quote-in q h .0 in character-other q (omega arith) k e₂
-  value-other (ValueCharacter.space {a} e) = let x = blank-in a e in let y = quote-in q h .0 in
+  value-other (ValueCharacter.space {a} e _) = let x = blank-in a e in let y = quote-in q h .0 in
       a-byte (is-other q a λ e. omega arith) no-byte
+  value-other (ValueCharacter.line-end Grammar.pair) = a-byte (low-other 13 (omega arith)) (a-byte (low-other 10 (omega arith)) no-byte)
+  value-other (ValueCharacter.line-end Grammar.lone) = a-byte (low-other 13 (omega arith)) no-byte
   value-other (ValueCharacter.reference k) = reference-quote k
 
 -- text: no `<`
@@ -73,8 +79,10 @@ to-tag-free no-byte r = refl
 to-tag-free (a-byte {a} {w} h k) r = to-tag-past a (w ++ r) h ∙ to-tag-free k r
 
 pub text-free : {b w : List ℕ} → TextCharacter b w → Each (other 60) w
-unfolding special
-text-free (TextCharacter.literal {a} k e) = character-other 60 (omega arith) k (or-left (eqb a 60) (eqb a 38) e)
+unfolding special other
+text-free (TextCharacter.literal {a} k e _) = character-other 60 (omega arith) k (or-left (eqb a 60) (eqb a 38) e)
+text-free (TextCharacter.line-end Grammar.pair) = a-byte refl (a-byte refl no-byte)
+text-free (TextCharacter.line-end Grammar.lone) = a-byte refl no-byte
 text-free (TextCharacter.reference k) = reference-open k
 
 -- an end tag: no `>` before its end
@@ -171,9 +179,9 @@ module _ (q : ℕ) (h : quote q ≡ true) where
   quoted-free no-byte r = refl
   quoted-free (a-byte {a} {w} e k) r = quoted-on a (w ++ r) e ∙ quoted-free k r
 
-  values-free : {bs : List (List ℕ)} {w : List ℕ} → Sequence (ValueCharacter q) bs w → (r : List ℕ) → tag-from q (w ++ r) ≡ tag-from q r
-  values-free no-more r = refl
-  values-free (one-more {w = w} {s} k t) r = ap (tag-from q) (append-assoc w s r) ∙ quoted-free (value-other q h k) (s ++ r)
+  values-free : {bs : List (List ℕ)} {w : List ℕ} → Row (ValueCharacter q) parted bs w → (r : List ℕ) → tag-from q (w ++ r) ≡ tag-from q r
+  values-free none-more r = refl
+  values-free (and-more {w = w} {s} k _ t) r = ap (tag-from q) (append-assoc w s r) ∙ quoted-free (value-other q h k) (s ++ r)
       ∙ values-free t r
 
   unquotes : (s : List ℕ) → tag-from q (q ∷ s) ≡ tag-from 0 s

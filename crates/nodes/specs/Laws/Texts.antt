@@ -8,10 +8,11 @@ use borrow.Author.Needs.{needs}
 use borrow.Author.Tests.{ne-eqb, not-true, not-false}
 use lib.ListN.{length, drop, getD, length-drop}
 use Rattle.lists.specs.Laws.Booleans.{clash}
-use Rattle.grammar.specs.Bytes.{blank}
+use Rattle.grammar.specs.Bytes.{ascii, blank}
 use Rattle.grammar.specs.Read.{Read, fail, got, before, Ok, good}
-use Rattle.grammar.specs.Parser.{reference-at, comment-at, Look, at-close, at-comment, at-element, at-text, look}
-use Rattle.grammar.specs.Laws.Tokens.{reference-other}
+use Rattle.grammar.specs.Parser.{reference-at, feed-at, line-end-at, comment-at, Look, at-close, at-comment, at-element, at-text, look}
+use Rattle.grammar.specs.Laws.Tokens.{reference-other, line-end-other}
+use Rattle.steps.specs.Laws.Feeds.{fed, feed-got, return-read}
 use Rattle.lists.specs.Lists.{all}
 use Rattle.steps.specs.Step.{stepped, at-byte, at-end, fell, Went, went}
 use Rattle.steps.specs.Noted.{part}
@@ -23,7 +24,7 @@ use Rattle.steps.specs.declared.characters.Reference.{Reference}
 use Rattle.steps.specs.declared.characters.Reference.the-variants as reference-is
 use Rattle.nodes.specs.Scan.{tag-at, tag-less, Less, skip-at, scan, scan-tails}
 use Rattle.nodes.specs.ScanSteps.{tagged}
-use Rattle.nodes.specs.TextBytes.{Move, char, past, referring, step-by, step, says}
+use Rattle.nodes.specs.TextBytes.{Move, char, past, referring, bare-char, step-by, step, says}
 use Rattle.nodes.specs.Texts.{inside, inside-by, as-text, text-step, text-of, text-letter, text-skip, text-stop, text-none, text-some}
 use Rattle.nodes.specs.Inside.{between-tags, within-by, up-to}
 use Rattle.nodes.specs.declared.Found.{Found}
@@ -71,7 +72,7 @@ unfolding step-by as-text
 letter-past text at h = rw (at-end text at h)
 
 module _ (text : List ℕ) (at : ℕ) (h : at < length text) where
-  opened : step-by at-text (drop at text) ≡ referring (reference-at (drop at text)) (char (getD text at 0) (drop (at + 1) text))
+  opened : step-by at-text (drop at text) ≡ referring (reference-at (drop at text)) (bare-char (getD text at 0) (drop (at + 1) text))
   unfolding step-by
   opened = rw (at-byte text at h)
 
@@ -84,16 +85,38 @@ module _ (text : List ℕ) (at : ℕ) (h : at < length text) where
 
   pub letter-ampersand : getD text at 0 ≡ 38 → {c : Reference} → c ≡ referred (length text) (reference-at (drop at text))
       → c ≡ reference-is.No → Letter 38 (at + 1) ≡ as-text (length text) (step-by at-text (drop at text))
-  unfolding as-text
+  unfolding as-text bare-char referring
   letter-ampersand e w z = sym (ap (as-text (length text))
-      (opened ∙ refer-end (length text) (reference-at (drop at text)) (char (getD text at 0) (drop (at + 1) text)) (sym w ∙ z))
-      ∙ rw (e, place))
+      (opened ∙ refer-end (length text) (reference-at (drop at text)) (bare-char (getD text at 0) (drop (at + 1) text)) (sym w ∙ z))
+      ∙ rw (e, line-end-other (ascii "\n") 38 refl (drop (at + 1) text), place))
 
-  pub letter-plain : (getD text at 0 ≡ 38 → ⊥) → Letter (getD text at 0) (at + 1) ≡ as-text (length text) (step-by at-text (drop at text))
-  unfolding as-text referring
-  letter-plain na = sym (rw (opened, at-byte text at h, reference-other (getD text at 0) (ne-eqb _ _ na) (drop (at + 1) text), place))
+  pub letter-return : getD text at 0 ≡ 13 → {j : ℕ} → To j ≡ stepped (length text) (feed-at (ascii "\n") (drop (at + 1) text))
+      → Letter 10 j ≡ as-text (length text) (step-by at-text (drop at text))
+  unfolding as-text bare-char referring first-byte stepped
+  letter-return e {j} k =
+      let fits : To j ≡ To (length text - length (fed (drop (at + 1) text))) = k ∙ rw (feed-got (ascii "\n") (drop (at + 1) text)) in
+      let here : j ≡ length text - length (fed (drop (at + 1) text)) = cc in
+      rw here (sym (rw (
+        opened,
+        at-byte text at h,
+        e,
+        reference-other 13 refl (drop (at + 1) text),
+        return-read (ascii "\n") (drop (at + 1) text),
+        feed-got (ascii "\n") (drop (at + 1) text),
+      )))
 
-pub ruleset lettering = (letter-past, letter-reference, letter-ampersand, letter-plain, needs)
+  pub letter-plain : (getD text at 0 ≡ 38 → ⊥) → (getD text at 0 ≡ 13 → ⊥)
+      → Letter (getD text at 0) (at + 1) ≡ as-text (length text) (step-by at-text (drop at text))
+  unfolding as-text bare-char referring
+  letter-plain na nr = sym (rw (
+    opened,
+    at-byte text at h,
+    reference-other (getD text at 0) (ne-eqb _ _ na) (drop (at + 1) text),
+    line-end-other (ascii "\n") (getD text at 0) (ne-eqb _ _ nr) (drop (at + 1) text),
+    place,
+  ))
+
+pub ruleset lettering = (letter-past, letter-reference, letter-ampersand, letter-return, letter-plain, needs)
 
 -- A STEP
 past-to : (n : ℕ) (m : Read (Unit {0})) {j : ℕ} → stepped n m ≡ To j → Skip j ≡ as-text n (past m)

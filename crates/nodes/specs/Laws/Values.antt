@@ -9,17 +9,19 @@ use borrow.Author.Needs.{needs}
 use borrow.Author.Tests.{eq-eqb, ne-eqb}
 use lib.ListN.{length, drop, getD, length-drop}
 use Rattle.lists.specs.Laws.Booleans.{clash}
-use Rattle.grammar.specs.Bytes.{blank}
+use Rattle.grammar.specs.Bytes.{ascii, blank}
 use Rattle.grammar.specs.Read.{Read, fail, got}
-use Rattle.grammar.specs.Parser.{reference-at, same}
-use Rattle.grammar.specs.Laws.Tokens.{reference-other}
-use Rattle.steps.specs.Step.{at-byte, at-end}
+use Rattle.grammar.specs.Parser.{reference-at, feed-at, line-end-at, same}
+use Rattle.grammar.specs.Laws.Tokens.{reference-other, line-end-other}
+use Rattle.steps.specs.Step.{stepped, at-byte, at-end}
+use Rattle.steps.specs.Laws.Feeds.{fed, feed-got, return-read}
+use Rattle.steps.specs.declared.Step.the-variants.{To}
 use Rattle.steps.specs.Leaves.{referred, first-byte}
 use Rattle.steps.specs.declared.characters.Reference.{Reference}
 use Rattle.steps.specs.declared.characters.Reference.the-variants as reference-is
 use Rattle.nodes.specs.Places.{pick}
-use Rattle.nodes.specs.Values.{Next, a-byte, or-else, next-byte, as-char, decoded-at, value-there, tells, Decodes, decoded-byte}
-use Rattle.nodes.specs.Values.{decoded-end}
+use Rattle.nodes.specs.Values.{Next, a-byte, or-else, bare-byte, next-byte, as-char, decoded-at, value-there, tells, Decodes}
+use Rattle.nodes.specs.Values.{decoded-byte, decoded-end}
 use Rattle.nodes.specs.Attributes.{place}
 use Rattle.nodes.specs.Found.{value-at-name, value-found, value-missing}
 use Rattle.nodes.specs.declared.Found.{Found}
@@ -46,8 +48,7 @@ unfolding decoded-at next-byte as-char
 decode-quote text at q h e = rw (at-byte text at h, eq-eqb _ _ e)
 
 module _ (text : List ℕ) (at q : ℕ) (h : at < length text) (nq : getD text at 0 ≡ q → ⊥) where
-  opened : next-byte q (drop at text) ≡ or-else (reference-at (drop at text))
-      (a-byte (pick (blank (getD text at 0)) 32 (getD text at 0)) (drop (at + 1) text))
+  opened : next-byte q (drop at text) ≡ or-else (reference-at (drop at text)) (bare-byte (getD text at 0) (drop (at + 1) text))
   unfolding next-byte
   opened = rw (at-byte text at h, ne-eqb _ _ nq)
 
@@ -61,19 +62,38 @@ module _ (text : List ℕ) (at q : ℕ) (h : at < length text) (nq : getD text a
 
   pub decode-ampersand : getD text at 0 ≡ 38 → {c : Reference} → c ≡ referred (length text) (reference-at (drop at text))
       → c ≡ reference-is.No → Byte 38 (at + 1) ≡ decoded-at text at q
-  unfolding decoded-at as-char blank
+  unfolding decoded-at as-char blank bare-byte or-else
   decode-ampersand e w z = sym (ap (as-char (length text)) opened
       ∙ rw (
-        else-end (length text) (reference-at (drop at text))
-            (a-byte (pick (blank (getD text at 0)) 32 (getD text at 0)) (drop (at + 1) text)) (sym w ∙ z),
+        else-end (length text) (reference-at (drop at text)) (bare-byte (getD text at 0) (drop (at + 1) text)) (sym w ∙ z),
         e,
+        line-end-other (ascii " ") 38 refl (drop (at + 1) text),
         spot,
       ))
 
-  module _ (na : getD text at 0 ≡ 38 → ⊥) {t : Bool} (bl : t ≡ blank (getD text at 0)) where
+  pub decode-return : getD text at 0 ≡ 13 → {j : ℕ} → To j ≡ stepped (length text) (feed-at (ascii "\n") (drop (at + 1) text))
+      → Byte 32 j ≡ decoded-at text at q
+  unfolding decoded-at as-char bare-byte or-else first-byte stepped
+  decode-return e {j} k =
+      let fits : To j ≡ To (length text - length (fed (drop (at + 1) text))) = k ∙ rw (feed-got (ascii "\n") (drop (at + 1) text)) in
+      let here : j ≡ length text - length (fed (drop (at + 1) text)) = cc in
+      rw here (sym (rw (
+        opened,
+        at-byte text at h,
+        e,
+        reference-other 13 refl (drop (at + 1) text),
+        return-read (ascii " ") (drop (at + 1) text),
+        feed-got (ascii " ") (drop (at + 1) text),
+      )))
+
+  module _ (na : getD text at 0 ≡ 38 → ⊥) (nr : getD text at 0 ≡ 13 → ⊥) {t : Bool} (bl : t ≡ blank (getD text at 0)) where
     bare : next-byte q (drop at text) ≡ a-byte (pick (blank (getD text at 0)) 32 (getD text at 0)) (drop (at + 1) text)
-    unfolding or-else
-    bare = opened ∙ rw (at-byte text at h, reference-other (getD text at 0) (ne-eqb _ _ na) (drop (at + 1) text))
+    unfolding or-else bare-byte
+    bare = opened ∙ rw (
+      at-byte text at h,
+      reference-other (getD text at 0) (ne-eqb _ _ na) (drop (at + 1) text),
+      line-end-other (ascii " ") (getD text at 0) (ne-eqb _ _ nr) (drop (at + 1) text),
+    )
 
     pub decode-blank : t ≡ true → Byte 32 (at + 1) ≡ decoded-at text at q
     unfolding decoded-at as-char
@@ -83,7 +103,7 @@ module _ (text : List ℕ) (at q : ℕ) (h : at < length text) (nq : getD text a
     unfolding decoded-at as-char
     decode-plain e = sym (rw (bare, sym bl ∙ e, spot))
 
-pub ruleset decoding = (decode-past, decode-quote, decode-reference, decode-ampersand, decode-blank, decode-plain, needs)
+pub ruleset decoding = (decode-past, decode-quote, decode-reference, decode-ampersand, decode-return, decode-blank, decode-plain, needs)
 
 -- DECODED BYTES UP TO A QUOTE, AND A WORD
 same-empty : (w : List ℕ) → same [] w ≡ eqb (length w) 0
