@@ -48,7 +48,7 @@ pub data Facing (text : List ℕ) (words blanks : Bool) (leaves : Read (Unit {0}
 
 -- ---- The gap.
 
-blank-special : (a : ℕ) → blank a ≡ true → special a ≡ false
+pub blank-special : (a : ℕ) → blank a ≡ true → special a ≡ false
 unfolding special
 blank-special a h = let x = blank-in a h in rw (ne-eqb a 60 (λ e. omega arith), ne-eqb a 38 (λ e. omega arith))
 

@@ -5,17 +5,24 @@ use mathlib.Core.Bool.{Bool, true, false, _&&_, _||_, cond, not}
 use Prim.Native.Nat.{ℕ, zero, suc, _+_, _*_, _-_, _^_, _≤_, _<_}
 use native.Mathlib.Omega.{arith}
 use native.Mathlib.Numerals.{add-one}
-use lib.Dec.{eqb}
+use lib.Dec.{eqb, leb}
+use borrow.Author.Tests.{eqb-true, eqb-false, leb-true, leb-false}
 use lib.ListN.{length, drop, getD, length-drop}
 use lib.Seq.{drop-cons}
 use Rattle.lists.specs.Laws.Booleans.{or-left, or-right, and-left}
-use Rattle.grammar.specs.Bytes.{blank, special}
+use Rattle.grammar.specs.Bytes.{ascii, blank, special}
 use Rattle.grammar.specs.Look.{Word}
-use Rattle.grammar.specs.Parser.{look, look-if}
-use Rattle.grammar.specs.Laws.Tokens.{reference-other}
+use Rattle.grammar.specs.Parser.{look, look-if, feed-at}
+use Rattle.grammar.specs.Laws.Tokens.{reference-other, line-end-other}
+use Rattle.steps.specs.Step.{stepped}
+use Rattle.steps.specs.Leaves.{first-byte}
+use Rattle.steps.specs.Laws.Feeds.{fed, feed-got, return-read, feed-none, feed-there, feed-not}
+use Rattle.steps.specs.declared.Step.{Step}
+use Rattle.steps.specs.declared.Step.the-variants.{To}
 use Rattle.lists.specs.Lists.{all, those, each}
-use Rattle.nodes.specs.TextBytes.{says, step, step-by, referring, char}
+use Rattle.nodes.specs.TextBytes.{says, step, step-by, bare-char, referring, char}
 use Rattle.nodes.specs.Texts.{text-step, as-text}
+use Rattle.nodes.specs.Laws.AheadElements.{blank-special}
 use Rattle.nodes.specs.declared.Char.{Char}
 use Rattle.nodes.specs.declared.Char.the-variants.{Byte}
 use Rattle.nodes.specs.declared.Char.the-variants as chars
@@ -32,18 +39,46 @@ use Rattle.numbers.specs.declared.Run.{Run}
 use Rattle.numbers.specs.declared.Next.{Next}
 use Rattle.numbers.specs.declared.Next.the-variants.{Number, End, Bad}
 
--- A byte that is neither `<` nor `&` reads as itself.
-plain-step : (a : ℕ) (s : List ℕ) → special a ≡ false → step (a ∷ s) ≡ char a s
-unfolding step step-by look look-if referring special
-plain-step a s e = rw (or-left (eqb a 60) (eqb a 38) e, reference-other a (or-right (eqb a 60) (eqb a 38) e) s) refl
+-- A byte that is neither `<` nor `&` nor a carriage return reads as itself; a return and its line feed read as one.
+plain-step : (a : ℕ) (s : List ℕ) → special a ≡ false → eqb a 13 ≡ false → step (a ∷ s) ≡ char a s
+unfolding step step-by bare-char look look-if referring special
+plain-step a s e f =
+    rw (or-left (eqb a 60) (eqb a 38) e, reference-other a (or-right (eqb a 60) (eqb a 38) e) s, line-end-other (ascii "\n") a f s) refl
 
-pub plain-char : (text : List ℕ) (i : ℕ) → i < length text → special (getD text i 0) ≡ false
+return-step : (s : List ℕ) → step (13 ∷ s) ≡ char 10 (fed s)
+unfolding step step-by bare-char look look-if referring first-byte
+return-step s = rw (reference-other 13 refl s, return-read (ascii "\n") s, feed-got (ascii "\n") s) refl
+
+pub plain-char : (text : List ℕ) (i : ℕ) → i < length text → special (getD text i 0) ≡ false → eqb (getD text i 0) 13 ≡ false
     → charAt Contents text i ≡ Byte (getD text i 0) (i + 1)
 unfolding charAt text-step as-text
-plain-char text i h e =
+plain-char text i h e f =
     let d : drop i text ≡ getD text i 0 ∷ drop (suc i) text = drop-cons text i 0 h in
     let n : length text - length (drop (suc i) text) ≡ i + 1 = omega (arith, length-drop (suc i) text) in
-    letter-byte text i (rw (d, plain-step (getD text i 0) (drop (suc i) text) e, n) refl)
+    letter-byte text i (rw (d, plain-step (getD text i 0) (drop (suc i) text) e f, n) refl)
+
+return-char : (text : List ℕ) (i : ℕ) → i < length text → getD text i 0 ≡ 13
+    → charAt Contents text i ≡ Byte 10 (length text - length (fed (drop (i + 1) text)))
+unfolding charAt text-step as-text
+return-char text i h e =
+    let d : drop i text ≡ getD text i 0 ∷ drop (suc i) text = drop-cons text i 0 h in
+    letter-byte text i (rw (d, e, return-step (drop (suc i) text), add-one) refl)
+
+-- A blank byte reads as a blank.
+pub record BlankAt (text : List ℕ) (i : ℕ) : Type 0 where
+  pub byte : ℕ
+  pub next : ℕ
+  pub reads : charAt Contents text i ≡ Byte byte next
+  pub is-blank : blank byte ≡ true
+
+pub plain-blank : (text : List ℕ) (i : ℕ) → i < length text → blank (getD text i 0) ≡ true → BlankAt text i
+unfolding blank
+plain-blank text i h e = go (eqb (getD text i 0) 13) refl
+  where
+    go : (t : Bool) → eqb (getD text i 0) 13 ≡ t → BlankAt text i
+    go true f = record { byte = 10; next = _; reads = return-char text i h (eqb-true _ 13 f); is-blank = refl }
+    go false f = record
+        { byte = getD text i 0; next = i + 1; reads = plain-char text i h (blank-special (getD text i 0) e) f; is-blank = e }
 
 -- BLANKS are passed
 next-is : (text : List ℕ) (i : ℕ) → nextNumber text i
@@ -69,6 +104,45 @@ next-blank text i {b} {j} e h =
   where
     lift : (n : ℕ) → suc (leading blank (stream Contents text j)) + n ≡ suc (leading blank (stream Contents text j) + n)
     lift n = omega arith
+
+-- byte by byte too: the pair of a return and its line feed is passed as two blanks
+module _ (text : List ℕ) (i : ℕ) (h : i < length text) where
+  plain-passed : blank (getD text i 0) ≡ true → eqb (getD text i 0) 13 ≡ false → nextNumber text i ≡ nextNumber text (i + 1)
+  plain-passed e f = next-blank text i (plain-char text i h (blank-special (getD text i 0) e) f) e
+
+feed-passed : (text : List ℕ) (i j : ℕ) → To j ≡ stepped (length text) (feed-at (ascii "\n") (drop i text))
+    → nextNumber text i ≡ nextNumber text j → nextNumber text (length text - length (fed (drop i text))) ≡ nextNumber text i
+unfolding stepped
+feed-passed text i j e k =
+    let z : To j ≡ To (length text - length (fed (drop i text))) = e ∙ rw (feed-got (ascii "\n") (drop i text)) in
+    let here : j ≡ length text - length (fed (drop i text)) = cc in
+    rw (← here) (sym k)
+
+return-passed : (text : List ℕ) (i : ℕ) → i ≤ length text → nextNumber text (length text - length (fed (drop i text))) ≡ nextNumber text i
+unfolding blank
+return-passed text i h = within (leb (length text) i) refl
+  where
+    there : i < length text → (t : Bool) → eqb (getD text i 0) 10 ≡ t
+        → nextNumber text (length text - length (fed (drop i text))) ≡ nextNumber text i
+    there l true e =
+        let same = eqb-true (getD text i 0) 10 e in
+        feed-passed text i (i + 1) (feed-there text i l same) (plain-passed text i l (rw same) (rw same))
+    there l false e = feed-passed text i i (feed-not text i l (eqb-false (getD text i 0) 10 e)) refl
+
+    within : (t : Bool) → leb (length text) i ≡ t → nextNumber text (length text - length (fed (drop i text))) ≡ nextNumber text i
+    within true e =
+        let l = leb-true (length text) i e in
+        let z : i ≡ length text = omega arith in
+        feed-passed text i (length text) (feed-none text i l) (ap (nextNumber text) z)
+    within false e = let l : i < length text = leb-false (length text) i e in there l (eqb (getD text i 0) 10) refl
+
+pub byte-passed : (text : List ℕ) (i : ℕ) → i < length text → blank (getD text i 0) ≡ true → nextNumber text i ≡ nextNumber text (i + 1)
+unfolding blank
+byte-passed text i h e = go (eqb (getD text i 0) 13) refl
+  where
+    go : (t : Bool) → eqb (getD text i 0) 13 ≡ t → nextNumber text i ≡ nextNumber text (i + 1)
+    go true f = next-blank text i (return-char text i h (eqb-true _ 13 f)) refl ∙ return-passed text (i + 1) (omega arith)
+    go false f = plain-passed text i h e f
 
 pub next-over : (n : ℕ) (text : List ℕ) (i : ℕ) → leading blank (stream Contents text i) ≡ n
     → nextNumber text i ≡ nextNumber text (behind Contents text n i)

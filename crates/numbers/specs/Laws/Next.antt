@@ -21,7 +21,8 @@ use Rattle.numbers.specs.Laws.Cuts.{grown, powers, digit-no-blank}
 use Rattle.numbers.specs.Stream.{letterAt, charAt, stream, behind, leading, wordEnds, digitsBy, digitsAt, Few, Plain, Stops, Begun}
 use Rattle.numbers.specs.Stream.{EightLeft, runOf}
 use Rattle.numbers.specs.Laws.Stream.{char-byte, char-end, run-suc, Ran, digits-law, Blanked, blanked}
-use Rattle.numbers.specs.Laws.Listed.{plain-char, next-blank, next-over, next-end, next-number, next-bad}
+use Rattle.numbers.specs.Laws.Listed.{BlankAt, plain-blank, byte-passed}
+use Rattle.numbers.specs.Laws.Listed.{plain-char, next-over, next-end, next-number, next-bad}
 use Rattle.numbers.specs.Answers.{nextNumber}
 use Rattle.numbers.specs.Laws.Read.{digit-yes, digit-low, digit-high}
 use Rattle.numbers.specs.declared.Source.{Source}
@@ -42,11 +43,6 @@ pub record Skipping (text : List ℕ) (at last i : ℕ) : Type 0 where
 pub skipping-start : {text : List ℕ} {at last : ℕ} → last ≤ length text → Skipping text at last at
 skipping-start h = record { inside = h; same = refl }
 
-plain-blank : (text : List ℕ) (i : ℕ) → i < length text → blank (getD text i 0) ≡ true
-    → charAt Contents text i ≡ Byte (getD text i 0) (i + 1)
-plain-blank text i h e = let q = blank-in (getD text i 0) e in
-    plain-char text i h (no-special (getD text i 0) (λ z. omega arith) (λ z. omega arith))
-
 module _ {text : List ℕ} {at last i : ℕ} (go : Skipping text at last i) where
   pub skipping-done : nextNumber text at ≡ nextNumber text i
   skipping-done = go .same
@@ -58,7 +54,7 @@ module _ {text : List ℕ} {at last i : ℕ} (go : Skipping text at last i) wher
     pub skipping-on : {t : Bool} → t ≡ blank (getD text i 0) → not t ≡ false → Skipping text at last (i + 1)
     skipping-on {t} e n =
         let b : blank (getD text i 0) ≡ true = sym e ∙ not-false t n in
-        record { inside = go .inside; same = go .same ∙ next-blank text i (plain-blank text i skipping-inside b) b }
+        record { inside = go .inside; same = go .same ∙ byte-passed text i skipping-inside b }
 
 pub ruleset skipping = (skipping-start, skipping-done, skipping-inside, skipping-on, needs)
 
@@ -91,7 +87,9 @@ module _ {text : List ℕ} {at n k i : ℕ} (go : Digging text at n k i) where
       unfolding digitsBy
       digging-on =
           let m : 7 - k ≡ suc (7 - (k + 1)) = omega arith in
-          let c = plain-char text i in-text (rw is at (no-special b (λ z. omega arith) (λ z. omega arith))) in
+          let free = no-special b (λ z. omega arith) (λ z. omega arith) in
+          let other : eqb b 13 ≡ false = ne-eqb b 13 (λ z. omega arith) in
+          let c = plain-char text i in-text (rw is at free) (rw is at other) in
           record {
             few = omega arith;
             bound = grown n k d (go .bound) (omega arith);
@@ -145,20 +143,23 @@ pub ruleset walking = (walking-start, walking-from, walking-done, walking-inside
 -- plain digits with a blank behind them are all the digits there
 module _ {text : List ℕ} {i stop : ℕ} {run : Run} (p : Plain text i stop run) (in-text : run .next < length text)
     (b : blank (getD text (run .next) 0) ≡ true) where
+  it : BlankAt text (run .next)
+  it = plain-blank text (run .next) in-text b
+
   all-of-it : run ≡ digitsAt Contents text 7 0 0 i
   unfolding digitsAt digitsBy
   all-of-it = sym (p .same ∙ go (7 - run .count))
     where
-      low : digit (getD text (run .next) 0) ≡ false
-      low = let q = blank-in (getD text (run .next) 0) b in digit-low (getD text (run .next) 0) (omega arith)
+      low : digit (it .byte) ≡ false
+      low = let q = blank-in (it .byte) (it .is-blank) in digit-low (it .byte) (omega arith)
 
       go : (m : ℕ) → digitsAt Contents text m (run .value) (run .count) (run .next) ≡ run
       go zero = refl
-      go (suc m) = run-suc Contents text m (run .value) (run .count) (run .next) ∙ rw (plain-blank text (run .next) in-text b, low) refl
+      go (suc m) = run-suc Contents text m (run .value) (run .count) (run .next) ∙ rw (it .reads, low) refl
 
   ends-here : wordEnds (stream Contents text (run .next)) ≡ true
   unfolding wordEnds
-  ends-here = rw (char-byte Contents text (run .next) refl (plain-blank text (run .next) in-text b) .splits) b
+  ends-here = rw (char-byte Contents text (run .next) refl (it .reads) .splits) (it .is-blank)
 
   pub quick-number : (at : ℕ) → nextNumber text at ≡ nextNumber text i → (run .count ≡ 0 → ⊥)
       → Number (run .value) (run .next) ≡ nextNumber text at
