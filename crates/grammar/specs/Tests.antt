@@ -1,4 +1,5 @@
 pub mod Documents
 pub mod Tags
 pub mod Text
+pub mod LineEnds
 pub mod Utf8

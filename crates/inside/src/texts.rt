@@ -4,6 +4,7 @@ use elements::scan::skip;
 use elements::scan::tag_end;
 use heads::characters::reference_at;
 use heads::comments::comment_end;
+use letters::blanks::feed_end;
 use markup::pieces::front_at;
 use nodes::Found;
 use nodes::Text;
@@ -29,7 +30,7 @@ pub fn text_start(text: &[u8], at: usize) -> Found
     }
 }
 
-// A character, or the reference, that stands at `at`: its decoded byte.
+// A character, the reference, or the end of a line that stands at `at`: its decoded byte.
 fn letter_at(text: &[u8], at: usize) -> Text
     ensures { λ r. ⌜ r ≡ as-text (length (now (text .entry))) (step-by at-text (drop at (now (text .entry)))) ⌝ }
 {
@@ -46,6 +47,9 @@ fn letter_at(text: &[u8], at: usize) -> Text
                 return Text::Letter(b'&', at + 1);
             }
         }
+    }
+    if b == b'\r' {
+        return Text::Letter(b'\n', feed_end(text, at + 1));
     }
     Text::Letter(b, at + 1)
 }

@@ -1,6 +1,7 @@
 // The decoded bytes of values.
 use super::attributes::attribute;
 use heads::characters::reference_at;
+use letters::blanks::feed_end;
 use letters::classes::is_blank;
 use nodes::Char;
 use nodes::Found;
@@ -32,6 +33,9 @@ pub fn decoded(text: &[u8], at: usize, quote: u8) -> Char
                 return Char::Byte(b'&', at + 1);
             }
         }
+    }
+    if b == b'\r' {
+        return Char::Byte(b' ', feed_end(text, at + 1));
     }
     if is_blank(b) {
         return Char::Byte(b' ', at + 1);

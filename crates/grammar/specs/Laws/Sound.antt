@@ -183,7 +183,7 @@ begins-less (a ∷ k) (b ∷ x) r e = go (eqb b a) e (begins-less k x r)
     go false e ih = refl
 
 -- what is not parted in a longer text is not in a shorter one
-parted-less : (w x r : List ℕ) → parted w (x ++ r) ≡ false → parted w x ≡ false
+pub parted-less : (w x r : List ℕ) → parted w (x ++ r) ≡ false → parted w x ≡ false
 unfolding parted
 parted-less [] x r e = refl
 parted-less (a ∷ b ∷ w) x r e = refl

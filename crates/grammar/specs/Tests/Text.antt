@@ -39,11 +39,6 @@ text-blanks : holds (ascii " \t\r\n\r\r\n\n\r") (ascii " \t\n\n\n\n\n")
 unfolding erasing computing
 text-blanks = refl
 
--- a comment stands between the two: they are no pair
-text-parted : holds (ascii "\r<!---->\n") (ascii "\n\n")
-unfolding erasing computing
-text-parted = refl
-
 -- a comment writes nothing and parts no run
 comment-joins : holds (ascii "x<!-- - -->y") (ascii "xy")
 unfolding erasing computing

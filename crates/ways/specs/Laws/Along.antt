@@ -119,7 +119,7 @@ module _ (text : List ℕ) (p : Element → Bool) where
     | Grammar.empty nm at hu ↦ tt
     | Grammar.none ↦ record { finds = λ deep m r h t q y. none-finds m r h q y }
     | Grammar.remark {c = c} {w} k (t → ih) ↦ over c w refl (over-comment (length text) k) ih
-    | Grammar.character {c = c} {b} {w} k e (t → ih) ↦ over (merged b c) w (elements-joined b c) (over-text (length text) k) ih
+    | Grammar.character {c = c} {b} {w} k p e (t → ih) ↦ over (merged b c) w (elements-joined b c) (over-text (length text) k) ih
     | Grammar.inner k (t → ih) ↦ inner-passes k ih
   ]
 

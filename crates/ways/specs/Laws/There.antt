@@ -9,13 +9,13 @@ use native.Mathlib.Omega.{arith}
 use lib.ListN.{length}
 use Rattle.lists.specs.Lists.{those, count}
 use Rattle.lists.specs.Laws.Booleans.{never-some}
-use Rattle.grammar.specs.Bytes.{_⊹_, ascii, begins}
+use Rattle.grammar.specs.Bytes.{_⊹_, ascii, begins, parted}
 use Rattle.grammar.specs.Document.{Element, element, Contents, nothing, child, run, merged}
 use Rattle.grammar.specs.Grammar
 use Rattle.grammar.specs.Grammar.{TextCharacter, Comment, WritesElement, WritesContents, Writes}
 use Rattle.grammar.specs.Look.{contentsOf, withinOf, elements}
 use Rattle.grammar.specs.Parser.{parse}
-use Rattle.grammar.specs.Laws.Sound.{begins-less, parse-sound}
+use Rattle.grammar.specs.Laws.Sound.{begins-less, parted-less, parse-sound}
 use Rattle.ways.specs.Way.{Step, step, nth, onward, reached, StartTag, start-tag, OnlyTag, only-tag, Leads, here, down, Tagged}
 use Rattle.ways.specs.Way.{between, nothing-between, Place, place}
 use Rattle.nodes.specs.Children.{elements-joined}
@@ -59,9 +59,9 @@ module _ (p : Element → Bool) where
         };
   }
 
-  character-splits : {d : ℕ} {c : Contents} {b w s : List ℕ} → TextCharacter b w
+  character-splits : {d : ℕ} {c : Contents} {b w s : List ℕ} → TextCharacter b w → parted w s ≡ false
       → begins (ascii "]]>") (w ⊹ s) ≡ false → Split p d c s → Split p d (merged b c) (w ⊹ s)
-  character-splits {c = c} {b} {w} {s} h clear ih = record {
+  character-splits {c = c} {b} {w} {s} h apart clear ih = record {
     splits = λ n x e.
         let i = ih .splits n x (sym (ap (λ l. nth n (those p l)) (elements-joined b c)) ∙ e) in
         let whole : w ++ s ≡ (w ++ i .front) ++ (i .here ++ i .behind) =
@@ -72,7 +72,8 @@ module _ (p : Element → Bool) where
           here = i .here;
           behind = i .behind;
           whole = whole;
-          writes-front = Grammar.character h (begins-less (ascii "]]>") (w ++ i .front) (i .here ++ i .behind) (rw whole at clear))
+          writes-front = Grammar.character h (parted-less w (i .front) (i .here ++ i .behind) (rw (i .whole) at apart))
+              (begins-less (ascii "]]>") (w ++ i .front) (i .here ++ i .behind) (rw whole at clear))
               (i .writes-front);
           so-many = ap (count p) (elements-joined b (i .ahead)) ∙ i .so-many;
           passes = i .passes;
@@ -126,7 +127,7 @@ module _ (p : Element → Bool) where
     | Grammar.empty nm at hu ↦ tt
     | Grammar.none ↦ record { splits = λ n x e. no-child n x e _ }
     | Grammar.remark k (t → ih) ↦ remark-splits k ih
-    | Grammar.character k e (t → ih) ↦ character-splits k e ih
+    | Grammar.character k p e (t → ih) ↦ character-splits k p e ih
     | Grammar.inner k (t → ih) ↦ inner-splits k ih
   ]
 

@@ -15,4 +15,7 @@ letter-at-spec =
     (λ c. search lettering)
     (λ c. search lettering)
     (λ c. search lettering)
+    (λ c κs. search lettering)
+    (λ c. search lettering)
+    (λ c. search lettering)
     (λ c. search lettering))
