@@ -1,0 +1,7 @@
+pub mod Ends
+pub mod Alike
+pub mod Bytes
+pub mod Characters
+pub mod Comments
+pub mod Prologue
+pub mod Theorems

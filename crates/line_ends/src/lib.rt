@@ -1,0 +1,1 @@
+// Ends of lines as the standard says them, as a theorem on documents. No code: see specs/.
