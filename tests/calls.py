@@ -5,6 +5,7 @@ answered whole. A decimal is [amount, power of ten]. A call that is not here is 
 """
 import ctypes
 import pathlib
+import subprocess
 import sys
 
 HERE = pathlib.Path(__file__).resolve().parent
@@ -14,9 +15,7 @@ import dzwonolin  # noqa: E402
 import emulation  # noqa: E402
 
 emulation.ready(dzwonolin)
-
-# what a text writes is shown by the definitions, and read again by the oracle
-passed_over = ("document",)
+OUTLINE = emulation.command(HERE.parent / "target" / "bin" / "outline")
 
 
 def not_yet(**given):
@@ -52,6 +51,26 @@ def read(text, lengths, records, work, beginnings=None):
     if any(space):
         raise ValueError("the work space is not zero")
     return {"number": answer.number, "dimensions": [told(d) for d in answer.dimensions], "records": list(lent)}
+
+
+def document(text):
+    """The document that a text writes, as [name, attributes, contents], from what the built outline shows; its refusal else."""
+    shown = subprocess.run(OUTLINE, input=text.encode("latin-1"), capture_output=True, timeout=60, check=True).stdout.decode("latin-1")
+    if shown.startswith("refused"):
+        return {"document": None, "number": int(shown.split()[1])}
+    open_ones = [["", [], []]]
+    for line in shown.splitlines():
+        if line[0] == "<":
+            open_ones.append([line[1:], [], []])
+        elif line[0] == "@":
+            name, value = line[1:].split(" ")
+            open_ones[-1][1].append([name, bytes.fromhex(value).decode("latin-1")])
+        elif line[0] == "#":
+            open_ones[-1][2].append(bytes.fromhex(line[1:]).decode("latin-1"))
+        else:
+            one = open_ones.pop()
+            open_ones[-1][2].append(one)
+    return {"document": open_ones[0][2][0]}
 
 
 def map_name(text, lengths, dimension, index):

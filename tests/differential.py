@@ -3,10 +3,11 @@
     python3 tests/differential.py --count 20000 --seed 1
     python3 tests/differential.py --seconds 60 --large --real
     python3 tests/differential.py --lister PATH --count 5000       the morning card's program instead of the library
+    python3 tests/differential.py --outline PATH --count 5000      the program that shows a document
     python3 tests/differential.py --module oracle --count 500      tries this comparison itself
 
 Compared: the number, the whole answer, the records, what is left as it was (past the stretches, past the answer, on
-refusal, around every lent slice), and that the work space is zero; of the lister its whole output. The last line is 'N compared,
+refusal, around every lent slice), and that the work space is zero; of the lister and the outline their whole output. The last line is 'N compared,
 M differ'. Where the machine is not x86-64 the library and the lister run under the kit's emulator.
 """
 import argparse
@@ -24,6 +25,7 @@ sys.path[:0] = [str(HERE), str(HERE.parent / "python")]
 import dzwonolin  # noqa: E402
 import emulation  # noqa: E402
 import oracle  # noqa: E402
+import oracle_markup  # noqa: E402
 import paper  # noqa: E402
 import real  # noqa: E402
 import standin  # noqa: E402
@@ -168,6 +170,13 @@ class Comparison:
             self.numbers[0] += 1
         self.check(f"{name}: {got[:40]!r}, wanted {wanted[:40]!r}", got == wanted)
 
+    def outline(self, program, name, text):
+        """The lines of the document that a text writes."""
+        wanted = oracle_markup.outline(text)
+        got = subprocess.run(program, input=text, capture_output=True, timeout=60).stdout
+        self.numbers[int(wanted.split()[1]) if wanted.startswith(b"refused") else 0] += 1
+        self.check(f"{name}: {got[:40]!r}, wanted {wanted[:40]!r}", got == wanted)
+
     def real(self, headers):
         for name, text, lengths in headers:
             rng = random.Random(name)
@@ -188,28 +197,32 @@ def main():
     options.add_argument("--large", action="store_true", help="also texts at the limit of length, and long lists")
     options.add_argument("--real", action="store_true", help="also the real headers")
     options.add_argument("--lister", metavar="PATH", help="compare this program's cards, and nothing else")
+    options.add_argument("--outline", metavar="PATH", help="compare what this program shows of documents, and nothing else")
     options.add_argument("--module", choices=["library", "oracle"], default="library")
     options.add_argument("--show", type=int, default=20, help="differences to print")
     given = options.parse_args()
     if given.module == "oracle":
         standin.install(dzwonolin)
-    elif not given.lister:
+    elif not (given.lister or given.outline):
         emulation.ready(dzwonolin)
     count = given.count if given.count is not None else 5000 if given.seconds is None else 1 << 40
     end = time.monotonic() + given.seconds if given.seconds is not None else float("inf")
     run = Comparison(given.show)
     lister = emulation.command(given.lister) if given.lister else None
+    shows = emulation.command(given.outline) if given.outline else None
     if lister:
         run.limit_cards(lister)
-    else:
+    elif not shows:
         run.paper()
-    if given.real and not given.lister:
+    if given.real and not (lister or shows):
         run.real(real.headers_or_skipped())
     for number in range(given.first, given.first + count):
         if time.monotonic() > end:
             break
         if lister:
             run.card(lister, f"seed {given.seed} card {number}", texts.card_case(given.seed, number))
+        elif shows:
+            run.outline(shows, f"seed {given.seed} text {number}", texts.case(given.seed, number).text)
         else:
             run.one(given.seed, number, given.large)
     print("numbers:", ", ".join(f"{n}: {k}" for n, k in sorted(run.numbers.items())))

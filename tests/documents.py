@@ -16,7 +16,7 @@ STRUCTURES = (
 UNITS = ["SECOND", "HERTZ", "METER", "RADIAN"]
 TRANSFORMATION = "TransformationMatrixVoxelIndicesIJKtoXYZ"
 PHRASES = ["", " ", "a", "map 1", "rest & task", "x < y", "\"both\" 'quotes'", "zażółć", "𝛼-band", "]]", "]] >",
-           "&lt;", "&amp;lt;", "tab\there", "two\r\nlines", "\ufeff", "\u00a0", "\x7f", "5 > 4", "--", "]]>", "<!--no-->"]
+           "&lt;", "&amp;lt;", "tab\there", "two\r\nlines", "\r", "\r\r\n", "\n\r", "old\rmac", "\ufeff", "\u00a0", "\x7f", "5 > 4", "--", "]]>", "<!--no-->"]
 MANY_BLANKS = [" ", " ", " ", "\n", "\t", "\r", "  ", "\r\n", " \n\t"]
 COMMENTS = ["", " ", "a", "<b>&", "]]>", "- -", "é", "12", "]]", "<?xml?>", "&amp;", "\t\n\r", "<![CDATA[", "->", "> "]
 
@@ -234,7 +234,7 @@ class Style:
             if letter in "&<" or letter == quote or (letter in ">\"'" and self.often()):
                 letter = REFERENCES[letter]
             elif letter == " " and self.often():
-                letter = self.rng.choice("\t\n\r")
+                letter = self.rng.choice(["\t", "\n", "\r", "\r\n"])
             letters.append(letter)
         return quote + "".join(letters) + quote
 

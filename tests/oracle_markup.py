@@ -30,10 +30,12 @@ REFERENCE = re.compile(rb"&(amp|lt|gt|quot|apos);")
 REFERENCES = {b"amp": b"&", b"lt": b"<", b"gt": b">", b"quot": b'"', b"apos": b"'"}
 LONE_AMPERSAND = re.compile(rb"&(?!(?:amp|lt|gt|quot|apos);)")
 FORBIDDEN = re.compile(rb"[\x00-\x08\x0b\x0c\x0e-\x1f]|\xef\xbf[\xbe\xbf]")
-SPACED = bytes.maketrans(b"\t\n\r", b"   ")
+SPACED = bytes.maketrans(b"\t\n", b"  ")
+LINE_END = re.compile(rb"\r\n?")
 NAME_LIMIT = 64
 ATTRIBUTE_LIMIT = 16
 DEPTH_LIMIT = 16
+OUTLINE_LIMIT = 32768
 
 
 class Element:
@@ -78,6 +80,11 @@ def decode(raw):
     return REFERENCE.sub(lambda m: REFERENCES[m.group(1)], raw)
 
 
+def line_ends(raw):
+    """A carriage return is a line feed, and so is one with a line feed right behind it (XML 1.0, 2.11)."""
+    return LINE_END.sub(b"\n", raw)
+
+
 def check_characters(text):
     """All of a document is UTF-8 of legal characters, markup and comments too."""
     try:
@@ -116,7 +123,7 @@ def start_tag(text, at):
         if len(one["name"]) > NAME_LIMIT:
             raise no_document("a name too long")
         value = one["value"][1:-1]
-        attributes.append((one["name"], decode(value.translate(SPACED))))
+        attributes.append((one["name"], decode(line_ends(value).translate(SPACED))))
     if len(attributes) > ATTRIBUTE_LIMIT:
         raise no_document("too many attributes")
     if len({name for name, _ in attributes}) < len(attributes):
@@ -128,7 +135,7 @@ def add_run(element, raw):
     """A stretch of text; it joins the run before it, where only comments stand between."""
     if b"]]>" in raw:
         raise no_document("]]> in text")
-    run = decode(raw)
+    run = decode(line_ends(raw))
     if element.contents and isinstance(element.contents[-1], bytearray):
         element.contents[-1] += run
     else:
@@ -179,3 +186,26 @@ def document(text):
     if skip_aside(text, at) != len(text):
         raise no_document("something after the root")
     return root
+
+
+def lines(element):
+    """What is shown of an element: its start, attributes, contents and end, values and runs in hexadecimal."""
+    yield b"<" + element.name
+    for name, value in element.attributes:
+        yield b"@" + name + b" " + value.hex().encode()
+    for one in element.contents:
+        if isinstance(one, Element):
+            yield from lines(one)
+        else:
+            yield b"#" + one.hex().encode()
+    yield b">"
+
+
+def outline(text):
+    """The whole output of the program that shows a document."""
+    if len(text) > OUTLINE_LIMIT:
+        return b"refused 2\n"
+    try:
+        return b"".join(line + b"\n" for line in lines(document(text)))
+    except Refused as refused:
+        return b"refused %d\n" % refused.number
