@@ -1,4 +1,5 @@
-// The lines of a document, in the order of its text. Every turn of a loop passes at least one byte, so there are never more turns than bytes.
+// The lines of a document, in the order of its text. Every turn of a loop passes at least one byte, so there are never more turns than
+// bytes.
 use elements::scan::past_tag;
 use elements::scan::tag_end;
 use heads::attributes::key_at;
