@@ -7,8 +7,8 @@
     python3 tests/differential.py --module oracle --count 500      tries this comparison itself
 
 Compared: the number, the whole answer, the records, what is left as it was (past the stretches, past the answer, on
-refusal, around every lent slice), and that the work space is zero; of the lister and the outline their whole output. The last line is 'N compared,
-M differ'. Where the machine is not x86-64 the library and the lister run under the kit's emulator.
+refusal, around every lent slice), and that the work space is zero; of the lister and the outline their whole output. The last line is
+'N compared, M differ'. Where the machine is not x86-64 the library and the lister run under the kit's emulator.
 """
 import argparse
 import collections
@@ -223,6 +223,7 @@ def main():
             run.card(lister, f"seed {given.seed} card {number}", texts.card_case(given.seed, number))
         elif shows:
             run.outline(shows, f"seed {given.seed} text {number}", texts.case(given.seed, number).text)
+            run.outline(shows, f"seed {given.seed} line ends {number}", texts.line_ends(given.seed, number))
         else:
             run.one(given.seed, number, given.large)
     print("numbers:", ", ".join(f"{n}: {k}" for n, k in sorted(run.numbers.items())))

@@ -77,8 +77,23 @@ def markup_only(rng, style):
     depth = rng.choice([1, 2, 15, 16, 16, 17, 17])
     inner = None
     for _ in range(depth):
-        inner = documents.Node("a", (), ([inner] if inner else []) + ([rng.choice(documents.PHRASES)] if rng.random() < 0.2 else []))
+        values = [("b", rng.choice(documents.PHRASES))] if rng.random() < 0.2 else ()
+        inner = documents.Node("a", values, ([inner] if inner else []) + ([rng.choice(documents.PHRASES)] if rng.random() < 0.2 else []))
     return style.write(inner)
+
+
+def line_ends(seed, number):
+    """A small document with returns and line feeds everywhere that they may stand, in every order."""
+    rng = random.Random(f"{seed}/line ends/{number}")
+    ends, inside = ["\r", "\n", "\r\n"], ["x", " ", "&amp;", "]", "é"]
+
+    def some(pieces, least=0):
+        return "".join(rng.choice(pieces) for _ in range(rng.randint(least, 6)))
+
+    values = "".join(f"{some(ends, 1)}{name}{some(ends)}={some(ends)}{quote}{some(3 * ends + inside)}{quote}"
+                     for name, quote in ("b'", 'c"'))
+    contents = some(4 * ends + inside + ["<!---->", "<!--\r\n-\r-->", "<c/>", "<d>\r</d>"])
+    return f"{some(ends)}<a{values}{some(ends)}>{contents}</a{some(ends)}>{some(ends)}".encode()
 
 
 def case(seed, number, large=False):
