@@ -1,5 +1,8 @@
 // The lines of a document, in the order of its text. Every turn of a loop passes at least one byte, so there are never more turns than
 // bytes.
+use super::lines::put;
+use super::lines::put_hex;
+use super::lines::put_part;
 use elements::scan::past_tag;
 use elements::scan::tag_end;
 use heads::attributes::key_at;
@@ -15,9 +18,6 @@ use nodes::scan::Tag;
 use steps::Step;
 use steps::attributes::Key;
 use steps::pieces::Front;
-use super::lines::put;
-use super::lines::put_hex;
-use super::lines::put_part;
 
 // How far the lines go, where the text goes on, how many elements are open, and whether a run is.
 struct State {

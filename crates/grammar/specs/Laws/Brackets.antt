@@ -7,11 +7,13 @@ use Prim.Native.Nat.{ℕ}
 use native.Mathlib.Omega.{arith}
 use mathlib.Core.Bool.{Bool, true, false, _&&_}
 use lib.Dec.{eqb}
-use Rattle.grammar.specs.Bytes.{_⊹_, ascii, Sequence, no-more, one-more, begins}
+use Rattle.grammar.specs.Bytes.{_⊹_, ascii, Row, none-more, and-more, begins, parted}
 use Rattle.grammar.specs.Document.{Contents, nothing, child, merged, Element}
 use Rattle.grammar.specs.Grammar
 use Rattle.grammar.specs.Grammar.{TextCharacter, Comment, WritesElement, WritesContents}
 use Rattle.grammar.specs.Laws.Words.{Nowhere, nowhere-end, nowhere-more, nowhere-first, nowhere-drop, tail-past}
+use Rattle.grammar.specs.Laws.Tokens.{parted-apart}
+use Rattle.grammar.specs.Laws.Sound.{parted-less}
 
 -- a stretch of text ends where the contents end, or a `<` stands
 pub data Ends : List ℕ → Type 0 where
@@ -23,11 +25,11 @@ unfoldable pub runs : List (List ℕ) → Contents → Contents
 runs [] c = c
 runs (b ∷ bs) c = merged b (runs bs c)
 
--- contents, with text in stretches: `]]>` stands nowhere in one
+-- contents, with text in stretches: `]]>` stands nowhere in one, and a carriage return with its line feed is one character
 pub data Stretched (d : ℕ) : Contents → List ℕ → Type 0 where
   none : Stretched d nothing []
   remark : {c : Contents} {w s : List ℕ} → Comment w → Stretched d c s → Stretched d c (w ⊹ s)
-  stretch : {c : Contents} {bs : List (List ℕ)} {w s : List ℕ} → Sequence TextCharacter bs w → Nowhere (ascii "]]>") w → Ends s
+  stretch : {c : Contents} {bs : List (List ℕ)} {w s : List ℕ} → Row TextCharacter parted bs w → Nowhere (ascii "]]>") w → Ends s
       → Stretched d c s → Stretched d (runs bs c) (w ⊹ s)
   inner : {e : Element} {c : Contents} {w s : List ℕ} → WritesElement d e w → Stretched d c s → Stretched d (child e c) (w ⊹ s)
 
@@ -62,7 +64,9 @@ unmarked = a-byte refl (a-byte refl (a-byte refl no-byte))
 fronted : {b w : List ℕ} → TextCharacter b w → (s : List ℕ) → begins (ascii "]]>") (w ++ s) ≡ false → Nowhere (ascii "]]>") s
     → Nowhere (ascii "]]>") (w ++ s)
 unfolding begins
-fronted (Grammar.literal h e) s f n = nowhere-more f (tail-past (omega arith) h s n)
+fronted (Grammar.literal h e k) s f n = nowhere-more f (tail-past (omega arith) h s n)
+fronted (Grammar.line-end Grammar.pair) s f n = nowhere-more refl (nowhere-more refl n)
+fronted (Grammar.line-end Grammar.lone) s f n = nowhere-more refl n
 fronted (Grammar.reference Grammar.amp) s f n =
     nowhere-more refl (nowhere-more refl (nowhere-more refl (nowhere-more refl (nowhere-more refl n))))
 fronted (Grammar.reference Grammar.lt) s f n = nowhere-more refl (nowhere-more refl (nowhere-more refl (nowhere-more refl n)))
@@ -73,12 +77,12 @@ fronted (Grammar.reference Grammar.apos) s f n =
     nowhere-more refl (nowhere-more refl (nowhere-more refl (nowhere-more refl (nowhere-more refl (nowhere-more refl n)))))
 
 -- a stretch of one character
-alone : {d : ℕ} {c : Contents} {b w s : List ℕ} → TextCharacter b w → begins (ascii "]]>") (w ⊹ s) ≡ false → Ends s → Stretched d c s
-    → Stretched d (merged b c) (w ⊹ s)
+alone : {d : ℕ} {c : Contents} {b w s : List ℕ} → TextCharacter b w → parted w s ≡ false → begins (ascii "]]>") (w ⊹ s) ≡ false → Ends s
+    → Stretched d c s → Stretched d (merged b c) (w ⊹ s)
 unfolding runs
-alone {w = w} {s = s} h f e t =
+alone {w = w} {s = s} h p f e t =
     let f₀ : begins (ascii "]]>") (w ++ []) ≡ false = rw append-nil (less (ascii "]]>") w s f) in
-    let one = stretch (one-more h no-more) (fronted h [] f₀ nowhere-end) e t in
+    let one = stretch (and-more h (parted-less w [] s p) none-more) (fronted h [] f₀ nowhere-end) e t in
     rw append-nil at one
 
 comment-ends : {w : List ℕ} (s : List ℕ) → Comment w → Ends (w ++ s)
@@ -88,43 +92,50 @@ element-ends : {d : ℕ} {e : Element} {w : List ℕ} (s : List ℕ) → WritesE
 element-ends s (Grammar.full n a b c v) = at-mark
 element-ends s (Grammar.empty n a b) = at-mark
 
-longer : {d : ℕ} {c : Contents} {b w s : List ℕ} → TextCharacter b w → begins (ascii "]]>") (w ⊹ s) ≡ false → Stretched d c s
-    → Stretched d (merged b c) (w ⊹ s)
+longer : {d : ℕ} {c : Contents} {b w s : List ℕ} → TextCharacter b w → parted w s ≡ false → begins (ascii "]]>") (w ⊹ s) ≡ false
+    → Stretched d c s → Stretched d (merged b c) (w ⊹ s)
 unfolding runs
-longer h f none = alone h f at-end none
-longer h f (remark {s = s} q t) = alone h f (comment-ends s q) (remark q t)
-longer h f (inner {s = s} q t) = alone h f (element-ends s q) (inner q t)
-longer {w = w} h f (stretch {w = v} {s = s} q n e t) =
+longer h p f none = alone h p f at-end none
+longer h p f (remark {s = s} q t) = alone h p f (comment-ends s q) (remark q t)
+longer h p f (inner {s = s} q t) = alone h p f (element-ends s q) (inner q t)
+longer {w = w} h p f (stretch {w = v} {s = s} q n e t) =
     let f₀ : begins (ascii "]]>") (w ++ v) ≡ false = less (ascii "]]>") (w ++ v) s (rw append-assoc f) in
-    let whole = stretch (one-more h q) (fronted h v f₀ n) e t in
+    let whole = stretch (and-more h (parted-less w v s p) q) (fronted h v f₀ n) e t in
     rw append-assoc at whole
 
 stretches : {d : ℕ} {c : Contents} {k : List ℕ} → WritesContents d c k → Stretched d c k
 stretches Grammar.none = none
 stretches (Grammar.remark q t) = remark q (stretches t)
-stretches (Grammar.character h f t) = longer h f (stretches t)
+stretches (Grammar.character h p f t) = longer h p f (stretches t)
 stretches (Grammar.inner q t) = inner q (stretches t)
 
 -- each character of a stretch, with what stands behind it
 ahead : {b w : List ℕ} → TextCharacter b w → (v : List ℕ) {s : List ℕ} → Nowhere (ascii "]]>") (w ++ v) → Ends s
     → begins (ascii "]]>") (w ++ (v ++ s)) ≡ false
 unfolding begins
-ahead (Grammar.literal {a} {w} h e) v {s} n t =
+ahead (Grammar.literal {a} {w} h e k) v {s} n t =
     let whole : begins (ascii "]]>") (a ∷ ((w ++ v) ++ s)) ≡ false = more (a ∷ (w ++ v)) unmarked (nowhere-first n) t in
     subst (λ (x : List ℕ). begins (ascii "]]>") (a ∷ x) ≡ false) (append-assoc w v s) whole
+ahead (Grammar.line-end Grammar.pair) v n t = refl
+ahead (Grammar.line-end Grammar.lone) v n t = refl
 ahead (Grammar.reference Grammar.amp) v n t = refl
 ahead (Grammar.reference Grammar.lt) v n t = refl
 ahead (Grammar.reference Grammar.gt) v n t = refl
 ahead (Grammar.reference Grammar.quot) v n t = refl
 ahead (Grammar.reference Grammar.apos) v n t = refl
 
-characters : {d : ℕ} {c : Contents} {bs : List (List ℕ)} {w s : List ℕ} → Sequence TextCharacter bs w → Nowhere (ascii "]]>") w → Ends s
+-- where a stretch ends, no line feed stands behind its last character
+kept : (w v : List ℕ) {s : List ℕ} → Ends s → parted w v ≡ false → parted w (v ++ s) ≡ false
+kept w v at-end p = rw append-nil p
+kept w v (at-mark {s}) p = parted-apart w v 60 s refl p
+
+characters : {d : ℕ} {c : Contents} {bs : List (List ℕ)} {w s : List ℕ} → Row TextCharacter parted bs w → Nowhere (ascii "]]>") w → Ends s
     → WritesContents d c s → WritesContents d (runs bs c) (w ⊹ s)
 unfolding runs
-characters no-more n e t = t
-characters {s = s} (one-more {w = w} {s = v} h q) n e t =
+characters none-more n e t = t
+characters {s = s} (and-more {w = w} {s = v} h p q) n e t =
     let rest = characters q (nowhere-drop w v n) e t in
-    rw append-assoc (Grammar.character h (ahead h v n e) rest)
+    rw append-assoc (Grammar.character h (kept w v e p) (ahead h v n e) rest)
 
 writes : {d : ℕ} {c : Contents} {k : List ℕ} → Stretched d c k → WritesContents d c k
 writes none = Grammar.none
