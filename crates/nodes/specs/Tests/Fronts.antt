@@ -4,14 +4,14 @@ use mathlib.Core.List.{[]}
 use Prim.Native.String.{String}
 use Rattle.grammar.specs.Bytes.{ascii}
 use Rattle.grammar.specs.Parser.{computing}
-use Rattle.nodes.specs.Values.{next-byte, or-else, tell, decodedAs, tells, value-there, as-char, decoded-at}
+use Rattle.nodes.specs.Values.{next-byte, bare-byte, or-else, tell, decodedAs, tells, value-there, as-char, decoded-at}
 use Rattle.nodes.specs.Fronts.{begins-at, fronts}
 use Rattle.nodes.specs.declared.Found.{Found}
 use Rattle.nodes.specs.declared.Found.the-variants.{At, Nothing}
 use Rattle.steps.specs.Leaves.{first-byte}
 
 unfoldable decodes : Unit {0}
-unfolding computing next-byte or-else tell decodedAs tells value-there as-char decoded-at first-byte fronts
+unfolding computing next-byte bare-byte or-else tell decodedAs tells value-there as-char decoded-at first-byte fronts
 decodes = tt
 
 unfoldable asks : String → Found
