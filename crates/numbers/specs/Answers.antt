@@ -3,13 +3,14 @@ use mathlib.Core.List.{List, [], _∷_}
 use mathlib.Core.Bool.{Bool, true, false, _&&_, cond}
 use Prim.Native.Nat.{ℕ, _+_}
 use lib.Dec.{ltb, leb}
+use lib.IntN.{ℤ}
 use lib.ListN.{length, drop, getD}
 use Rattle.grammar.specs.Bytes.{blank, between}
 use Rattle.grammar.specs.Look.{Word}
 use Rattle.lists.specs.Lists.{count}
 use Rattle.nodes.specs.TextBytes.{says}
 use Rattle.numbers.specs.Numbers.{digits, value, whole, words, Sign, plus, minus, withSign, dimensionList, commaValues}
-use Rattle.numbers.specs.Numbers.{volumeDimensions, exponent, exponentValue, decimal, decimalValue}
+use Rattle.numbers.specs.Numbers.{volumeDimensions, exponent, exponentValue, inPower, decimal, decimalValue, up, down}
 use Rattle.numbers.specs.Stream.{behind, leading}
 use Rattle.numbers.specs.declared.Source.the-variants.{Contents}
 use Rattle.numbers.specs.declared.Whole.{Whole}
@@ -53,6 +54,14 @@ exponentFrom most s w = cond (digits 1 2 w && leb (value w) most) (exponents.Is 
 -- a decimal
 unfoldable pub decimalIn : Word → Decimals
 decimalIn w = cond (decimal w) (decimals.Is (decimalValue w)) decimals.No
+
+-- a power of ten, within its limit
+unfoldable pub powerIn : ℤ → Exponent
+powerIn z = cond (inPower 45 z) (exponents.Is z) exponents.No
+
+-- a power from -18 to 0, without its sign: beyond, 10 to it or its opposite is no number of 64 bits with a sign
+unfoldable pub placesIn : ℤ → Whole
+placesIn z = cond (leb (up z) 0 && leb (down z) 18) (Is (down z)) No
 
 -- The next of a list of whole numbers, from a place in the text on: the first word that is ahead, and the place behind it.
 unfoldable pub nextOf : (ℕ → ℕ) → List Word → Next

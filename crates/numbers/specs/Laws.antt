@@ -4,6 +4,11 @@ pub mod Read
 pub mod Parts
 pub mod Signed
 pub mod Stream
+pub mod Mantissa
+pub mod Integers
+pub mod Ahead
+pub mod Raised
+pub mod Powered
 pub mod Decimal
 pub mod Exponent
 pub mod Forms
@@ -14,7 +19,9 @@ pub mod Quick
 pub mod Signs
 pub mod Walk
 pub mod Nth
+pub mod InValue
 pub mod Sixteen
 pub mod Spelled
 pub mod Three
 pub mod Theorems
+pub mod Powers

@@ -3,7 +3,7 @@ use mathlib.Core.List.{List, [], _∷_, _++_}
 use mathlib.Core.Bool.{Bool, true, false, _&&_, _||_, not, cond}
 use Prim.Native.Nat.{ℕ, zero, suc, _+_, _*_, _-_, _^_}
 use lib.Dec.{eqb, leb}
-use lib.IntN.{ℤ, pos, negsuc, negℤ}
+use lib.IntN.{ℤ, pos, negsuc, negℤ, natAbs, _-ℤ_, _*ℤ_}
 use lib.ListN.{length, drop}
 use Rattle.grammar.specs.Bytes.{between, blank}
 use Rattle.grammar.specs.Document.{together}
@@ -97,34 +97,85 @@ exponent most w = let u = (unsigned false w) .rest in digits 1 2 u && leb (value
 unfoldable pub exponentValue : Word → ℤ
 exponentValue w = let u = unsigned false w in withSign (u .sign) (value (u .rest))
 
--- Decimals: optional `+` or `-`, 1 to 15 digits, at most one point with a digit on each side;
--- read as written, `2.0` is 20 with one place.
+-- Decimals: optional `+` or `-`; 1 to 15 digits, at most one point with a digit on each side; then optionally `e` or `E`, an optional
+-- sign, one or two digits. Read as a whole number and one power of ten: the digits without the point, and the written power less the
+-- places. Nothing is shortened: `7.2E-1` is 72 with power -2, `2.0` is 20 with power -1.
+unfoldable pub mark : ℕ → Bool
+mark a = eqb a 69 || eqb a 101
+
 unfoldable pub decimalParts : List Word → Bool
 decimalParts [] = false
 decimalParts (a ∷ []) = digits 1 15 a
 decimalParts (a ∷ b ∷ []) = digits 1 15 a && (digits 1 15 b && leb (length a + length b) 15)
 decimalParts (a ∷ b ∷ c ∷ l) = false
 
-unfoldable pub decimal : Word → Bool
-decimal w = decimalParts (parts point ((unsigned true w) .rest))
+unfoldable pub mantissa : Word → Bool
+mantissa m = decimalParts (parts point m)
 
-unfoldable pub decimalValue : Word → Decimal
-decimalValue w =
-    let u = unsigned true w in
-    let l = parts point (u .rest) in
-    record { amount = withSign (u .sign) (value (together l)); places = length (together (drop 1 l)) }
+unfoldable pub places : Word → ℕ
+places m = length (together (drop 1 (parts point m)))
+
+-- what stands behind the mantissa: no power, which is 0, or one
+unfoldable pub powerParts : List Word → Bool
+powerParts [] = true
+powerParts (x ∷ []) = digits 1 2 ((unsigned true x) .rest)
+powerParts (x ∷ y ∷ l) = false
+
+unfoldable pub writtenPower : List Word → ℤ
+writtenPower [] = pos 0
+writtenPower (x ∷ l) = let u = unsigned true x in withSign (u .sign) (value (u .rest))
+
+unfoldable pub power : Word → List Word → ℤ
+power m l = writtenPower l -ℤ pos (places m)
+
+-- from -most to most
+unfoldable pub inPower : (most : ℕ) → ℤ → Bool
+inPower most z = leb (natAbs z) most
 
 -- where there is none
 abbrev pub noDecimal : Decimal
-noDecimal = record { amount = pos 0; places = 0 }
+noDecimal = record { amount = pos 0; power = pos 0 }
 
--- the decimal is equal in value to the whole number n
+-- a mantissa and what stands behind it
+unfoldable pub scaled : List Word → Bool
+scaled [] = false
+scaled (m ∷ l) = mantissa m && (powerParts l && inPower 45 (power m l))
+
+unfoldable pub scaledValue : Sign → List Word → Decimal
+scaledValue s [] = noDecimal
+scaledValue s (m ∷ l) = record { amount = withSign s (value (together (parts point m))); power = power m l }
+
+unfoldable pub decimal : Word → Bool
+decimal w = scaled (parts mark ((unsigned true w) .rest))
+
+unfoldable pub decimalValue : Word → Decimal
+decimalValue w = let u = unsigned true w in scaledValue (u .sign) (parts mark (u .rest))
+
+-- A decimal beside the whole number n, in value: both are brought to one power of ten, 0 or the decimal's where that is less.
+unfoldable pub up : ℤ → ℕ
+up (pos k) = k
+up (negsuc k) = 0
+
+unfoldable pub down : ℤ → ℕ
+down (pos k) = 0
+down (negsuc k) = suc k
+
+unfoldable pub inValue : (ℕ → ℤ → Bool) → ℕ → Decimal → Bool
+inValue test n d = test (n * 10 ^ down (d .power)) (d .amount *ℤ pos (10 ^ up (d .power)))
+
 unfoldable pub isWhole : ℕ → ℤ → Bool
 isWhole n (pos m) = eqb m n
 isWhole n (negsuc m) = false
 
+unfoldable pub noMore : ℕ → ℤ → Bool
+noMore n (pos m) = leb m n
+noMore n (negsuc m) = true
+
 unfoldable pub equalTo : ℕ → Word → Bool
-equalTo n w = let d = decimalValue w in isWhole (n * 10 ^ d .places) (d .amount)
+equalTo n w = inValue isWhole n (decimalValue w)
+
+unfoldable pub atMost : ℕ → Word → Bool
+atMost n w = inValue noMore n (decimalValue w)
 
 -- Whole numbers up to n, parted by blanks.
 unfoldable pub wholes : ℕ → Word → Bool
@@ -147,5 +198,6 @@ sixteen w = let l = words w in all decimal l && lastRow (drop 12 l)
 
 unfoldable pub numbers : Unit {0}
 unfolding blank digit digits number value onFirst parts comma point filled words whole three volumeDimensions dimensionList commaValues
-    unsigned withSign exponent exponentValue decimalParts decimal decimalValue isWhole equalTo wholes values lastRow sixteen
+    unsigned withSign exponent exponentValue mark decimalParts mantissa places powerParts writtenPower power inPower scaled scaledValue
+    decimal decimalValue up down inValue isWhole noMore equalTo atMost wholes values lastRow sixteen
 numbers = tt

@@ -5,20 +5,16 @@ use mathlib.Core.Bool.{Bool, true, false, _&&_, cond, and-false, and-true}
 use Prim.Native.Nat.{ℕ, zero, suc, _+_, _*_, _-_, _^_, _≤_, _<_}
 use native.Mathlib.Omega.{arith}
 use lib.Dec.{eqb, leb}
-use lib.ListN.{length, drop, length-append}
-use borrow.Author.Tests.{le-leb, leb-true}
-use Rattle.grammar.specs.Document.{together}
-use Rattle.grammar.specs.Laws.Facts.{and-left, and-right}
+use lib.ListN.{drop}
+use borrow.Author.Tests.{le-leb}
 use Rattle.grammar.specs.Look.{Word}
 use Rattle.lists.specs.Lists.{all}
-use Rattle.numbers.specs.Numbers.{digits, parts, point, unsigned, decimalParts, decimal, decimalValue, isWhole, equalTo, words}
-use Rattle.numbers.specs.Numbers.{lastRow, sixteen}
-use Rattle.numbers.specs.Laws.Cuts.{digits-split}
+use Rattle.numbers.specs.Numbers.{decimal, decimalValue, inValue, isWhole, equalTo, words, lastRow, sixteen}
 use Rattle.numbers.specs.declared.Decimal.{Decimal}
 
 -- the last four are 0 0 0 1, whatever stands before them
 unfoldable pub rightAt : ℕ → Decimal → Bool
-rightAt m d = cond (leb 4 m) true (isWhole (cond (eqb m 0) 1 0 * 10 ^ d .places) (d .amount))
+rightAt m d = cond (leb 4 m) true (inValue isWhole (cond (eqb m 0) 1 0) d)
 
 unfoldable pub sixteenFrom : ℕ → List Word → Bool
 sixteenFrom zero [] = true
@@ -91,18 +87,3 @@ by-count (suc n) (a ∷ l) =
 pub sixteen-is : (w : Word) → sixteen w ≡ sixteenFrom 16 (words w)
 unfolding sixteen
 sixteen-is w = by-count 12 (words w)
-
--- a decimal has at most fourteen places
-parts-few : (l : List Word) → decimalParts l ≡ true → length (together (drop 1 l)) ≤ 14
-unfolding decimalParts
-parts-few [] h = omega arith
-parts-few (a ∷ []) h = omega arith
-parts-few (a ∷ b ∷ []) h =
-    let x = digits-split 1 15 a (and-left (digits 1 15 a) _ h) in
-    let y = leb-true (length a + length b) 15 (and-right (digits 1 15 b) _ (and-right (digits 1 15 a) _ h)) in
-    omega (arith, length-append b [], x .1 .0)
-parts-few (a ∷ b ∷ c ∷ l) h = let z : _≡_ {A = ℕ} 0 1 = cc in absurd (omega arith)
-
-pub places-few : (x : Word) → decimal x ≡ true → decimalValue x .places ≤ 14
-unfolding decimal decimalValue
-places-few x h = parts-few (parts point ((unsigned true x) .rest)) h

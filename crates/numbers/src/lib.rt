@@ -24,10 +24,10 @@ pub enum Exponent {
     No,
 }
 
-// A decimal as it is written: its digits with the sign, and how many of them stand behind the point. 2.0 is 20 with one place.
+// A decimal as it is written: its digits with the sign, and one power of ten, the written one less the places. 2.0 is 20 with power -1.
 pub struct Decimal {
     pub amount: i64,
-    pub places: u64,
+    pub power: i64,
 }
 
 pub enum Decimals {
@@ -52,6 +52,12 @@ pub enum Source {
 pub struct Run {
     pub value: u64,
     pub count: u64,
+    pub next: usize,
+}
+
+// Whether a `-` stands in front, and the place behind the sign, if there is one.
+pub struct Lead {
+    pub negative: bool,
     pub next: usize,
 }
 

@@ -15,7 +15,7 @@ use Rattle.grammar.specs.Bytes.{blank, between}
 use Rattle.grammar.specs.Laws.Facts.{within, blank-in}
 use Rattle.grammar.specs.Look.{Word}
 use Rattle.lists.specs.Lists.{all, those}
-use Rattle.numbers.specs.Numbers.{digit, digits, number, value, parts, onFirst, comma, point, filled, words}
+use Rattle.numbers.specs.Numbers.{digit, digits, number, value, parts, onFirst, comma, point, mark, filled, words}
 
 -- bytes that are no cut
 pub data Uncut (p : ℕ → Bool) : Word → Type 0 where
@@ -25,6 +25,14 @@ pub data Uncut (p : ℕ → Bool) : Word → Type 0 where
 pub uncut-snoc : {p : ℕ → Bool} {u : Word} (b : ℕ) → Uncut p u → p b ≡ false → Uncut p (u ++ (b ∷ []))
 uncut-snoc b none k = more k none
 uncut-snoc b (more h u) k = more h (uncut-snoc b u k)
+
+pub uncut-join : {p : ℕ → Bool} {u v : Word} → Uncut p u → Uncut p v → Uncut p (u ++ v)
+uncut-join none k = k
+uncut-join (more h u) k = more h (uncut-join u k)
+
+pub uncut-at : (p : ℕ → Bool) (u : Word) (b : ℕ) (v : Word) → Uncut p (u ++ (b ∷ v)) → p b ≡ false
+uncut-at p [] b v (more h k) = h
+uncut-at p (a ∷ u) b v (more h k) = uncut-at p u b v k
 
 -- the parts of uncut bytes: at the end, before a cut, and before anything else
 pub parts-end : {p : ℕ → Bool} {u : Word} → Uncut p u → parts p u ≡ u ∷ []
@@ -104,6 +112,10 @@ digit-no-comma a h = let p = digit-in a h .0 in ne-eqb a 44 (λ e. omega arith)
 pub digit-no-point : (a : ℕ) → digit a ≡ true → point a ≡ false
 unfolding point
 digit-no-point a h = let p = digit-in a h .0 in ne-eqb a 46 (λ e. omega arith)
+
+pub digit-no-mark : (a : ℕ) → digit a ≡ true → mark a ≡ false
+unfolding mark
+digit-no-mark a h = let p = digit-in a h .1 in rw (ne-eqb a 69 (λ e. omega arith), ne-eqb a 101 (λ e. omega arith)) refl
 
 pub digits-uncut : {p : ℕ → Bool} → ((a : ℕ) → digit a ≡ true → p a ≡ false) → (u : Word) → all digit u ≡ true → Uncut p u
 unfolding all

@@ -9,6 +9,7 @@ use borrow.Author.Needs.{needs}
 use borrow.Author.Tests.{ne-eqb}
 use lib.Dec.{eqb}
 use lib.ListN.{length, getD}
+use Rattle.lists.specs.Laws.Booleans.{clash}
 use Rattle.grammar.specs.Bytes.{blank}
 use Rattle.grammar.specs.Document.{together}
 use Rattle.grammar.specs.Look.{Word}
@@ -16,99 +17,96 @@ use Rattle.lists.specs.Lists.{all}
 use Rattle.nodes.specs.Values.{value-there}
 use Rattle.nodes.specs.declared.Char.{Char}
 use Rattle.nodes.specs.declared.Char.the-variants.{Byte, End}
-use Rattle.numbers.specs.Numbers.{digits, value, parts, point, Sign, plus, minus, Signed, unsigned, withSign, decimalParts, decimal}
-use Rattle.numbers.specs.Numbers.{decimalValue}
+use Rattle.numbers.specs.Numbers.{digits, value, parts, mark, Sign, plus, minus, Signed, unsigned, decimalParts, mantissa, scaled}
+use Rattle.numbers.specs.Numbers.{scaledValue, decimal, decimalValue}
 use Rattle.numbers.specs.Laws.Cuts.{Uncut, none, more}
 use Rattle.numbers.specs.Stream.{charAt, stream, wordEnds}
 use Rattle.numbers.specs.Laws.Stream.{char-byte, char-end}
-use Rattle.numbers.specs.Spelled.{pureValue, Pure, pure-reads, pure-fails, Spelled, spelled-reads, spelled-fails, decimal-blank}
+use Rattle.numbers.specs.Spelled.{Reading, reads, fails, onward, Spelled, pure, pureValue, Pure, Leads}
+use Rattle.numbers.specs.Laws.Mantissa.{decimal-blank}
 use Rattle.numbers.specs.Answers.{signIf, decimalIn}
 use Rattle.numbers.specs.Laws.Values.{there, past}
 use Rattle.numbers.specs.declared.Source.{Source}
 use Rattle.numbers.specs.declared.Source.the-variants.{Value}
+use Rattle.numbers.specs.declared.Lead.{Lead}
 use Rattle.numbers.specs.declared.Decimal.{Decimal}
 use Rattle.numbers.specs.declared.Spelling.{Spelling}
 use Rattle.numbers.specs.declared.Spelling.the-variants.{Reads, Fails}
 use Rattle.numbers.specs.declared.Decimals.the-variants as decimals
 
 no-decimal : decimal [] ≡ false
-unfolding decimal unsigned decimalParts parts digits all
+unfolding decimal unsigned scaled mantissa decimalParts parts digits all
 no-decimal = refl
 
--- with a sign: the rest decides
-module _ (x : Word) where
-  minus-form : decimal (45 ∷ x) ≡ decimalParts (parts point x)
-  unfolding decimal unsigned
-  minus-form = refl
-
-  minus-value : decimalValue (45 ∷ x) ≡ pureValue (signIf true) x
-  unfolding decimalValue unsigned pureValue signIf
-  minus-value = refl
-
-  plus-form : decimal (43 ∷ x) ≡ decimalParts (parts point x)
-  unfolding decimal unsigned
-  plus-form = refl
-
-  plus-value : decimalValue (43 ∷ x) ≡ pureValue (signIf false) x
-  unfolding decimalValue unsigned pureValue signIf
-  plus-value = refl
-
--- without: all of it does
-bare : (x : Word) → unsigned true x ≡ record { sign = plus; rest = x } → (decimal x ≡ decimalParts (parts point x))
-    × (decimalValue x ≡ pureValue (signIf false) x)
-unfolding decimal decimalValue pureValue signIf
-bare x e = (rw e refl, rw e refl)
-
+-- no sign, where what is ahead begins with none
 bare-start : (b : ℕ) → (b ≡ 45 → ⊥) → (b ≡ 43 → ⊥) → (x y w : Word) → b ∷ w ≡ x ++ y → unsigned true x ≡ record { sign = plus; rest = x }
 unfolding unsigned
 bare-start b h k [] y w e = refl
 bare-start b h k (a ∷ x) y w e = let q : b ≡ a = cc in rw (ne-eqb a 45 (λ z. h (q ∙ z)), ne-eqb a 43 (λ z. k (q ∙ z))) refl
 
+bare-end : (x y : Word) → [] ≡ x ++ y → unsigned true x ≡ record { sign = plus; rest = x }
+unfolding unsigned
+bare-end [] y e = refl
+bare-end (a ∷ x) y e = clash (cc)
+
 module _ (source : Source) (text : List ℕ) (at : ℕ) {c : Char} (ec : c ≡ charAt source text at) where
-  pub sign-end : c ≡ End → Spelled source text at Fails
-  unfolding wordEnds
-  sign-end e = spelled-fails [] [] no-decimal none (char-end source text at ec e) refl
+  pub sign-end : c ≡ End → Leads source text at (record { negative = false; next = at })
+  unfolding signIf
+  sign-end e = record {
+    front = [];
+    no-blank = none;
+    no-mark = none;
+    splits = refl;
+    signs = λ x y s. bare-end x y (sym (char-end source text at ec e) ∙ s);
+  }
 
   module _ {b j : ℕ} (e : c ≡ Byte b j) where
     ahead : stream source text at ≡ b ∷ stream source text j
     ahead = char-byte source text at ec e .splits
 
-    pub sign-minus : b ≡ 45 → {r : Spelling} → Pure source text j (signIf true) r → Spelled source text at r
-    unfolding blank
-    sign-minus h p = go p
-      where
-        first : stream source text at ≡ 45 ∷ stream source text j
-        first = ahead ∙ ap (λ a. a ∷ stream source text j) h
+    pub sign-minus : b ≡ 45 → Leads source text at (record { negative = true; next = j })
+    unfolding signIf unsigned blank mark
+    sign-minus h = record {
+      front = 45 ∷ [];
+      no-blank = more refl none;
+      no-mark = more refl none;
+      splits = ahead ∙ ap (λ a. a ∷ stream source text j) h;
+      signs = λ x y s. refl;
+    }
 
-        go : {r : Spelling} → Pure source text j (signIf true) r → Spelled source text at r
-        go (pure-reads x f d u s n) = spelled-reads (45 ∷ x) (minus-form x ∙ f) (d ∙ sym (minus-value x)) (more refl u)
-            (first ∙ ap (λ l. 45 ∷ l) s) n
-        go (pure-fails x y f u s n) = spelled-fails (45 ∷ x) y (minus-form x ∙ f) (more refl u) (first ∙ ap (λ l. 45 ∷ l) s) n
+    pub sign-plus : b ≡ 43 → Leads source text at (record { negative = false; next = j })
+    unfolding signIf unsigned blank mark
+    sign-plus h = record {
+      front = 43 ∷ [];
+      no-blank = more refl none;
+      no-mark = more refl none;
+      splits = ahead ∙ ap (λ a. a ∷ stream source text j) h;
+      signs = λ x y s. refl;
+    }
 
-    pub sign-plus : b ≡ 43 → {r : Spelling} → Pure source text j (signIf false) r → Spelled source text at r
-    unfolding blank
-    sign-plus h p = go p
-      where
-        first : stream source text at ≡ 43 ∷ stream source text j
-        first = ahead ∙ ap (λ a. a ∷ stream source text j) h
+    pub sign-none : (b ≡ 45 → ⊥) → (b ≡ 43 → ⊥) → Leads source text at (record { negative = false; next = at })
+    unfolding signIf
+    sign-none h k = record {
+      front = [];
+      no-blank = none;
+      no-mark = none;
+      splits = refl;
+      signs = λ x y s. bare-start b h k x y (stream source text j) (sym ahead ∙ s);
+    }
 
-        go : {r : Spelling} → Pure source text j (signIf false) r → Spelled source text at r
-        go (pure-reads x f d u s n) = spelled-reads (43 ∷ x) (plus-form x ∙ f) (d ∙ sym (plus-value x)) (more refl u)
-            (first ∙ ap (λ l. 43 ∷ l) s) n
-        go (pure-fails x y f u s n) = spelled-fails (43 ∷ x) y (plus-form x ∙ f) (more refl u) (first ∙ ap (λ l. 43 ∷ l) s) n
+pub ruleset signs-of = (sign-end, sign-minus, sign-plus, sign-none, needs)
 
-    pub sign-none : (b ≡ 45 → ⊥) → (b ≡ 43 → ⊥) → {r : Spelling} → Pure source text at (signIf false) r → Spelled source text at r
-    sign-none h k p = go p
-      where
-        go : {r : Spelling} → Pure source text at (signIf false) r → Spelled source text at r
-        go (pure-reads x {j = i} f d u s n) =
-            let q = bare x (bare-start b h k x (stream source text i) (stream source text j) (sym ahead ∙ s)) in
-            spelled-reads x (q .0 ∙ f) (d ∙ sym (q .1)) u s n
-        go (pure-fails x y f u s n) =
-            let q = bare x (bare-start b h k x y (stream source text j) (sym ahead ∙ s)) in
-            spelled-fails x y (q .0 ∙ f) u s n
+-- a sign, and a decimal without
+signed-form : (t : Bool) (w x : Word) → unsigned true w ≡ record { sign = signIf t; rest = x }
+    → (decimal w ≡ pure x) × (pure x ≡ true → decimalValue w ≡ pureValue (signIf t) x)
+unfolding decimal decimalValue pure pureValue
+signed-form t w x e = (rw e refl, λ h. rw e refl)
 
-pub ruleset signs = (sign-end, sign-minus, sign-plus, sign-none, needs)
+pub sign-read : {source : Source} {text : List ℕ} {at : ℕ} {lead : Lead} → Leads source text at lead → {r : Spelling}
+    → Pure source text (lead .next) (signIf (lead .negative)) r → Spelled source text at r
+sign-read l p = record {
+  reading = onward (l .front) (λ x y e. signed-form _ (l .front ++ x) x (l .signs x y e)) (l .no-blank) (l .splits) (p .reading);
+}
 
 -- the whole value
 refused : (w : Word) → decimal w ≡ false → decimals.No ≡ decimalIn w
@@ -126,23 +124,23 @@ module _ (text : List ℕ) (at : ℕ) where
 
   module _ {r : Spelling} (p : Spelled (Value (getD text at 0)) text (at + 1) r) where
     pub decimal-fails : r ≡ Fails → decimals.No ≡ decimalIn (value-there text at)
-    decimal-fails e = go p e
+    decimal-fails e = go (p .reading) e
       where
-        go : {x : Spelling} → Spelled (Value (getD text at 0)) text (at + 1) x → x ≡ Fails → decimals.No ≡ decimalIn (value-there text at)
-        go (spelled-fails x y f u s n) q = refused (value-there text at) (ap decimal (there text at ∙ s) ∙ not-ended x y n (inl f))
-        go (spelled-reads x f d u s n) q = let z : _≡_ {A = ℕ} 0 1 = cc in absurd (omega arith)
+        go : {x : Spelling} → Reading (Value (getD text at 0)) text (at + 1) decimal decimalValue x → x ≡ Fails → decimals.No ≡ decimalIn (value-there text at)
+        go (fails x y f u s n) q = refused (value-there text at) (ap decimal (there text at ∙ s) ∙ not-ended x y n (inl f))
+        go (reads x f d u s n) q = let z : _≡_ {A = ℕ} 0 1 = cc in absurd (omega arith)
 
     module _ {d : Decimal} {j : ℕ} (e : r ≡ Reads d j) {c : Char} (ec : c ≡ charAt (Value (getD text at 0)) text j) where
       pub decimal-more : {b k : ℕ} → c ≡ Byte b k → decimals.No ≡ decimalIn (value-there text at)
-      decimal-more {b} {k} q = go p e
+      decimal-more {b} {k} q = go (p .reading) e
         where
           next-is : stream (Value (getD text at 0)) text j ≡ b ∷ stream (Value (getD text at 0)) text k
           next-is = char-byte (Value (getD text at 0)) text j ec q .splits
 
-          go : {x : Spelling} → Spelled (Value (getD text at 0)) text (at + 1) x → x ≡ Reads d j
+          go : {x : Spelling} → Reading (Value (getD text at 0)) text (at + 1) decimal decimalValue x → x ≡ Reads d j
               → decimals.No ≡ decimalIn (value-there text at)
-          go (spelled-fails x y f u s n) q = let z : _≡_ {A = ℕ} 0 1 = cc in absurd (omega arith)
-          go (spelled-reads x {j = i} f v u s n) q =
+          go (fails x y f u s n) q = let z : _≡_ {A = ℕ} 0 1 = cc in absurd (omega arith)
+          go (reads x {j = i} f v u s n) q =
               let w : i ≡ j = cc in
               let l : stream (Value (getD text at 0)) text i ≡ b ∷ stream (Value (getD text at 0)) text k =
               ap (stream (Value (getD text at 0)) text) w ∙ next-is in
@@ -154,12 +152,12 @@ module _ (text : List ℕ) (at : ℕ) where
 
       pub decimal-is : c ≡ End → decimals.Is d ≡ decimalIn (value-there text at)
       unfolding decimalIn
-      decimal-is q = go p e
+      decimal-is q = go (p .reading) e
         where
-          go : {x : Spelling} → Spelled (Value (getD text at 0)) text (at + 1) x → x ≡ Reads d j
+          go : {x : Spelling} → Reading (Value (getD text at 0)) text (at + 1) decimal decimalValue x → x ≡ Reads d j
               → decimals.Is d ≡ decimalIn (value-there text at)
-          go (spelled-fails x y f u s n) h = let z : _≡_ {A = ℕ} 0 1 = cc in absurd (omega arith)
-          go (spelled-reads x {j = i} {d = v} f m u s n) h =
+          go (fails x y f u s n) h = let z : _≡_ {A = ℕ} 0 1 = cc in absurd (omega arith)
+          go (reads x {j = i} {d = v} f m u s n) h =
               let w : i ≡ j = cc in
               let k : v ≡ d = cc in
               let l : stream (Value (getD text at 0)) text i ≡ [] = ap (stream (Value (getD text at 0)) text) w

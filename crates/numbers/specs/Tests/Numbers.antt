@@ -10,7 +10,9 @@ use Rattle.grammar.specs.Look.{Word}
 use Rattle.lists.specs.Lists.{lists, all, those, each}
 use Rattle.numbers.specs.Numbers.{numbers, digit, digits, number, value, onFirst, parts, comma, point, filled, words, whole, three}
 use Rattle.numbers.specs.Numbers.{volumeDimensions, dimensionList, commaValues, unsigned, withSign, exponent, exponentValue}
-use Rattle.numbers.specs.Numbers.{decimalParts, decimal, decimalValue, isWhole, equalTo, wholes, values, lastRow, sixteen}
+use Rattle.numbers.specs.Numbers.{mark, decimalParts, mantissa, places, powerParts, writtenPower, power, inPower, scaled, scaledValue}
+use Rattle.numbers.specs.Numbers.{decimal, decimalValue, up, down, inValue, isWhole, noMore, equalTo, atMost, wholes, values, lastRow}
+use Rattle.numbers.specs.Numbers.{sixteen}
 
 -- every text of the list passes, or none does
 abbrev Every : (Word → Bool) → List String → Type 0
@@ -67,29 +69,77 @@ unfolding numbers lists
 decimals-yes = refl
 
 decimals-no : None decimal ("" ∷ "." ∷ ".5" ∷ "5." ∷ "-" ∷ "+" ∷ "+-1" ∷ "1.2.3" ∷ "1234567890123456" ∷ "1.234567890123456"
-    ∷ "123456789012345.6" ∷ "1e5" ∷ "1 " ∷ " 1" ∷ "-.5" ∷ [])
+    ∷ "123456789012345.6" ∷ "1 " ∷ " 1" ∷ "-.5" ∷ [])
 unfolding numbers lists
 decimals-no = refl
 
-decimal-values : (decimalValue (ascii "2.0") ≡ record { amount = pos 20; places = 1 })
-    × ((decimalValue (ascii "-0") ≡ record { amount = pos 0; places = 0 })
-    × ((decimalValue (ascii "-0.0") ≡ record { amount = pos 0; places = 1 })
-    × ((decimalValue (ascii "+1.5") ≡ record { amount = pos 15; places = 1 })
-    × (decimalValue (ascii "-12345678901234.5") ≡ record { amount = negsuc 123456789012344; places = 1 }))))
+-- powers, their limit from both sides, after the places are subtracted
+powers-yes : Every decimal ("7.2E-1" ∷ "7.2e-1" ∷ "1.5E+1" ∷ "1E5" ∷ "1E05" ∷ "1E-5" ∷ "1E0" ∷ "1E-0" ∷ "-1E+00" ∷ "1E45" ∷ "1E-45"
+    ∷ "1.0E46" ∷ "1.0E-44" ∷ "0E45" ∷ "123456789012345E-30" ∷ "1.23456789012345E59" ∷ "1.23456789012345e-31" ∷ [])
+unfolding numbers lists
+powers-yes = refl
+
+powers-no : None decimal ("1E46" ∷ "1E-46" ∷ "1.0E47" ∷ "1.0E-45" ∷ "0E46" ∷ "0.0E-45" ∷ "-0E-46" ∷ "1E99" ∷ "1.23456789012345E60"
+    ∷ "1.23456789012345E-32" ∷ "1E005" ∷ "1E" ∷ "1E+" ∷ "1E-" ∷ "1E 5" ∷ "1 E5" ∷ "1E+-5" ∷ "1E5.0" ∷ "1E5E5" ∷ "1EE5" ∷ "1eE5" ∷ "E5"
+    ∷ "1.E5" ∷ ".5E5" ∷ "1x5" ∷ "1E5x" ∷ "1E5 " ∷ "1234567890123456E-1" ∷ "1D5" ∷ "1F5" ∷ "1d5" ∷ "1f5" ∷ [])
+unfolding numbers lists
+powers-no = refl
+
+decimal-values : (decimalValue (ascii "2.0") ≡ record { amount = pos 20; power = negsuc 0 })
+    × ((decimalValue (ascii "-0") ≡ record { amount = pos 0; power = pos 0 })
+    × ((decimalValue (ascii "-0.0") ≡ record { amount = pos 0; power = negsuc 0 })
+    × ((decimalValue (ascii "+1.5") ≡ record { amount = pos 15; power = negsuc 0 })
+    × (decimalValue (ascii "-12345678901234.5") ≡ record { amount = negsuc 123456789012344; power = negsuc 0 }))))
 unfolding numbers
 decimal-values = (refl, (refl, (refl, (refl, refl))))
+
+power-values : (decimalValue (ascii "7.2E-1") ≡ record { amount = pos 72; power = negsuc 1 })
+    × ((decimalValue (ascii "1.5E+1") ≡ record { amount = pos 15; power = pos 0 })
+    × ((decimalValue (ascii "-7.25e3") ≡ record { amount = negsuc 724; power = pos 1 })
+    × ((decimalValue (ascii "1.0E46") ≡ record { amount = pos 10; power = pos 45 })
+    × ((decimalValue (ascii "1.0E-44") ≡ record { amount = pos 10; power = negsuc 44 })
+    × (decimalValue (ascii "1E-0") ≡ record { amount = pos 1; power = pos 0 })))))
+unfolding numbers
+power-values = (refl, (refl, (refl, (refl, (refl, refl)))))
+
+-- 0, 1 and what is at most 1, in value
+zeros : Every (equalTo 0) ("0" ∷ "-0" ∷ "0.0" ∷ "0E-45" ∷ "-0.0E46" ∷ [])
+unfolding numbers lists
+zeros = refl
+
+no-zeros : None (equalTo 0) ("1E-45" ∷ "1" ∷ "0.1" ∷ "-1" ∷ "1E45" ∷ [])
+unfolding numbers lists
+no-zeros = refl
+
+ones : Every (equalTo 1) ("1" ∷ "1.00" ∷ "10E-1" ∷ "0.1E1" ∷ "100000000000000E-14" ∷ "0.00000000000001E14" ∷ [])
+unfolding numbers lists
+ones = refl
+
+no-ones : None (equalTo 1) ("1E1" ∷ "1E-1" ∷ "10" ∷ "0" ∷ "-1" ∷ "-10E-1" ∷ "1.1E0" ∷ "11E-1" ∷ "100000000000000E-15" ∷ "1E45" ∷ [])
+unfolding numbers lists
+no-ones = refl
+
+at-most-yes : Every (atMost 1) ("0" ∷ "1" ∷ "1.000" ∷ "10E-1" ∷ "0.9" ∷ "0E45" ∷ "-5" ∷ "1E-45" ∷ [])
+unfolding numbers lists
+at-most-yes = refl
+
+at-most-no : None (atMost 1) ("2" ∷ "1.1" ∷ "1E1" ∷ "11E-1" ∷ "1.00000000000001" ∷ "1E45" ∷ [])
+unfolding numbers lists
+at-most-no = refl
 
 lists-in-text : (values (ascii " 4 1\n5 ") ≡ 4 ∷ 1 ∷ 5 ∷ [])
     × ((values (ascii "  ") ≡ []) × ((wholes 1048575 (ascii "0 1048575") ≡ true) × (wholes 1048575 (ascii "0 1048576") ≡ false)))
 unfolding numbers lists
 lists-in-text = (refl, (refl, (refl, refl)))
 
-sixteens-yes : Every sixteen ("1 0 0 0 0 1 0 0 0 0 1 0 0 0 0 1" ∷ " 1 0 0 0 0 1 0 0 0 0 1 0 0.0 -0 +0 1.00\n" ∷ [])
+sixteens-yes : Every sixteen ("1 0 0 0 0 1 0 0 0 0 1 0 0 0 0 1" ∷ " 1 0 0 0 0 1 0 0 0 0 1 0 0.0 -0 +0 1.00\n"
+    ∷ "1E1 0 0 0 0 1 0 0 0 0 1 0 0E-45 -0.0E46 0 10E-1" ∷ [])
 unfolding numbers lists
 sixteens-yes = refl
 
 sixteens-no : None sixteen ("" ∷ "1 0 0 0 0 1 0 0 0 0 1 0 0 0 0" ∷ "1 0 0 0 0 1 0 0 0 0 1 0 0 0 0 1 0"
     ∷ "1 0 0 0 0 1 0 0 0 0 1 0 0 0 0 10" ∷ "1 0 0 0 0 1 0 0 0 0 1 0 0 0 1 1" ∷ "1 0 0 0 0 1 0 0 0 0 x 0 0 0 0 1"
-    ∷ "1 0 0 0 0 1 0 0 0 0 1 0 0 0 0 -1" ∷ [])
+    ∷ "1 0 0 0 0 1 0 0 0 0 1 0 0 0 0 -1" ∷ "1 0 0 0 0 1 0 0 0 0 1 0 0 0 0 1E1" ∷ "1 0 0 0 0 1 0 0 0 0 1 0 0 1E-45 0 1"
+    ∷ "1E46 0 0 0 0 1 0 0 0 0 1 0 0 0 0 1" ∷ [])
 unfolding numbers lists
 sixteens-no = refl
