@@ -19,7 +19,7 @@ pub fn no_decimal() -> Decimal
 {
     Decimal {
         amount: 0,
-        places: 0,
+        power: 0,
     }
 }
 

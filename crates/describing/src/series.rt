@@ -1,8 +1,8 @@
 // What a series map says.
 use answers::no_decimal;
 use cifti::Series;
+use decimals::decimal_value;
 use nodes::Found;
-use number_values::decimal_value;
 use number_values::exponent_value;
 use numbers::Decimal;
 use numbers::Decimals;

@@ -18,7 +18,7 @@ complement (pos n) = n
 complement (negsuc n) = 18446744073709551615 - n
 
 abbrev pub decimalNumbers : Decimal → List ℕ
-decimalNumbers d = complement (d .amount) ∷ d .places ∷ []
+decimalNumbers d = complement (d .amount) ∷ complement (d .power) ∷ []
 
 -- start, step, exponent and unit
 abbrev pub seriesNumbers : Series → List ℕ

@@ -18,11 +18,11 @@ const START: usize = 2;
 
 const START_AMOUNT: usize = 3;
 
-const START_PLACES: usize = 4;
+const START_POWER: usize = 4;
 
 const STEP_AMOUNT: usize = 5;
 
-const STEP_PLACES: usize = 6;
+const STEP_POWER: usize = 6;
 
 const EXPONENT: usize = 7;
 
@@ -60,9 +60,9 @@ fn dimension_numbers(dimension: Dimension) -> [u64; 16]
     row[LENGTH] = dimension.length;
     row[START] = place.0 as u64;
     row[START_AMOUNT] = complement(start.amount);
-    row[START_PLACES] = start.places;
+    row[START_POWER] = complement(start.power);
     row[STEP_AMOUNT] = complement(step.amount);
-    row[STEP_PLACES] = step.places;
+    row[STEP_POWER] = complement(step.power);
     row[EXPONENT] = complement(series.exponent);
     row[UNIT] = series.unit;
     row

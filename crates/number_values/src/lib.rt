@@ -1,37 +1,24 @@
-// Numbers of one value: whole numbers, lengths, dimension lists, exponents, decimals, rows of sixteen.
-
-// A decimal at a place.
-mod written;
+// Numbers of one value: whole numbers, lengths, dimension lists, exponents.
 
 use nodes::Char;
-use number_lists::chars::blanks;
 use number_lists::chars::char_at;
 use number_lists::chars::digits;
-use number_lists::chars::letter;
-use numbers::Decimals;
 use numbers::Exponent;
 use numbers::Lengths;
 use numbers::Part;
 use numbers::Source;
-use numbers::Spelling;
 use numbers::Three;
 use numbers::Whole;
-use written::decimal_at;
-use written::right_at;
-use written::signed;
 ghost use mathlib.Core.Path.{_≡_};
 ghost use Prim.Native.Nat.{ℕ, _+_, _*_, _-_, _^_, _<_, _≤_};
 ghost use mathlib.Core.Bool.{Bool, cond};
-ghost use lib.ListN.{length, drop};
+ghost use lib.ListN.{length};
 ghost use Rattle.nodes.specs.Values.{value-there};
-ghost use Rattle.nodes.specs.TextBytes.{says};
-ghost use Rattle.numbers.specs.Numbers.{sixteen, withSign, isWhole, noDecimal};
-ghost use Rattle.numbers.specs.Sixteen.{rightAt};
+ghost use Rattle.numbers.specs.Numbers.{withSign};
 ghost use Rattle.numbers.specs.Stream.{stream};
-ghost use Rattle.grammar.specs.Bytes.{blank, between};
-ghost use Rattle.numbers.specs.Answers.{wholeIn, listedIn, betweenIn, threeIn, exponentIn, exponentFrom, decimalIn, signIf};
+ghost use Rattle.grammar.specs.Bytes.{between};
+ghost use Rattle.numbers.specs.Answers.{wholeIn, listedIn, betweenIn, threeIn, exponentIn, exponentFrom, signIf};
 ghost use Rattle.numbers.specs.Parted.{Parted};
-ghost use Rattle.numbers.specs.Spelled.{Pointed, Pure, Spelled};
 
 // The number at `at` up to a comma or the end.
 fn part_at(text: &[u8], at: usize, source: Source, most: u64, lo: u64, hi: u64) -> Part
@@ -170,47 +157,14 @@ pub fn exponent_value(text: &[u8], at: usize, most: u64) -> Exponent
     }
 }
 
-// The decimal that the value at `at` writes.
-pub fn decimal_value(text: &[u8], at: usize) -> Decimals
-    ensures { λ r. ⌜ r ≡ decimalIn (value-there (now (text .entry)) at) ⌝ }
+// The number, with a sign in front.
+pub fn signed(negative: bool, n: u64) -> i64
+    requires { ⌜ n < 10 ^ 15 ⌝ }
+    ensures { λ r. ⌜ r ≡ withSign (signIf negative) n ⌝ }
 {
-    if text.len() <= at {
-        return Decimals::No;
+    let a = n as i64;
+    if negative {
+        return 0 - a;
     }
-    let source = Source::Value(text[at]);
-    match decimal_at(text, at + 1, source) {
-        Spelling::Reads(d, j) => match char_at(text, j, source) {
-            Char::Byte(_, _) => Decimals::No,
-            Char::End => Decimals::Is(d),
-        },
-        Spelling::Fails => Decimals::No,
-    }
-}
-
-// The text from `at` on is sixteen decimals, the last four equal to 0 0 0 1.
-pub fn sixteen_ok(text: &[u8], at: usize) -> bool
-    ensures { λ r. ⌜ r ≡ sixteen (says (drop at (now (text .entry)))) ⌝ }
-{
-    let mut left: u64 = 16;
-    let mut i = at;
-    while 0 < left {
-        let from = blanks(text, i);
-        match decimal_at(text, from, Source::Contents) {
-            Spelling::Reads(d, j) => {
-                left -= 1;
-                i = j;
-                if !right_at(left, d) {
-                    return false;
-                }
-            }
-            Spelling::Fails => {
-                return false;
-            }
-        }
-    }
-    let from = blanks(text, i);
-    match letter(text, from) {
-        Char::Byte(_, _) => false,
-        Char::End => true,
-    }
+    a
 }

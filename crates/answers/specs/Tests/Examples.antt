@@ -192,8 +192,8 @@ pub told : answerOf (series0 "2.0" "-7.25" "-3" "HERTZ") (1 ∷ 1 ∷ []) [] []
         length = 1;
         start = record { 0 = 0 };
         series = record {
-          start = record { amount = pos 20; places = 1 };
-          step = record { amount = negsuc 724; places = 2 };
+          start = record { amount = pos 20; power = negsuc 0 };
+          step = record { amount = negsuc 724; power = negsuc 1 };
           exponent = negsuc 2;
           unit = 1;
         };
@@ -204,6 +204,28 @@ pub told : answerOf (series0 "2.0" "-7.25" "-3" "HERTZ") (1 ∷ 1 ∷ []) [] []
     }
 unfolding cases
 told = refl
+
+-- powers of ten: 7.2E-1 is 72 with power -2, 1.5E+1 is 15 with power 0
+pub told-powers : answerOf (series0 "7.2E-1" "1.5E+1" "-3" "HERTZ") (1 ∷ 1 ∷ []) [] []
+    ≡ record {
+      number = 0;
+      dimensions = record {
+        kind = Series;
+        length = 1;
+        start = record { 0 = 0 };
+        series = record {
+          start = record { amount = pos 72; power = negsuc 1 };
+          step = record { amount = pos 15; power = pos 0 };
+          exponent = negsuc 2;
+          unit = 1;
+        };
+      }
+          ∷ record { kind = Scalars; length = 1; start = record { 0 = 0 }; series = noSeries }
+          ∷ unused
+          ∷ [];
+    }
+unfolding cases
+told-powers = refl
 
 -- ---- Refused: zero but for the number, and the records keep their contents.
 

@@ -88,12 +88,13 @@ told-all v s h = let e : 0 + length v ≡ length v = omega arith in rw (le-leb (
 
 -- ---- Store by store.
 
--- the number of the kind, amounts and exponent come from calls; the rest is read off
-pub dimension-stored : (d : Dimension) {k a b x : ℕ} → k ≡ kindNumber (d .kind)
-    → a ≡ complement (d .series .start .amount) → b ≡ complement (d .series .step .amount) → x ≡ complement (d .series .exponent)
-    → k ∷ d .length ∷ d .start .0 ∷ a ∷ d .series .start .places ∷ b ∷ d .series .step .places ∷ x ∷ d .series .unit ∷ replicate 7 0
+-- the number of the kind, amounts, powers and exponent come from calls; the rest is read off
+pub dimension-stored : (d : Dimension) {k a b p q x : ℕ} → k ≡ kindNumber (d .kind)
+    → a ≡ complement (d .series .start .amount) → p ≡ complement (d .series .start .power) → b ≡ complement (d .series .step .amount)
+    → q ≡ complement (d .series .step .power) → x ≡ complement (d .series .exponent)
+    → k ∷ d .length ∷ d .start .0 ∷ a ∷ p ∷ b ∷ q ∷ x ∷ d .series .unit ∷ replicate 7 0
     ≡ dimensionNumbers d
-dimension-stored d p q r s = rw (p, q, r, s) refl
+dimension-stored d k a p b q x = rw (k, a, p, b, q, x) refl
 
 -- ---- Row by row.
 

@@ -133,7 +133,8 @@ module _ {source : Source} {text : List ℕ} {most n at : ℕ} {run : Run} (r : 
       stop-front b (k .0) (k .1) l
 
   -- the word, behind bytes that are no mark, is not right where what stands before a mark is no mantissa
-  pub wrong-front : {u : Word} → Uncut mark u → mantissa (u ++ (r .read ++ before-mark .first)) ≡ false → scaled (parts mark (u ++ word)) ≡ false
+  pub wrong-front : {u : Word} → Uncut mark u → mantissa (u ++ (r .read ++ before-mark .first)) ≡ false
+      → scaled (parts mark (u ++ word)) ≡ false
   unfolding word scaled
   wrong-front {u} k h =
       let a = parts-join (cut .front) (before-mark .first) (before-mark .others) (uncut-mark most (r .read) (r .all-digits) (r .few))

@@ -85,7 +85,8 @@ module _ (source : Source) (text : List ℕ) (before count at : ℕ) {run : Run}
           ∙ wrong-two u (f .0) (f .1) (omega (arith, k .counted)) l in
           let q : pure (pointed u (word ran)) ≡ false =
           ap pure (pointed-join u (word ran))
-          ∙ wrong-front ran (front-unmarked u (k .all-digits)) (ap mantissa (sym (pointed-join u (ran .read ++ before-mark ran .first))) ∙ w) in
+          ∙ wrong-front ran (front-unmarked u (k .all-digits))
+          (ap mantissa (sym (pointed-join u (ran .read ++ before-mark ran .first))) ∙ w) in
           fails (word ran) (cut ran .rest) q (word-uncut ran) (word-splits ran) (cut ran .ends);
     }
 

@@ -93,8 +93,8 @@ sign-uncut q i j (a ∷ w) h = go (eqb a 45) refl (eqb a 43) refl
         more b (rw z at h)
     go false e false f = let z : (unsigned true (a ∷ w)) .rest ≡ a ∷ w = rw (e, f) refl in rw z at h
 
-power-uncut : (q : ℕ → Bool) → q 45 ≡ false → q 43 ≡ false → ((a : ℕ) → digit a ≡ true → q a ≡ false) → (x : Word) → powerParts (x ∷ []) ≡ true
-    → Uncut q x
+power-uncut : (q : ℕ → Bool) → q 45 ≡ false → q 43 ≡ false → ((a : ℕ) → digit a ≡ true → q a ≡ false) → (x : Word)
+    → powerParts (x ∷ []) ≡ true → Uncut q x
 unfolding powerParts
 power-uncut q i j f x h = sign-uncut q i j x (digits-uncut f ((unsigned true x) .rest) (digits-split 1 2 ((unsigned true x) .rest) h .0))
 
@@ -127,7 +127,8 @@ scaled-uncut (m ∷ l) h =
 decimal-uncut : (w : Word) → decimal w ≡ true → Uncut blank w
 unfolding decimal blank
 decimal-uncut w h =
-    sign-uncut blank refl refl w (whole-uncut mark blank mark-no-blank ((unsigned true w) .rest) (scaled-uncut (parts mark ((unsigned true w) .rest)) h))
+    sign-uncut blank refl refl w
+    (whole-uncut mark blank mark-no-blank ((unsigned true w) .rest) (scaled-uncut (parts mark ((unsigned true w) .rest)) h))
 
 pub decimal-blank : (x : Word) (b : ℕ) (y : Word) → blank b ≡ true → decimal (x ++ (b ∷ y)) ≡ false
 decimal-blank x b y h = refute (decimal (x ++ (b ∷ y))) λ k. (let q = uncut-at blank x b y (decimal-uncut (x ++ (b ∷ y)) k) in clash (cc))

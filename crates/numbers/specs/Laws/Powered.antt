@@ -15,8 +15,8 @@ use Rattle.grammar.specs.Look.{Word}
 use Rattle.lists.specs.Lists.{all}
 use Rattle.nodes.specs.declared.Char.{Char}
 use Rattle.nodes.specs.declared.Char.the-variants.{Byte, End}
-use Rattle.numbers.specs.Numbers.{digit, digits, value, parts, onFirst, point, mark, Sign, minus, unsigned, withSign, mantissa, places}
-use Rattle.numbers.specs.Numbers.{powerParts, writtenPower, power, inPower, scaled, scaledValue}
+use Rattle.numbers.specs.Numbers.{digit, digits, value, parts, onFirst, point, mark, Sign, minus, unsigned, withSign, mantissa}
+use Rattle.numbers.specs.Numbers.{places, powerParts, writtenPower, power, inPower, scaled, scaledValue}
 use Rattle.numbers.specs.Laws.Cuts.{Uncut, none, more, parts-some, parts-end, parts-cut, parts-join, digit-no-mark}
 use Rattle.numbers.specs.Laws.Forms.{parts-one, parts-two}
 use Rattle.numbers.specs.Stream.{charAt, stream, wordEnds}
@@ -141,7 +141,12 @@ module _ (source : Source) (text : List ℕ) (at : ℕ) (a : ℤ) (n : ℕ) wher
 
           pub powered-mark : {r : Spelling} → Raised source text (lead .next) (signIf (lead .negative)) a n r → Powered source text at a n r
           powered-mark p = record {
-            reading = λ f. onward (b ∷ l .front) (agree f) (more (sym q ∙ k) (l .no-blank)) (next-is ∙ ap (λ z. b ∷ z) (l .splits)) (p .reading);
+            reading = λ f. onward (b ∷ l .front) (agree f) (more (sym q ∙ k) (l .no-blank)) (next-is ∙ ap (λ z. b ∷ z) (l .splits))
+                (p .reading);
           }
+
+pub mark-is : (b : ℕ) → (eqb b 69 || eqb b 101) ≡ mark b
+unfolding mark
+mark-is b = refl
 
 pub ruleset powering = (powered-end, powered-blank, powered-other, powered-mark, needs)

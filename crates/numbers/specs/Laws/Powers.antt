@@ -71,7 +71,8 @@ module _ (w : Word) (before : decimalBefore w ≡ true) where
   before-after = (still, same)
 
 -- a.bEx: digits a and b, a mark, a power x
-module _ (a b x : Word) (e : ℕ) (da : all digit a ≡ true) (db : all digit b ≡ true) (me : mark e ≡ true) (px : powerParts (x ∷ []) ≡ true) where
+module _ (a b x : Word) (e : ℕ) (da : all digit a ≡ true) (db : all digit b ≡ true) (me : mark e ≡ true)
+    (px : powerParts (x ∷ []) ≡ true) where
   a-point-b : Word
   a-point-b = a ++ (46 ∷ b)
 

@@ -108,6 +108,8 @@ sign-read l p = record {
   reading = onward (l .front) (λ x y e. signed-form _ (l .front ++ x) x (l .signs x y e)) (l .no-blank) (l .splits) (p .reading);
 }
 
+pub ruleset reading-signs = (sign-read, needs)
+
 -- the whole value
 refused : (w : Word) → decimal w ≡ false → decimals.No ≡ decimalIn w
 unfolding decimalIn
@@ -126,7 +128,8 @@ module _ (text : List ℕ) (at : ℕ) where
     pub decimal-fails : r ≡ Fails → decimals.No ≡ decimalIn (value-there text at)
     decimal-fails e = go (p .reading) e
       where
-        go : {x : Spelling} → Reading (Value (getD text at 0)) text (at + 1) decimal decimalValue x → x ≡ Fails → decimals.No ≡ decimalIn (value-there text at)
+        go : {x : Spelling} → Reading (Value (getD text at 0)) text (at + 1) decimal decimalValue x → x ≡ Fails
+            → decimals.No ≡ decimalIn (value-there text at)
         go (fails x y f u s n) q = refused (value-there text at) (ap decimal (there text at ∙ s) ∙ not-ended x y n (inl f))
         go (reads x f d u s n) q = let z : _≡_ {A = ℕ} 0 1 = cc in absurd (omega arith)
 

@@ -137,7 +137,8 @@ module _ {text : List ℕ} {at left i : ℕ} (go : Checking text at left i) {fro
         by [] (b ∷ y) f u s n = let z : _≡_ {A = ℕ} 0 1 = (let q = starts .no-blank b y s in cc) in absurd (omega arith)
         by (a ∷ x) y f u s n = rw (m, s, word-ahead a x y u n) (wrong (left - 1) (a ∷ x) (words y) f)
 
-        failing : {z : Spelling} → Reading Contents text from decimal decimalValue z → z ≡ Fails → sixteenFrom left (words (stream Contents text from)) ≡ false
+        failing : {z : Spelling} → Reading Contents text from decimal decimalValue z → z ≡ Fails
+            → sixteenFrom left (words (stream Contents text from)) ≡ false
         failing (fails x y f u s n) q = by x y f u s n
         failing (reads x f d u s n) q = let z : _≡_ {A = ℕ} 0 1 = cc in absurd (omega arith)
 

@@ -21,7 +21,8 @@ use Rattle.numbers.specs.Numbers.{scaled}
 use Rattle.numbers.specs.Laws.Cuts.{Uncut, none, more, uncut-join, parts-end, digits-are, number-below, powers}
 use Rattle.numbers.specs.Stream.{charAt, stream, digitsAt}
 use Rattle.numbers.specs.Laws.Stream.{char-byte, char-end, Ran, digits-law}
-use Rattle.numbers.specs.Spelled.{Reading, reads, fails, onward, Cut, pure, pureValue, Pure, pointed, Front, Pointed, Mantissa, Powered}
+use Rattle.numbers.specs.Spelled.{Reading, reads, fails, onward, Cut, pure, pureValue, Pure, pointed, Front, Pointed}
+use Rattle.numbers.specs.Spelled.{Mantissa, Powered}
 use Rattle.numbers.specs.Laws.Mantissa.{wrong-one}
 use Rattle.numbers.specs.Laws.Ahead.{uncut-point, uncut-blank, first-part, other-part, cut, word, word-uncut, word-splits, empty-read}
 use Rattle.numbers.specs.Laws.Ahead.{before-mark, stop-mark, wrong-front}

@@ -1,8 +1,8 @@
 use Rattle.numbers.specs.Laws.Sixteen.{checking, Checking}
 use Prim.Native.Nat.{_-_}
 use lib.ListN.{length}
-use Rattle.number_values.proofs.sixteen_ok.Statement.{statement}
-use Rattle.number_values.proofs.sixteen_ok.Tie as tie
+use Rattle.decimals.proofs.sixteen_ok.Statement.{statement}
+use Rattle.decimals.proofs.sixteen_ok.Tie as tie
 
 abbrev Inv-loop : tie.InvT-loop
 Inv-loop text at left₀ i₀ left i = Checking text at left i

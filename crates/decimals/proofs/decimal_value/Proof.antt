@@ -1,6 +1,6 @@
 use Rattle.numbers.specs.Laws.Signs.{decimals-of}
-use Rattle.number_values.proofs.decimal_value.Statement.{statement}
-use Rattle.number_values.proofs.decimal_value.Tie as tie
+use Rattle.decimals.proofs.decimal_value.Statement.{statement}
+use Rattle.decimals.proofs.decimal_value.Tie as tie
 
 pub decimal-value-spec : {M : Type 1} → statement M
 decimal-value-spec =

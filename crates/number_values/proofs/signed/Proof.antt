@@ -1,8 +1,8 @@
 use Rattle.numbers.specs.Laws.Signed.{signed-fits, signed-minus, signed-plus}
 use native.Mathlib.Omega.{arith}
 use borrow.Author.Needs.{needs}
-use Rattle.number_values.proofs.written.signed.Statement.{statement}
-use Rattle.number_values.proofs.written.signed.Tie as tie
+use Rattle.number_values.proofs.signed.Statement.{statement}
+use Rattle.number_values.proofs.signed.Tie as tie
 
 pub signed-spec : {M : Type 1} → statement M
 signed-spec = tie.close (tie.spec (λ c. search needs) (λ c. signed-fits _ (c .before .pre))
