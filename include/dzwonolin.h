@@ -51,16 +51,18 @@ extern "C" {
 /* Places in the head. */
 enum { DZ_NUMBER = 0 };
 
-/* Places in the numbers of a dimension. Amounts and the exponent are in two's complement: read them
-   as int64_t. A decimal is its amount with so many places after the point: 2.0 is 20 with 1 place. */
+/* Places in the numbers of a dimension. Amounts, powers and the exponent are in two's complement: read them
+   as int64_t. A decimal is its amount times ten to its power: 2.0 is 20 with power -1, 7.2E-1 is 72 with power -2.
+   CHANGED: DZ_START_POWER and DZ_STEP_POWER stand where DZ_START_PLACES and DZ_STEP_PLACES stood. One place is power -1,
+   so a caller that still reads them as places gets the sign wrong; the old names are gone, so that it does not compile. */
 enum {
     DZ_KIND = 0,         /* one of the four kinds below; 0 where there is no such dimension */
     DZ_LENGTH = 1,       /* length of the map */
     DZ_START = 2,        /* brain: where its stretch starts in the records; else 0 */
     DZ_START_AMOUNT = 3, /* series: SeriesStart; else 0, as the five below */
-    DZ_START_PLACES = 4,
+    DZ_START_POWER = 4,  /* from -45 to 45, below 0 in two's complement */
     DZ_STEP_AMOUNT = 5,  /* series: SeriesStep */
-    DZ_STEP_PLACES = 6,
+    DZ_STEP_POWER = 6,   /* the same */
     DZ_EXPONENT = 7,     /* series: SeriesExponent */
     DZ_UNIT = 8          /* series: 0 second, 1 hertz, 2 meter, 3 radian */
 };

@@ -40,7 +40,8 @@ STRUCTURES = (
     "HIPPOCAMPUS_LEFT HIPPOCAMPUS_RIGHT OTHER OTHER_GREY_MATTER OTHER_WHITE_MATTER PALLIDUM_LEFT "
     "PALLIDUM_RIGHT PUTAMEN_LEFT PUTAMEN_RIGHT THALAMUS_LEFT THALAMUS_RIGHT").split()
 
-# series_start and series_step are (digits, places): 2.0 is (20, 1). They, exponent and unit are 0 but for a series.
+# series_start and series_step are (amount, power of ten): 2.0 is (20, -1), 7.2E-1 is (72, -2). They, exponent and unit are 0 but for
+# a series.
 Dimension = collections.namedtuple("Dimension", "kind length start series_start series_step exponent unit")
 # A refused answer has its number, no dimensions and no records.
 Answer = collections.namedtuple("Answer", "number dimensions records")
@@ -131,8 +132,8 @@ def call_map_name(text, lengths, dimension, index, part):
 
 
 def _dimension(numbers):
-    kind, length, start, begin, begin_places, step, step_places, exponent, unit = numbers[:9]
-    return Dimension(KINDS[kind], length, start, (_signed(begin), begin_places), (_signed(step), step_places),
+    kind, length, start, begin, begin_power, step, step_power, exponent, unit = numbers[:9]
+    return Dimension(KINDS[kind], length, start, (_signed(begin), _signed(begin_power)), (_signed(step), _signed(step_power)),
                      _signed(exponent), unit)
 
 

@@ -40,8 +40,7 @@ def lent_numbers(values):
 
 def told(dimension):
     """A dimension of the module, by the names of the cases."""
-    power = {name: [getattr(dimension, name)[0], -getattr(dimension, name)[1]] for name in ("series_start", "series_step")}
-    return {**dimension._asdict(), **power}
+    return {**dimension._asdict(), **{name: list(getattr(dimension, name)) for name in ("series_start", "series_step")}}
 
 
 def read(text, lengths, records, work, beginnings=None):

@@ -161,8 +161,8 @@ class Document:
 
     def volume(self, axes):
         rows = [self.decimal() for _ in range(12)]
-        last = [self.rng.choice(["0", "0.0", "-0", "+0.00", "000"]) for _ in range(3)]
-        one = self.rng.choice(["1", "1", "1.0", "+1", "001.000"])
+        last = [self.rng.choice(["0", "0", "0.0", "-0", "+0.00", "000", "0E-45", "-0.0E46", "0e45"]) for _ in range(3)]
+        one = self.rng.choice(["1", "1", "1.0", "+1", "001.000", "10E-1", "0.1E1", "100000000000000E-14", "0.00000000000001e+14"])
         matrix = Node(TRANSFORMATION, [("MeterExponent", self.exponent())], words=rows + last + [one])
         return Node("Volume", [("VolumeDimensions", ",".join(map(self.whole, axes)))], [matrix])
 
@@ -194,7 +194,15 @@ class Document:
         if len(digits) > 1 and rng.random() < 0.6:
             point = rng.randrange(1, len(digits))
             digits = digits[:point] + "." + digits[point:]
+        if rng.random() < 0.25:
+            digits += self.power(len(digits.partition(".")[2]))
         return rng.choice(["", "", "", "-", "+"]) + digits
+
+    def power(self, places):
+        """A written power behind so many places; less them it is from -45 to 45."""
+        n = self.rng.choice([places - 45, places + 45, self.rng.randint(-9, 9), self.rng.randint(places - 45, places + 45)])
+        sign = "-" if n < 0 else self.rng.choice(["", "+", "-" if n == 0 else ""])
+        return self.rng.choice("eE") + sign + (str(abs(n)) if self.rng.random() < 0.8 else str(abs(n)).zfill(2))
 
 
 class Style:

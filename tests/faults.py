@@ -123,9 +123,14 @@ def comment_parts_numbers(o):
     o.markup.Element.text = lambda self: b" ".join(c for c in self.contents if isinstance(c, bytes))
 
 
-def places_dropped(o):
+def power_dropped(o):
     whole = o.rules.decimal
     o.rules.decimal = lambda word: (whole(word)[0], 0)
+
+
+def written_power_only(o):
+    whole = o.rules.decimal
+    o.rules.decimal = lambda word: (whole(word)[0], whole(word)[1] + len(word.lower().split(b"e")[0].partition(b".")[2]))
 
 
 def limit_off_by_one(o):
@@ -140,7 +145,7 @@ def name_past_nine(o):
 
 FAULTS = [only_refuses, no_records, fills_in_text_order, counts_by_sum, decodes_twice, voxels_by_structure,
           first_model_only, first_map_only, room_last, signs_in_wholes, seven_before_six, depth_seventeen, long_names,
-          overlong_utf8, comment_parts_numbers, places_dropped, limit_off_by_one, name_past_nine]
+          overlong_utf8, comment_parts_numbers, power_dropped, written_power_only, limit_off_by_one, name_past_nine]
 # Shown by few texts: tried where there are so many.
 RARE = {limit_off_by_one: 3000}
 

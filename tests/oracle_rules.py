@@ -136,7 +136,7 @@ def check_elements(root):
 
 WHOLE = re.compile(rb"[0-9]{1,7}\Z")
 EXPONENT = re.compile(rb"-?[0-9]{1,2}\Z")
-DECIMAL = re.compile(rb"([+-]?)([0-9]+)(?:\.([0-9]+))?\Z")
+DECIMAL = re.compile(rb"([+-]?)([0-9]+)(?:\.([0-9]+))?(?:[eE]([+-]?[0-9]{1,2}))?\Z")
 DIMENSIONS = re.compile(rb"[0-9](?:,[0-9])*\Z")
 BETWEEN = re.compile(rb"[ \t\n\r]+")
 
@@ -158,15 +158,17 @@ def exponent(word):
 
 
 def decimal(word):
-    """(the digits as a signed whole number, the places after the point)."""
+    """(the digits as a signed whole number, the power of ten: the written one less the places after the point)."""
     found = DECIMAL.match(word)
     if not found:
         raise not_a_number(repr(word[:20]))
     sign, before, after = found.group(1), found.group(2), found.group(3) or b""
     if len(before) + len(after) > 15:
         raise not_a_number("too many digits")
-    amount = int(before + after)
-    return (-amount if sign == b"-" else amount), len(after)
+    amount, power = int(before + after), int(found.group(4) or b"0") - len(after)
+    if not -45 <= power <= 45:
+        raise not_a_number("power of ten")
+    return (-amount if sign == b"-" else amount), power
 
 
 def dimension_list(word):
@@ -190,8 +192,8 @@ def check_transformation(text):
     numbers = [decimal(w) for w in words(text)]
     if len(numbers) != 16:
         raise not_a_number("not sixteen")
-    for (amount, places), wanted in zip(numbers[12:], (0, 0, 0, 1)):
-        if amount != wanted * 10 ** places:
+    for (amount, power), wanted in zip(numbers[12:], (0, 0, 0, 1)):
+        if amount * 10 ** max(power, 0) != wanted * 10 ** max(-power, 0):
             raise not_a_number("the last row")
 
 
