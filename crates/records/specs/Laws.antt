@@ -1,9 +1,12 @@
 pub mod Numbers
+pub mod Mapped
 pub mod Sheet
+pub mod Round
 pub mod Packing
 pub mod Repeat
 pub mod Fields
 pub mod Record
+pub mod Widths
 pub mod Bytes
 pub mod Unique
 pub mod Computed

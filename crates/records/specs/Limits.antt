@@ -9,13 +9,10 @@ mostRecords = 1048576
 abbrev pub mostVertex : ℕ
 mostVertex = 1048575
 
--- the lengths of a volume: the first two, and the third
-abbrev pub mostAcross : ℕ
-mostAcross = 2048
-
-abbrev pub mostAlong : ℕ
-mostAlong = 4096
+-- a length of a volume
+abbrev pub mostLength : ℕ
+mostLength = 65536
 
 -- a voxel number
 abbrev pub mostVoxel : ℕ
-mostVoxel = 4095
+mostVoxel = 65535

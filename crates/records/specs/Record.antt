@@ -6,7 +6,7 @@ use lib.Dec.{eqb, leb, ltb}
 use lib.ListN.{getD}
 use Rattle.records.specs.Limits.{mostVertex}
 use Rattle.records.specs.Fields.{bits, joined, parted}
-use Rattle.records.specs.Width.{Width, width40, surfaceBits, voxelBits, recordBits}
+use Rattle.records.specs.Width.{Width, five, seven, surfaceBits, voxelBits, recordBits}
 
 pub data Location : Type 0 where
   onSurface : (structure vertex : ℕ) → Location
@@ -69,44 +69,52 @@ unstructured (inVolume s i j k) = inVolume 0 i j k
 unfoldable pub keyIn : Width → ℕ → ℕ
 keyIn w r = recordIn w (unstructured (locationIn w r))
 
--- ---- Of the 40 bits that are read and written today.
+-- the record in v of the location that a record in w names
+abbrev pub carried : (v w : Width) → ℕ → ℕ
+carried v w r = recordIn v (locationIn w r)
+
+-- ---- Of the 54 bits that are read and written.
 
 abbrev pub recordOf : Location → ℕ
-recordOf l = recordIn width40 l
+recordOf l = recordIn seven l
 
 abbrev pub Fits : Location → Type 0
-Fits l = FitsIn width40 l
+Fits l = FitsIn seven l
 
 abbrev pub wrapped : Location → Location
-wrapped l = withinIn width40 l
+wrapped l = withinIn seven l
 
 abbrev pub isVoxel : ℕ → Bool
-isVoxel r = isVoxelIn width40 r
+isVoxel r = isVoxelIn seven r
 
 abbrev pub structureOf : ℕ → ℕ
-structureOf r = structureIn width40 r
+structureOf r = structureIn seven r
 
 abbrev pub payloadOf : ℕ → ℕ
-payloadOf r = payloadIn width40 r
+payloadOf r = payloadIn seven r
 
 abbrev pub iOf : ℕ → ℕ
-iOf r = iIn width40 r
+iOf r = iIn seven r
 
 abbrev pub jOf : ℕ → ℕ
-jOf r = jIn width40 r
+jOf r = jIn seven r
 
 abbrev pub kOf : ℕ → ℕ
-kOf r = kIn width40 r
+kOf r = kIn seven r
 
 unfoldable pub locationOf : ℕ → Location
 unfolding locationIn
-locationOf r = locationIn width40 r
+locationOf r = locationIn seven r
 
 abbrev pub legalRecord : ℕ → Bool
-legalRecord r = legalIn width40 r
+legalRecord r = legalIn seven r
 
 abbrev pub keyOf : ℕ → ℕ
-keyOf r = keyIn width40 r
+keyOf r = keyIn seven r
+
+-- the record of the location that a record of a sheet of five names
+abbrev pub widened : ℕ → ℕ
+widened r = carried seven five r
 
 -- opens every definition above
 unfoldable pub recordWords : Unit {0}

@@ -8,8 +8,8 @@ use lib.ListN.{length, getD, take, drop}
 use Rattle.lists.specs.Lists.{all}
 use Rattle.lists.specs.Refusals.{_when_, first}
 use Rattle.records.specs.Limits.{mostRecords}
-use Rattle.records.specs.Width.{Width, width40}
-use Rattle.records.specs.Record.{legalIn}
+use Rattle.records.specs.Width.{Width, seven, widthSaid}
+use Rattle.records.specs.Record.{Location, recordIn, legalIn, carried}
 use Rattle.records.specs.Bytes.{bytesOf, numberWritten, body, numbersIn}
 use Rattle.records.specs.Fill.{wrote}
 use Rattle.records.specs.Outcome.{unless, outcome}
@@ -27,22 +27,36 @@ sheetOf b ns = headOf b (length ns) ++ body b ns
 unfoldable pub countOf : List ℕ → ℕ
 countOf s = numberWritten (take 3 (drop 1 s))
 
-unfoldable pub recordsIn : ℕ → List ℕ → List ℕ
-recordsIn b s = numbersIn b (countOf s) (drop 4 s)
+unfoldable pub wordsIn : ℕ → List ℕ → List ℕ
+wordsIn b s = numbersIn b (countOf s) (drop 4 s)
 
--- records with their end bits, and numbers without them
+-- a record with its end bits, and a word without them
+abbrev pub wordOf : Width → ℕ → ℕ
+wordOf w r = r * 2 ^ (w .ending)
+
+abbrev pub bare : Width → ℕ → ℕ
+bare w n = n / 2 ^ (w .ending)
+
 abbrev pub withEnds : Width → List ℕ → List ℕ
-withEnds w rs = map (λ (r : ℕ). r * 2 ^ (w .ending)) rs
+withEnds w rs = map (wordOf w) rs
 
 abbrev pub withoutEnds : Width → List ℕ → List ℕ
-withoutEnds w ns = map (λ (n : ℕ). n / 2 ^ (w .ending)) ns
+withoutEnds w ns = map (bare w) ns
 
--- all records are legal; all end bits are 0
+-- all records are legal
 abbrev pub allLegal : Width → List ℕ → Bool
 allLegal w rs = all (legalIn w) rs
 
-abbrev pub allEnded : Width → List ℕ → Bool
-allEnded w ns = all (λ (n : ℕ). eqb (n % 2 ^ (w .ending)) 0) ns
+-- a word's end bits are 0 and its record is legal; all words are so
+unfoldable pub goodWord : Width → ℕ → Bool
+goodWord w n = eqb (n % 2 ^ (w .ending)) 0 && legalIn w (bare w n)
+
+abbrev pub allGood : Width → List ℕ → Bool
+allGood w ns = all (goodWord w) ns
+
+-- the sheet of locations
+abbrev pub sheetFrom : Width → List Location → List ℕ
+sheetFrom w ls = sheetOf (w .bytes) (map (λ (l : Location). wordOf w (recordIn w l)) ls)
 
 -- not 0 and not above 1,048,576
 unfoldable pub goodCount : ℕ → Bool
@@ -52,8 +66,16 @@ goodCount n = leb 1 n && leb n mostRecords
 unfoldable pub goodSheet : ℕ → List ℕ → Bool
 goodSheet b s = leb 4 (length s) && (eqb (getD s 0 0) b && (goodCount (countOf s) && eqb (length s) (4 + b * countOf s)))
 
-unfoldable pub sheetCount : ℕ → List ℕ → ℕ
-sheetCount b s = cond (goodSheet b s) (countOf s) 0
+-- the bytes per record that a first byte says, 5 or 7, else 0
+unfoldable pub bytesSaid : ℕ → ℕ
+bytesSaid b = cond (eqb b ((widthSaid b) .bytes)) b 0
+
+-- the layout that a sheet says, and its bytes per record where it is a good sheet of it, else 0
+abbrev pub widthOf : List ℕ → Width
+widthOf s = widthSaid (getD s 0 0)
+
+unfoldable pub sheetWidth : List ℕ → ℕ
+sheetWidth s = cond (goodSheet ((widthOf s) .bytes) s) ((widthOf s) .bytes) 0
 
 -- the paper's number: of packing records into so many bytes, and of unpacking a sheet into so many places
 unfoldable pub packRefusal : Width → List ℕ → ℕ → ℕ
@@ -68,7 +90,7 @@ unfoldable pub unpackRefusal : Width → List ℕ → ℕ → ℕ
 unpackRefusal w s room =
     first
     (15 when not (goodSheet (w .bytes) s)
-    ∷ 16 when not (allEnded w (recordsIn (w .bytes) s) && allLegal w (withoutEnds w (recordsIn (w .bytes) s)))
+    ∷ 16 when not (allGood w (wordsIn (w .bytes) s))
     ∷ 17 when ltb room (countOf s)
     ∷ [])
 
@@ -76,23 +98,31 @@ unpackRefusal w s room =
 abbrev pub packedInto : Width → (number : ℕ) → List ℕ → List ℕ → List ℕ
 packedInto w n rs s = unless n (wrote 0 (sheetOf (w .bytes) (withEnds w rs)) s) s
 
+-- the records in v of the locations that words in w name, and those of a sheet of w
+abbrev pub heldBy : (v w : Width) → List ℕ → List ℕ
+heldBy v w ns = map (λ (n : ℕ). carried v w (bare w n)) ns
+
+abbrev pub heldIn : (v w : Width) → List ℕ → List ℕ
+heldIn v w s = heldBy v w (wordsIn (w .bytes) s)
+
 -- what the places lent hold after unpacking
-abbrev pub unpackedInto : Width → (number : ℕ) → List ℕ → List ℕ → List ℕ
-unpackedInto w n s rs = unless n (wrote 0 (withoutEnds w (recordsIn (w .bytes) s)) rs) rs
+abbrev pub unpackedInto : (v w : Width) → (number : ℕ) → List ℕ → List ℕ → List ℕ
+unpackedInto v w n s rs = unless n (wrote 0 (heldIn v w s) rs) rs
 
 -- packing: the value is the bytes written; `before` and `after` are the bytes lent
 pub record PacksIn (w : Width) (rs before : List ℕ) (answer : Outcome) (after : List ℕ) : Type 0 where
   pub answers : answer ≡ outcome (packRefusal w rs (length before)) (4 + w .bytes * length rs)
   pub holds : after ≡ packedInto w (answer .number) rs before
 
--- unpacking: the value is the count; `before` and `after` are the places lent
-pub record UnpacksIn (w : Width) (s before : List ℕ) (answer : Outcome) (after : List ℕ) : Type 0 where
+-- unpacking a sheet of w to records of v: the value is the count; `before` and `after` are the places lent
+pub record UnpacksIn (v w : Width) (s before : List ℕ) (answer : Outcome) (after : List ℕ) : Type 0 where
   pub answers : answer ≡ outcome (unpackRefusal w s (length before)) (countOf s)
-  pub holds : after ≡ unpackedInto w (answer .number) s before
+  pub holds : after ≡ unpackedInto v w (answer .number) s before
 
--- what `pack` and `unpack` promise
+-- what `pack` promises: sheets of seven, and no others
 abbrev pub Packs : (rs before : List ℕ) (answer : Outcome) (after : List ℕ) → Type 0
-Packs rs before answer after = PacksIn width40 rs before answer after
+Packs rs before answer after = PacksIn seven rs before answer after
 
+-- what `unpack` promises: sheets of five and of seven, each by the layout that it says
 abbrev pub Unpacks : (s before : List ℕ) (answer : Outcome) (after : List ℕ) → Type 0
-Unpacks s before answer after = UnpacksIn width40 s before answer after
+Unpacks s before answer after = UnpacksIn seven (widthOf s) s before answer after

@@ -1,6 +1,6 @@
 -- THE LAYOUT OF A RECORD, as one value: the bits of its parts, the most significant first, and its bytes in a sheet. Assumes nothing.
 use mathlib.Core.List.{List, [], _∷_}
-use mathlib.Core.Bool.{Bool, _&&_}
+use mathlib.Core.Bool.{Bool, cond, _&&_}
 use Prim.Native.Nat.{ℕ, _+_, _*_}
 use lib.Dec.{eqb, ltb}
 
@@ -17,9 +17,14 @@ pub record Width : Type 0 where
   pub bytes : ℕ
   pub ending : ℕ
 
--- voxel flag 1, structure 5, payload 34: the vertex number, or i in 11 bits, j in 11, k in 12
-abbrev pub width40 : Width
-width40 = record { flag = 1; structure = 5; vertex = 34; i = 11; j = 11; k = 12; bytes = 5; ending = 0 }
+-- Records that are read and written, and sheets of 7 bytes a record. Voxel flag 1, structure 5, payload 48: the vertex number, or i, j
+-- and k in 16 bits each.
+abbrev pub seven : Width
+seven = record { flag = 1; structure = 5; vertex = 48; i = 16; j = 16; k = 16; bytes = 7; ending = 2 }
+
+-- Sheets of 5 bytes a record, which are still unpacked. Payload 34: the vertex number, or i in 11 bits, j in 11, k in 12.
+abbrev pub five : Width
+five = record { flag = 1; structure = 5; vertex = 34; i = 11; j = 11; k = 12; bytes = 5; ending = 0 }
 
 abbrev pub surfaceBits : Width → List ℕ
 surfaceBits w = w .flag ∷ w .structure ∷ w .vertex ∷ []
@@ -41,3 +46,7 @@ sound w =
     && (eqb (w .i + (w .j + w .k)) (w .vertex)
     && (eqb (recordBits w + w .ending) (8 * w .bytes)
     && ltb (w .bytes) 256))
+
+-- the layout that the first byte of a sheet says: 5 says five; any other is held to be seven, whose sheets say 7
+unfoldable pub widthSaid : ℕ → Width
+widthSaid b = cond (eqb b 5) five seven

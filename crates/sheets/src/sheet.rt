@@ -1,13 +1,18 @@
 // Sheets: records packed into bytes, and unpacked.
+use super::word::good_word;
+use super::word::record_of;
+use super::word::wide;
+use super::word::word_at;
 use record_fields::legal;
 use records::Outcome;
 ghost use mathlib.Core.Path.{_≡_};
+ghost use mathlib.Core.Bool.{true};
 ghost use Prim.Native.Nat.{_+_, _*_, _≤_, _<_};
 ghost use lib.ListN.{length, take, drop};
-ghost use Rattle.records.specs.Width.{width40};
-ghost use Rattle.records.specs.Bytes.{bytesOf, numberWritten, body, numbersIn};
+ghost use Rattle.records.specs.Width.{seven, widthSaid};
+ghost use Rattle.records.specs.Bytes.{bytesOf, body, numbersIn};
 ghost use Rattle.records.specs.Fill.{wrote};
-ghost use Rattle.records.specs.Sheet.{allLegal, goodCount, sheetCount, countOf, headOf, Packs, Unpacks};
+ghost use Rattle.records.specs.Sheet.{allLegal, allGood, withEnds, heldBy, goodCount, bytesSaid, sheetWidth, countOf, headOf, Packs, Unpacks};
 
 fn good_count(n: usize) -> bool
     ensures { λ ok. ⌜ ok ≡ goodCount n ⌝ }
@@ -16,7 +21,7 @@ fn good_count(n: usize) -> bool
 }
 
 fn all_legal(records: &[u64]) -> bool
-    ensures { λ ok. ⌜ ok ≡ allLegal width40 (now (records .entry)) ⌝ }
+    ensures { λ ok. ⌜ ok ≡ allLegal seven (now (records .entry)) ⌝ }
 {
     let mut i = 0;
     while i < records.len() {
@@ -30,32 +35,34 @@ fn all_legal(records: &[u64]) -> bool
 
 fn put_head(sheet: &mut [u8], n: usize)
     requires { ⌜ 4 ≤ length (now sheet) ⌝ }
-    ensures { λ _. ⌜ now (sheet .exit) ≡ wrote 0 (headOf 5 n) (now (sheet .entry)) ⌝ }
+    ensures { λ _. ⌜ now (sheet .exit) ≡ wrote 0 (headOf 7 n) (now (sheet .entry)) ⌝ }
 {
-    sheet[0] = 5;
+    sheet[0] = 7;
     sheet[1] = (n / 65_536 % 256) as u8;
     sheet[2] = (n / 256 % 256) as u8;
     sheet[3] = (n % 256) as u8;
 }
 
-fn put_record(sheet: &mut [u8], at: usize, r: u64)
-    requires { ⌜ at + 5 ≤ length (now sheet) ⌝ }
-    ensures { λ _. ⌜ now (sheet .exit) ≡ wrote at (bytesOf 5 r) (now (sheet .entry)) ⌝ }
+fn put_word(sheet: &mut [u8], at: usize, word: u64)
+    requires { ⌜ at + 7 ≤ length (now sheet) ⌝ }
+    ensures { λ _. ⌜ now (sheet .exit) ≡ wrote at (bytesOf 7 word) (now (sheet .entry)) ⌝ }
 {
-    sheet[at] = (r / 4_294_967_296 % 256) as u8;
-    sheet[at + 1] = (r / 16_777_216 % 256) as u8;
-    sheet[at + 2] = (r / 65_536 % 256) as u8;
-    sheet[at + 3] = (r / 256 % 256) as u8;
-    sheet[at + 4] = (r % 256) as u8;
+    sheet[at] = (word / 281_474_976_710_656 % 256) as u8;
+    sheet[at + 1] = (word / 1_099_511_627_776 % 256) as u8;
+    sheet[at + 2] = (word / 4_294_967_296 % 256) as u8;
+    sheet[at + 3] = (word / 16_777_216 % 256) as u8;
+    sheet[at + 4] = (word / 65_536 % 256) as u8;
+    sheet[at + 5] = (word / 256 % 256) as u8;
+    sheet[at + 6] = (word % 256) as u8;
 }
 
 fn put_records(sheet: &mut [u8], records: &[u64])
-    requires { ⌜ 4 + 5 * length (now records) ≤ length (now sheet) ⌝ }
-    ensures { λ _. ⌜ now (sheet .exit) ≡ wrote 4 (body 5 (now (records .entry))) (now (sheet .entry)) ⌝ }
+    requires { ⌜ (4 + 7 * length (now records) ≤ length (now sheet)) × (allLegal seven (now records) ≡ true) ⌝ }
+    ensures { λ _. ⌜ now (sheet .exit) ≡ wrote 4 (body 7 (withEnds seven (now (records .entry)))) (now (sheet .entry)) ⌝ }
 {
     let mut i = 0;
     while i < records.len() {
-        put_record(sheet, 4 + 5 * i, records[i]);
+        put_word(sheet, 4 + 7 * i, records[i] * 4);
         i += 1;
     }
 }
@@ -77,7 +84,7 @@ pub fn pack(records: &[u64], sheet: &mut [u8]) -> Outcome
             value: 0,
         };
     }
-    let size = 4 + 5 * n;
+    let size = 4 + 7 * n;
     if sheet.len() < size {
         return Outcome {
             number: 17,
@@ -92,13 +99,6 @@ pub fn pack(records: &[u64], sheet: &mut [u8]) -> Outcome
     }
 }
 
-// A byte as a number of 64 bits.
-fn wide(b: u8) -> u64
-    ensures { λ r. ⌜ (r ≡ b) × (r < 256) ⌝ }
-{
-    b as u64
-}
-
 fn count_at(sheet: &[u8]) -> usize
     requires { ⌜ 4 ≤ length (now sheet) ⌝ }
     ensures { λ r. ⌜ r ≡ countOf (now (sheet .entry)) ⌝ }
@@ -106,42 +106,47 @@ fn count_at(sheet: &[u8]) -> usize
     (wide(sheet[1]) * 65_536 + wide(sheet[2]) * 256 + wide(sheet[3])) as usize
 }
 
-// The count of a sheet in good form, else 0.
-fn sheet_count(sheet: &[u8]) -> usize
-    ensures { λ r. ⌜ r ≡ sheetCount 5 (now (sheet .entry)) ⌝ }
+// The bytes per record that a first byte says, 5 or 7, else 0.
+fn said(b: u8) -> usize
+    ensures { λ r. ⌜ r ≡ bytesSaid b ⌝ }
+{
+    if b == 5 {
+        5
+    } else if b == 7 {
+        7
+    } else {
+        0
+    }
+}
+
+// The bytes per record of a sheet in good form, 5 or 7, else 0.
+fn sheet_width(sheet: &[u8]) -> usize
+    ensures { λ r. ⌜ r ≡ sheetWidth (now (sheet .entry)) ⌝ }
 {
     if sheet.len() < 4 {
         return 0;
     }
-    if sheet[0] != 5 {
+    let width = said(sheet[0]);
+    if width == 0 {
         return 0;
     }
     let n = count_at(sheet);
     if !good_count(n) {
         return 0;
     }
-    if sheet.len() != 4 + 5 * n {
+    if sheet.len() != 4 + width * n {
         return 0;
     }
-    n
+    width
 }
 
-fn record_at(sheet: &[u8], at: usize) -> u64
-    requires { ⌜ at + 5 ≤ length (now sheet) ⌝ }
-    ensures { λ r. ⌜ r ≡ numberWritten (take 5 (drop at (now (sheet .entry)))) ⌝ }
-{
-    let high = wide(sheet[at]) * 256 + wide(sheet[at + 1]);
-    let low = wide(sheet[at + 2]) * 65_536 + wide(sheet[at + 3]) * 256 + wide(sheet[at + 4]);
-    high * 16_777_216 + low
-}
-
-fn sheet_legal(sheet: &[u8], n: usize) -> bool
-    requires { ⌜ length (now sheet) ≡ 4 + 5 * n ⌝ }
-    ensures { λ ok. ⌜ ok ≡ allLegal width40 (numbersIn 5 n (drop 4 (now (sheet .entry)))) ⌝ }
+fn all_good(sheet: &[u8], width: usize, n: usize) -> bool
+    requires { ⌜ length (now sheet) ≡ 4 + (widthSaid width) .bytes * n ⌝ }
+    ensures { λ ok. ⌜ ok ≡ allGood (widthSaid width) (numbersIn ((widthSaid width) .bytes) n (drop 4 (now (sheet .entry)))) ⌝ }
 {
     let mut i = 0;
     while i < n {
-        if !legal(record_at(sheet, 4 + 5 * i)) {
+        if !good_word(width, word_at(sheet, width, i)) {
             return false;
         }
         i += 1;
@@ -149,13 +154,14 @@ fn sheet_legal(sheet: &[u8], n: usize) -> bool
     true
 }
 
-fn take_records(sheet: &[u8], records: &mut [u64], n: usize)
-    requires { ⌜ (length (now sheet) ≡ 4 + 5 * n) × (n ≤ length (now records)) ⌝ }
-    ensures { λ _. ⌜ now (records .exit) ≡ wrote 0 (numbersIn 5 n (drop 4 (now (sheet .entry)))) (now (records .entry)) ⌝ }
+fn take_records(sheet: &[u8], width: usize, records: &mut [u64], n: usize)
+    requires { ⌜ (length (now sheet) ≡ 4 + (widthSaid width) .bytes * n) × (n ≤ length (now records)) ⌝ }
+    ensures { λ _. ⌜ now (records .exit) ≡ wrote 0 (heldBy seven (widthSaid width) (numbersIn ((widthSaid width) .bytes) n
+        (drop 4 (now (sheet .entry))))) (now (records .entry)) ⌝ }
 {
     let mut i = 0;
     while i < n {
-        records[i] = record_at(sheet, 4 + 5 * i);
+        records[i] = record_of(width, word_at(sheet, width, i));
         i += 1;
     }
 }
@@ -164,14 +170,15 @@ fn take_records(sheet: &[u8], records: &mut [u64], n: usize)
 pub fn unpack(sheet: &[u8], records: &mut [u64]) -> Outcome
     ensures { λ r. ⌜ Unpacks (now (sheet .entry)) (now (records .entry)) r (now (records .exit)) ⌝ }
 {
-    let n = sheet_count(sheet);
-    if n == 0 {
+    let width = sheet_width(sheet);
+    if width == 0 {
         return Outcome {
             number: 15,
             value: 0,
         };
     }
-    if !sheet_legal(sheet, n) {
+    let n = count_at(sheet);
+    if !all_good(sheet, width, n) {
         return Outcome {
             number: 16,
             value: 0,
@@ -183,7 +190,7 @@ pub fn unpack(sheet: &[u8], records: &mut [u64]) -> Outcome
             value: 0,
         };
     }
-    take_records(sheet, records, n);
+    take_records(sheet, width, records, n);
     Outcome {
         number: 0,
         value: n as u64,

@@ -12,7 +12,7 @@ use borrow.Author.Tests.{eqb-true, eqb-false, ltb-true}
 use Rattle.lists.specs.Laws.Booleans.{and-left, and-right, clash}
 use Rattle.records.specs.Fields.{bits, joined, parted, Fit, none, more}
 use Rattle.records.specs.Laws.Fields.{joined-below, parted-joined, joined-parted}
-use Rattle.records.specs.Width.{Width, width40, surfaceBits, payloadBits, voxelBits, recordBits, sound}
+use Rattle.records.specs.Width.{Width, five, seven, surfaceBits, payloadBits, voxelBits, recordBits, sound}
 use Rattle.records.specs.Record.{Location, onSurface, inVolume, recordIn, FitsIn, surface, volume, withinIn}
 use Rattle.records.specs.Record.{SamePlace, sameVertex, sameVoxel, unstructured, keyIn, keyOf}
 use Rattle.records.specs.Record.{isVoxelIn, structureIn, payloadIn, iIn, jIn, kIn, locationIn}
@@ -60,9 +60,13 @@ sound-is w h =
       byte = ltb-true (w .bytes) 256 (and-right c d q);
     }
 
-pub width40-sound : Sound width40
+pub seven-sound : Sound seven
 unfolding sound
-width40-sound = sound-is width40 refl
+seven-sound = sound-is seven refl
+
+pub five-sound : Sound five
+unfolding sound
+five-sound = sound-is five refl
 
 module _ {w : Width} (ok : Sound w) where
   -- both payloads are as long
@@ -114,6 +118,16 @@ module _ {w : Width} (ok : Sound w) where
   payload-below {i} {j} {k} hi hj hk =
       let same : bits (payloadBits w) ≡ w .vertex = omega (arith, ok .payload) in
       subst (λ (n : ℕ). joined (payloadBits w) (i ∷ j ∷ k ∷ []) < 2 ^ n) same (joined-below (payload-fits hi hj hk))
+
+  -- a record has no more bits than the layout
+  pub record-below : {l : Location} → FitsIn w l → recordIn w l < 2 ^ recordBits w
+  unfolding recordIn
+  record-below (surface {s} {v} hs hv) =
+      subst (λ (n : ℕ). joined (surfaceBits w) (0 ∷ s ∷ v ∷ []) < 2 ^ n) record-bits
+      (joined-below (more (pow-pos (w .flag)) (more hs (more hv none))))
+  record-below (volume {s} {i} {j} {k} hs hi hj hk) =
+      subst (λ (n : ℕ). joined (voxelBits w) (1 ∷ s ∷ i ∷ j ∷ k ∷ []) < 2 ^ n) voxel-bits
+      (joined-below (more one-flag (more hs (payload-fits hi hj hk))))
 
   -- the location is read back from its record
   pub location-back : {l : Location} → FitsIn w l → locationIn w (recordIn w l) ≡ l
@@ -230,4 +244,4 @@ pub key-place : {w : Width} → Sound w → (rs : List ℕ) (i : ℕ) → getD (
 key-place {w} ok rs i = ap (getD (map (keyIn w) rs) i) (sym (zero-key ok)) ∙ List·getD-map (keyIn w) rs i 0
 
 pub key-at : (rs : List ℕ) (i : ℕ) → getD (map keyOf rs) i 0 ≡ keyOf (getD rs i 0)
-key-at = key-place width40-sound
+key-at = key-place seven-sound

@@ -6,9 +6,9 @@ use mathlib.Core.Logic.{⊎-elim}
 use Prim.Native.Nat.{ℕ, _≤_, _<_}
 use native.Mathlib.Omega.{arith}
 use lib.ListN.{length, take, replicate}
-use Rattle.records.specs.Width.{Width}
+use Rattle.records.specs.Width.{Width, five}
 use Rattle.records.specs.Record.{onSurface, inVolume, recordOf, wrapped, isVoxel, structureOf, payloadOf, iOf, jOf, kOf, keyOf}
-use Rattle.records.specs.Record.{legalRecord}
+use Rattle.records.specs.Record.{legalRecord, legalIn, widened}
 use Rattle.records.specs.Laws.Numbers.{eq?, lt?}
 use Rattle.records.specs.Sheet.{PacksIn, UnpacksIn, packedInto, unpackedInto}
 use Rattle.records.specs.Find.{FirstPlace, Finds}
@@ -47,6 +47,12 @@ legal-unique r a b p q = p ∙ sym q
 pub key-unique : (r a b : ℕ) → a ≡ keyOf r → b ≡ keyOf r → a ≡ b
 key-unique r a b p q = p ∙ sym q
 
+pub legal-five-unique : (r : ℕ) (a b : Bool) → a ≡ legalIn five r → b ≡ legalIn five r → a ≡ b
+legal-five-unique r a b p q = p ∙ sym q
+
+pub widen-unique : (r a b : ℕ) → a ≡ widened r → b ≡ widened r → a ≡ b
+widen-unique r a b p q = p ∙ sym q
+
 pub clear-unique : (before a b : List ℕ) → a ≡ replicate (length before) 0 → b ≡ replicate (length before) 0 → a ≡ b
 clear-unique before a b p q = p ∙ sym q
 
@@ -57,10 +63,11 @@ pack-unique {w} rs before a b x y p q =
     (e, p .holds ∙ ap (λ (v : Outcome). packedInto w (v .number) rs before) e ∙ sym (q .holds))
 
 pub unpack-unique :
-    {w : Width} (s before : List ℕ) (a b : Outcome) (x y : List ℕ) → UnpacksIn w s before a x → UnpacksIn w s before b y → (a ≡ b) × (x ≡ y)
-unpack-unique {w} s before a b x y p q =
+    {v w : Width} (s before : List ℕ) (a b : Outcome) (x y : List ℕ) → UnpacksIn v w s before a x → UnpacksIn v w s before b y
+    → (a ≡ b) × (x ≡ y)
+unpack-unique {v} {w} s before a b x y p q =
     let e : a ≡ b = p .answers ∙ sym (q .answers) in
-    (e, p .holds ∙ ap (λ (v : Outcome). unpackedInto w (v .number) s before) e ∙ sym (q .holds))
+    (e, p .holds ∙ ap (λ (o : Outcome). unpackedInto v w (o .number) s before) e ∙ sym (q .holds))
 
 same-place : (rs : List ℕ) (x p q : ℕ) → FirstPlace rs x p → FirstPlace rs x q → p ≡ q
 same-place rs x p q f g =

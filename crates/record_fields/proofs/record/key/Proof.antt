@@ -6,20 +6,20 @@ use Prim.Native.Nat.{ℕ, _+_, _/_, _%_, _^_, _≤_, _<_}
 use borrow.Author.Tests.{eq-eqb, ne-eqb}
 use Rattle.records.specs.Fields.{bits, parted}
 use Rattle.records.specs.Record.{isVoxelIn, keyOf}
-use Rattle.records.specs.Laws.Record.{width40-sound, key-surface, key-voxel}
+use Rattle.records.specs.Laws.Record.{seven-sound, key-surface, key-voxel}
 use native.Mathlib.Omega.{arith}
 use Rattle.record_fields.proofs.record.key.Statement.{statement}
 use Rattle.record_fields.proofs.record.key.Tie as tie
 
-surface : (r : ℕ) → r % 2 ^ 40 < 2 ^ 39 → r % 2 ^ 40 ≡ keyOf r
+surface : (r : ℕ) → r % 2 ^ 54 < 2 ^ 53 → r % 2 ^ 54 ≡ keyOf r
 unfolding isVoxelIn bits parted
-surface r h = sym (key-surface width40-sound r (ne-eqb (r / 2 ^ 39 % 2) 1 (omega arith)))
+surface r h = sym (key-surface seven-sound r (ne-eqb (r / 2 ^ 53 % 2) 1 (omega arith)))
 
-volume : (r : ℕ) → 2 ^ 39 ≤ r % 2 ^ 40 → 2 ^ 39 + r % 2 ^ 40 % 2 ^ 34 ≡ keyOf r
+volume : (r : ℕ) → 2 ^ 53 ≤ r % 2 ^ 54 → 2 ^ 53 + r % 2 ^ 54 % 2 ^ 48 ≡ keyOf r
 unfolding isVoxelIn bits parted
-volume r h = let flag : r / 2 ^ 39 % 2 ≡ 1 = omega (arith, mod-both (2 ^ 39) (pow-pos 39) r 2 (omega arith)) in
-    let e : 2 ^ 39 + r % 2 ^ 40 % 2 ^ 34 ≡ 2 ^ 39 + r % 2 ^ 34 = omega arith in e
-    ∙ sym (key-voxel width40-sound r (eq-eqb (r / 2 ^ 39 % 2) 1 flag))
+volume r h = let flag : r / 2 ^ 53 % 2 ≡ 1 = omega (arith, mod-both (2 ^ 53) (pow-pos 53) r 2 (omega arith)) in
+    let e : 2 ^ 53 + r % 2 ^ 54 % 2 ^ 48 ≡ 2 ^ 53 + r % 2 ^ 48 = omega arith in e
+    ∙ sym (key-voxel seven-sound r (eq-eqb (r / 2 ^ 53 % 2) 1 flag))
 
 returns : tie.Need-returns
 returns c = surface _ (c .if1 .taken)

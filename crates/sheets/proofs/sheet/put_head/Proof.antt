@@ -16,7 +16,7 @@ slice-write-sheet-3 c = simp length-set (omega arith)
 
 returns : tie.Need-returns
 returns c = let n = c .args .n in rw head-bytes
-    (sets-eq (5 ∷ n / 65536 % 256 ∷ n / 256 % 256 ∷ n % 256 ∷ []) (c .args .sheet .now) 0 (c .pre))
+    (sets-eq (7 ∷ n / 65536 % 256 ∷ n / 256 % 256 ∷ n % 256 ∷ []) (c .args .sheet .now) 0 (c .pre))
 
 pub put-head-spec : {M : Type 1} → statement M
 put-head-spec =

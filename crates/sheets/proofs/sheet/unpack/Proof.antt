@@ -1,11 +1,11 @@
--- `records::sheet::unpack` meets its contract. Assumes nothing.
+-- `sheets::sheet::unpack` meets its contract. Assumes nothing.
 use native.Mathlib.Omega.{arith}
 use Rattle.records.specs.Laws.Packing.{unpacking}
 use Rattle.sheets.proofs.sheet.unpack.Statement.{statement}
 use Rattle.sheets.proofs.sheet.unpack.Tie as tie
 
 same-length : tie.Need-same-length
-same-length c = omega (arith, c .before .before .take-records .kept .1 .0)
+same-length c = omega (arith, c .before .before .take-records .kept .1 .1 .0)
 
 pub unpack-spec : {M : Type 1} → statement M
 unpack-spec =
@@ -13,6 +13,7 @@ unpack-spec =
     (tie.spec
     (λ c κs. search unpacking)
     (λ c. search unpacking)
+    (λ c κs. search unpacking)
     (λ c κs. search unpacking)
     (λ c. search unpacking)
     (λ c. search unpacking)

@@ -1,20 +1,17 @@
--- `records::sheet::record_at` meets its contract. Assumes nothing.
-use Rattle.records.specs.Laws.Computed.{unread-number}
+-- `sheets::word::five_bytes` meets its contract. Assumes nothing.
+use Rattle.records.specs.Laws.Computed as laws
 use native.Mathlib.Omega.{arith}
-use Rattle.sheets.proofs.sheet.record_at.Statement.{statement}
-use Rattle.sheets.proofs.sheet.record_at.Tie as tie
+use Rattle.sheets.proofs.word.five_bytes.Statement.{statement}
+use Rattle.sheets.proofs.word.five_bytes.Tie as tie
 
 returns : tie.Need-returns
 returns c =
     let a = c .before .before .before .before .before .before .before .before .before .before .before .args in
-    omega (
-      arith,
-      unread-number (a .sheet .now) (a .at)
-          (c .before .before .before .before .before .before .before .before .before .before .before .pre),
-    )
+    let e = laws.five-bytes (a .sheet .now) (a .at)
+    (c .before .before .before .before .before .before .before .before .before .before .before .pre) in (omega arith, omega arith)
 
-pub record-at-spec : {M : Type 1} → statement M
-record-at-spec =
+pub five-bytes-spec : {M : Type 1} → statement M
+five-bytes-spec =
     tie.close
     (tie.spec
     (λ c. omega arith)
