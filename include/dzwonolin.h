@@ -73,8 +73,10 @@ enum { DZ_NONE = 0, DZ_BRAIN = 1, DZ_SERIES = 2, DZ_SCALARS = 3 };
    text, lengths   read only.
    records         accepted: each brain map fills one stretch, in text order of maps, from place 0 on, index n
                    of the map at the n-th place of its stretch; places past the last stretch are left as they
-                   were. Refused: all left as it was. A record is 40 bits, most significant first: voxel flag
-                   1, structure 5, payload 34 (surface: vertex number; voxel: i in 11 bits, j in 11, k in 12).
+                   were. Refused: all left as it was. A record is 54 bits, most significant first: voxel flag
+                   1, structure 5, payload 48 (surface: vertex number; voxel: i, j and k in 16 bits each).
+                   Records of an older library have 40 bits and are not records of this one: keep tables as
+                   sheets.
                    Room for the sum of the lengths is always enough.
    work            all zero after every call. Room for the largest of the lengths is always enough.
    answer          DZ_ANSWER numbers: the head and three dimensions, as above. Refused: all 0 but the number. With
@@ -102,17 +104,18 @@ uint64_t dz_find(const uint64_t *records, size_t records_len,
                  uint64_t number,
                  uint64_t *place, size_t place_len);
 
-/* Packs all records lent into a sheet: a byte 5, the count in 3 bytes, then 5 bytes for each record, most
-   significant first. Refusals 15, 16, 17 in that order.
+/* Packs all records lent into a sheet: a byte 7, the count in 3 bytes, then 7 bytes for each record, most
+   significant first, each record ended by two zero bits. Refusals 15, 16, 17 in that order.
 
-   sheet           accepted: its first 4 + 5 * records_len bytes are the sheet, the rest is left as it was.
+   sheet           accepted: its first 4 + 7 * records_len bytes are the sheet, the rest is left as it was.
                    Refused: all left as it was.
    count           [0] = bytes written. Refused: 0. */
 uint64_t dz_pack(const uint64_t *records, size_t records_len,
                  uint8_t *sheet, size_t sheet_len,
                  uint64_t *count, size_t count_len);
 
-/* Unpacks a whole sheet. Refusals 15, 16, 17 in that order.
+/* Unpacks a whole sheet: one of 7 bytes a record, or one of 5 as older libraries write them, whose records
+   come out as the records of the same locations. Refusals 15, 16, 17 in that order.
 
    records         accepted: the sheet's records from place 0 on, the rest is left as it was. Refused: all left
                    as it was.

@@ -168,15 +168,15 @@ def find(records, number):
 
 
 def pack(records):
-    """(0, the sheet of these records) or (number, b'')."""
+    """(0, the sheet of these records, 7 bytes each) or (number, b'')."""
     records, count = _numbers(records), (ctypes.c_uint64 * 1)()
-    sheet = ctypes.create_string_buffer(4 + 5 * len(records))
+    sheet = ctypes.create_string_buffer(4 + 7 * len(records))
     number = _library().dz_pack(records, len(records), sheet, len(sheet), count, 1)
     return number, sheet.raw[:count[0]]
 
 
 def unpack(sheet):
-    """(0, the records of this sheet) or (number, [])."""
+    """(0, the records of this sheet, of 5 or of 7 bytes a record) or (number, [])."""
     sheet, count = _bytes(sheet), (ctypes.c_uint64 * 1)()
     records = (ctypes.c_uint64 * (len(sheet) // 5))()
     number = _library().dz_unpack(sheet, len(sheet), records, len(records), count, 1)
@@ -185,9 +185,9 @@ def unpack(sheet):
 
 def unfold(record):
     """('S', structure, vertex) or ('V', structure, i, j, k)."""
-    structure, payload = record >> 34 & 31, record & (1 << 34) - 1
-    if record >> 39:
-        return "V", structure, payload >> 23, payload >> 12 & 2047, payload & 4095
+    structure, payload = record >> 48 & 31, record & (1 << 48) - 1
+    if record >> 53:
+        return "V", structure, payload >> 32, payload >> 16 & 65535, payload & 65535
     return "S", structure, payload
 
 
@@ -216,7 +216,7 @@ def models(answer):
     for start, length in _stretches(answer):
         found = {}
         for index, record in enumerate(answer.records[start:start + length]):
-            found.setdefault(record >> 34, [0, index])[0] += 1
+            found.setdefault(record >> 48, [0, index])[0] += 1
         for front, (count, first) in found.items():
             kind, structure = "SV"[front >> 5], front & 31
             yield f"model {start} {kind} {structure} {STRUCTURES[structure]} {count} {first}"

@@ -30,8 +30,8 @@ def fold(record):
     if isinstance(record, int):
         return record
     if record[0] == "S":
-        return record[1] << 34 | record[2]
-    return 1 << 39 | record[1] << 34 | record[2] << 23 | record[3] << 12 | record[4]
+        return record[1] << 48 | record[2]
+    return 1 << 53 | record[1] << 48 | record[2] << 32 | record[3] << 16 | record[4]
 
 
 def lent_numbers(values):

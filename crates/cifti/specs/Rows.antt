@@ -6,7 +6,7 @@ use lib.ListN.{getD}
 use Rattle.numbers.specs.Numbers.{whole, volumeDimensions, dimensionList, exponent, decimal, wholes, sixteen}
 use Rattle.schema.specs.Schema.{anyValue, word, number, AttributeRow, required, anyText, numbers, once, atMostOnce, anyTimes, atLeastOnce}
 use Rattle.schema.specs.Schema.{neededBelow, Case, _⇒_, always, chosen, child, anyOrder, Row, branch, leaf}
-use Rattle.cifti.specs.Words.{structures, units}
+use Rattle.cifti.specs.Words.{structures, units, mostLength, mostVoxel}
 
 -- the kinds of elements; `words` are those with any text, and nothing else: Name, Value, MapName
 pub data ElementKind : Type 0 where
@@ -119,7 +119,7 @@ rows scalars = branch mapAttributes anyOrder
 rows namedMap = branch [] anyOrder
     (child "MapName" once (always words) ∷ child "MetaData" atMostOnce (always metaData) ∷ [])
 rows volume = branch
-    (required "VolumeDimensions" (number (volumeDimensions 2048 2048 4096)) ∷ []) anyOrder
+    (required "VolumeDimensions" (number (volumeDimensions mostLength mostLength mostLength)) ∷ []) anyOrder
     (child "TransformationMatrixVoxelIndicesIJKtoXYZ" once (always transform) ∷ [])
 rows transform = leaf (required "MeterExponent" (number (exponent 30)) ∷ []) (numbers sixteen)
 rows surface = branch
@@ -128,7 +128,7 @@ rows surface = branch
 rows voxels = branch modelAttributes anyOrder
     (child "VoxelIndicesIJK" once (always voxelIndices) ∷ [])
 rows vertexIndices = leaf [] (numbers (wholes 1048575))
-rows voxelIndices = leaf [] (numbers (wholes 4095))
+rows voxelIndices = leaf [] (numbers (wholes mostVoxel))
 
 unfoldable pub rowTable : Unit {0}
 unfolding structures units mapKinds modelTypes mapAttributes seriesAttributes modelAttributes rows

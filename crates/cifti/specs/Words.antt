@@ -2,6 +2,8 @@
 use mathlib.Core.List.{List, [], _∷_}
 use Prim.Native.String.{String}
 unfoldable pub use Rattle.schema.specs.Words.{numberIn}
+-- a length of a volume is at most 65,536, a voxel number 65,535
+pub use Rattle.records.specs.Limits.{mostLength, mostVoxel}
 
 unfoldable pub structures : List String
 structures =

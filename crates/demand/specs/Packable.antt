@@ -6,7 +6,7 @@ use Prim.Native.Nat.{ℕ, _+_, _≤_}
 use lib.ListN.{length, take, drop}
 use Rattle.grammar.specs.Document.{Element}
 use Rattle.grammar.specs.Grammar.{Writes}
-use Rattle.records.specs.Width.{width40}
+use Rattle.records.specs.Width.{seven}
 use Rattle.records.specs.Sheet.{allLegal, packRefusal}
 use Rattle.cifti.specs.Maps.{mapsOf}
 use Rattle.cifti.specs.Answer.{stretches}
@@ -16,6 +16,6 @@ pub record Packable (text records : List ℕ) : Type 0 where
   pub document : Element
   pub written : Writes document text
   pub held : take (length (stretches (mapsOf document))) records ≡ stretches (mapsOf document)
-  pub legal : allLegal width40 (stretches (mapsOf document)) ≡ true
+  pub legal : allLegal seven (stretches (mapsOf document)) ≡ true
   pub packed : (from count room : ℕ) → from + count ≤ length (stretches (mapsOf document))
-      → packRefusal width40 (take count (drop from records)) room ≡ 16 → ⊥
+      → packRefusal seven (take count (drop from records)) room ≡ 16 → ⊥

@@ -1,7 +1,6 @@
 // The volume of a brain map.
 use inside::attributes::attribute;
-use maps::limits::MOST_ACROSS;
-use maps::limits::MOST_ALONG;
+use maps::limits::MOST_LENGTH;
 use maps::survey::Seen;
 use models::volume::Sizes;
 use nodes::Found;
@@ -20,7 +19,7 @@ fn sizes_at(text: &[u8], at: usize) -> Sizes
     ensures { λ r. ⌜ volumeFrom r ≡ sizesBy (sizesAt (the (now (text .entry)) at)) ⌝ }
 {
     match attribute(text, at, b"VolumeDimensions") {
-        Found::At(v) => match three_lengths(text, v, MOST_ACROSS, MOST_ACROSS, MOST_ALONG) {
+        Found::At(v) => match three_lengths(text, v, MOST_LENGTH, MOST_LENGTH, MOST_LENGTH) {
             Three::Are(l) => Sizes {
                 i: l.i,
                 j: l.j,

@@ -21,6 +21,7 @@ use Rattle.nodes.specs.declared.Kid.{Kid}
 use Rattle.nodes.specs.declared.Kid.the-variants.{Child, Done}
 use Rattle.nodes.specs.declared.Found.{Found}
 use Rattle.nodes.specs.declared.Found.the-variants.{At, Nothing}
+use Rattle.cifti.specs.Words.{mostVoxel}
 use Rattle.cifti.specs.Rows.{ElementKind}
 use Rattle.cifti.specs.Maps.{Listed, vertices, voxels, modelOf, listedBy}
 use Rattle.maps.specs.Laws.Kinds.{GoodModel, surface-model, voxel-model, OnlyChild, surface-child, voxels-child, vertex-list, voxel-list}
@@ -63,7 +64,7 @@ model-lists {e} (surface-model g h) =
     (rw h (ap (vertices (value (attr "SurfaceNumberOfVertices" e))) (only-text "VertexIndices" _ e o))) (surface-size g)
 model-lists {e} (voxel-model g h) =
     let o = voxels-child g in
-    lists-voxels (o .one) (o .alone) (wholes-digits 4095 (words (textOf (o .one))) (voxel-list (o .good)))
+    lists-voxels (o .one) (o .alone) (wholes-digits mostVoxel (words (textOf (o .one))) (voxel-list (o .good)))
     (rw h (ap voxels (only-text "VoxelIndicesIJK" _ e o)))
 
 -- its only child, and what that says

@@ -18,11 +18,11 @@ fn show_bytes(bytes: &[u8]) {
     say(b"\n");
 }
 
-// Each record on a line, as its bytes in a sheet.
+// Each record on a line, its 54 bits as 14 digits.
 fn show_records(records: &[u64]) {
     let mut i = 0;
     while i < records.len() {
-        io::print_hex(STDOUT_FILENO, records[i], 10);
+        io::print_hex(STDOUT_FILENO, records[i], 14);
         say(b"\n");
         i += 1;
     }

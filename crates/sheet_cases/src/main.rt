@@ -5,6 +5,7 @@ mod each_number;
 fn main() {
     each_number::packed();
     each_number::unpacked();
+    each_number::unpacked_illegal();
     each_number::unpacked_short();
     each_number::places();
 }

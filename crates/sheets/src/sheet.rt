@@ -12,7 +12,8 @@ ghost use lib.ListN.{length, take, drop};
 ghost use Rattle.records.specs.Width.{seven, widthSaid};
 ghost use Rattle.records.specs.Bytes.{bytesOf, body, numbersIn};
 ghost use Rattle.records.specs.Fill.{wrote};
-ghost use Rattle.records.specs.Sheet.{allLegal, allGood, withEnds, heldBy, goodCount, bytesSaid, sheetWidth, countOf, headOf, Packs, Unpacks};
+ghost use Rattle.records.specs.Sheet.{allLegal, allGood, withEnds, heldBy, goodCount, bytesSaid, sheetWidth, countOf, headOf};
+ghost use Rattle.records.specs.Sheet.{Packs, Unpacks};
 
 fn good_count(n: usize) -> bool
     ensures { λ ok. ⌜ ok ≡ goodCount n ⌝ }

@@ -94,12 +94,12 @@ forms =
     ∷ 3 ∷ 1 ∷ 1048576 ∷ 0  -- a whole number above 0
     ∷ 4 ∷ 0 ∷ 0 ∷ 0  -- a decimal
     ∷ 5 ∷ 30 ∷ 0 ∷ 0  -- an exponent
-    ∷ 6 ∷ 2048 ∷ 2048 ∷ 4096  -- the sizes of a volume
+    ∷ 6 ∷ 65536 ∷ 65536 ∷ 65536  -- the sizes of a volume
     ∷ 1 ∷ 33 ∷ 37 ∷ 0  -- a unit
     ∷ 1 ∷ 38 ∷ 70 ∷ 38  -- a structure, behind word 37
     ∷ 1 ∷ 0 ∷ 0 ∷ 0  -- text: the sixteen
     ∷ 2 ∷ 1048575 ∷ 0 ∷ 0  -- text: vertices
-    ∷ 2 ∷ 4095 ∷ 0 ∷ 0  -- text: voxels
+    ∷ 2 ∷ 65535 ∷ 0 ∷ 0  -- text: voxels
     ∷ 1 ∷ 28 ∷ 31 ∷ 0  -- a kind of map
     ∷ []
 

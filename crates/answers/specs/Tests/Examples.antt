@@ -79,8 +79,8 @@ pub seven : gives (1 ∷ 1 ∷ []) 7
     ∷ brain1 (surface "0" "1" "CORTEX" "1048577" "4")
     ∷ brain1 (surface "0" "1" "CORTEX" "5" "1048576")
     ∷ brain1 (surface "0" "1" "CORTEX" "5" "00000004")
-    ∷ brain1 (volume ⊹ voxels "0" "1" "CORTEX" "2 3 4096")
-    ∷ brain1 (volumeOf "2049,1,1" "0" "1 0 0 0 0 1 0 0 0 0 1 0 0 0 0 1" ⊹ surface "0" "1" "CORTEX" "5" "4")
+    ∷ brain1 (volume ⊹ voxels "0" "1" "CORTEX" "2 3 65536")
+    ∷ brain1 (volumeOf "65537,1,1" "0" "1 0 0 0 0 1 0 0 0 0 1 0 0 0 0 1" ⊹ surface "0" "1" "CORTEX" "5" "4")
     ∷ brain1 (volumeOf "8,8,8" "31" "1 0 0 0 0 1 0 0 0 0 1 0 0 0 0 1" ⊹ surface "0" "1" "CORTEX" "5" "4")
     ∷ brain1 (volumeOf "8,8,8" "0" "1 0 0 0 0 1 0 0 0 0 1 0 0 0 0" ⊹ surface "0" "1" "CORTEX" "5" "4")
     ∷ brain1 (volumeOf "8,8,8" "0" "1 0 0 0 0 1 0 0 0 0 1 0 0 0 0 2" ⊹ surface "0" "1" "CORTEX" "5" "4")
@@ -160,7 +160,8 @@ pub accepted : givesBrains 0
     (brains (surface "1" "1" "CORTEX" "5" "4" ⊹ surface "0" "1" "CORTEX_RIGHT" "5" "4")
     ∷ brains (surface "0" "2" "CORTEX_LEFT" "5" "4 1")
     ∷ brains (volume ⊹ voxels "0" "1" "CORTEX" "2 3 5" ⊹ surface "1" "1" "CORTEX" "5" "4")
-    ∷ brains (volumeOf "2048,2048,4096" "-30" "1 0 0 0 0 1 0 0 0 0 1 0 0 -0.0 +0 1.00" ⊹ voxels "0" "2" "CORTEX" " 2047 2047\n4095 0 0 0 ")
+    ∷ brains (volumeOf "65536,65536,65536" "-30" "1 0 0 0 0 1 0 0 0 0 1 0 0 -0.0 +0 1.00"
+    ⊹ voxels "0" "2" "CORTEX" " 65535 65535\n65535 0 0 0 ")
     ∷ [])
     ≡ true
 unfolding cases
@@ -169,7 +170,7 @@ accepted = refl
 -- by IndexOffset and not in text order; the second stretch begins where the first ends; the place past it keeps its 7
 pub filled : recordsOf (brains (surface "1" "1" "CORTEX" "5" "4" ⊹ surface "0" "1" "CORTEX_RIGHT" "5" "3")) (2 ∷ 2 ∷ [])
     (9 ∷ 9 ∷ 9 ∷ 9 ∷ 7 ∷ []) two
-    ≡ 0x4400000004 ∷ 0x4400000001 ∷ 0x4800000003 ∷ 0x4000000004 ∷ 7 ∷ []
+    ≡ 0x11000000000004 ∷ 0x11000000000001 ∷ 0x12000000000003 ∷ 0x10000000000004 ∷ 7 ∷ []
 unfolding cases
 filled = refl
 

@@ -16,7 +16,7 @@ use Rattle.lists.specs.Laws.Lists.{length-each}
 use Rattle.lists.specs.Quantifiers.{EveryPlace, OnePlace}
 use Rattle.records.specs.Width.{Width}
 use Rattle.records.specs.Record.{Location, onSurface, recordOf, keyOf, FitsIn, Fits, surface, volume}
-use Rattle.records.specs.Laws.Record.{width40-sound, same-place-key, key-same-place}
+use Rattle.records.specs.Laws.Record.{seven-sound, same-place-key, key-same-place}
 use Rattle.cifti.specs.Maps.{Voxel, voxel, Listed, vertices, voxels, Model, voxelsOf, threes, voxelAt, locations, locationsBy, covers}
 use Rattle.cifti.specs.Conditions.{alike, listsCount, outside, beyond, repeats}
 use Rattle.cifti.specs.Answer.{recordAt}
@@ -96,7 +96,7 @@ module _ (m₀ : Model) (l : List Model)
       to : repeats l ≡ true → OneKey
       to h =
           let t = indices .0 h in
-          let k = same-place-key width40-sound (fits-at (t .first) (omega (arith, t .order, t .in-map)))
+          let k = same-place-key seven-sound (fits-at (t .first) (omega (arith, t .order, t .in-map)))
           (fits-at (t .second) (t .in-map)) (t .same) in
           record {
             first = t .first;
@@ -115,6 +115,6 @@ module _ (m₀ : Model) (l : List Model)
             second = t .second;
             order = t .order;
             in-map = t .in-map;
-            same = key-same-place width40-sound (fits-at (t .first) (omega (arith, t .order, t .in-map)))
+            same = key-same-place seven-sound (fits-at (t .first) (omega (arith, t .order, t .in-map)))
                 (fits-at (t .second) (t .in-map)) k;
           })

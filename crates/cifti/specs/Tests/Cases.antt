@@ -13,7 +13,9 @@ use Rattle.numbers.specs.Numbers.{numbers}
 use Rattle.schema.specs.Schema.{schema}
 use Rattle.records.specs.Record.{recordWords}
 use Rattle.records.specs.Bytes.{byteWords}
-use Rattle.records.specs.Sheet.{sheetOf, headOf}
+use Rattle.records.specs.Width.{five, seven}
+use Rattle.records.specs.Sheet.{sheetOf, headOf, withEnds, countOf, wordsIn, heldIn}
+use Rattle.records.specs.Tests.CaseA.{sheetOfFive, sheetOfSeven}
 use Rattle.cifti.specs.Words.{namedWords}
 use Rattle.cifti.specs.Rows.{rowTable}
 use Rattle.cifti.specs.Maps.{mapWords}
@@ -50,16 +52,19 @@ pub p1 : answerOf caseA (2 ∷ 3 ∷ []) three three
 unfolding cases
 p1 = refl
 
-pub p1-records : recordsOf caseA (2 ∷ 3 ∷ []) three three ≡ 0x4800000004 ∷ 0x4800000001 ∷ 0x9801003005 ∷ []
+pub p1-records : recordsOf caseA (2 ∷ 3 ∷ []) three three ≡ 0x12000000000004 ∷ 0x12000000000001 ∷ 0x26000200030005 ∷ []
 unfolding cases
 p1-records = refl
 
--- P2: its sheet is `05 00 00 03 48 00 00 00 04 48 00 00 00 01 98 01 00 30 05`
-pub p2 : sheetOf 5 (recordsOf caseA (2 ∷ 3 ∷ []) three three)
-    ≡ 0x05 ∷ 0x00 ∷ 0x00 ∷ 0x03 ∷ 0x48 ∷ 0x00 ∷ 0x00 ∷ 0x00 ∷ 0x04 ∷ 0x48 ∷ 0x00 ∷ 0x00 ∷ 0x00 ∷ 0x01 ∷ 0x98 ∷ 0x01 ∷ 0x00 ∷ 0x30 ∷ 0x05
-    ∷ []
+-- its sheet is `07 00 00 03 48 00 00 00 00 00 10 48 00 00 00 00 00 04 98 00 08 00 0c 00 14`
+pub p2-seven : sheetOf 7 (withEnds seven (recordsOf caseA (2 ∷ 3 ∷ []) three three)) ≡ sheetOfSeven
 unfolding cases byteWords sheetOf headOf
-p2 = refl
+p2-seven = refl
+
+-- P2, `05 00 00 03 48 00 00 00 04 48 00 00 00 01 98 01 00 30 05`, unpacks to the same records
+pub p2-widened : heldIn seven five sheetOfFive ≡ recordsOf caseA (2 ∷ 3 ∷ []) three three
+unfolding cases byteWords countOf wordsIn
+p2-widened = refl
 
 -- A row of the table: a text, the lengths, the places of work, and the number.
 pub record PaperRow : Type 0 where

@@ -1,25 +1,22 @@
 -- AN INDEX OF A BRAIN MAP to which no condition applies: the one model whose range it is in, its location there, and its record.
 use mathlib.Core.Path.{_≡_, refl, sym, ap, _∙_}
 use mathlib.Core.List.{List, [], _∷_, _++_}
-use mathlib.Core.Bool.{Bool, true, false, not, cond, _||_}
+use mathlib.Core.Bool.{Bool, true, false, not, cond}
 use Prim.Native.Nat.{ℕ, _-_, _^_, _<_, _≤_}
 use native.Mathlib.Omega.{arith}
-use lib.Dec.{leb}
 use lib.ListN.{length, getD}
-use borrow.Author.Tests.{not-false, lt-ltb, le-leb}
+use borrow.Author.Tests.{not-false, le-leb}
 use Rattle.lists.specs.Lists.{any, those, each}
 use Rattle.lists.specs.Quantifiers.{count-one-iff}
-use Rattle.lists.specs.Laws.Booleans.{and-both, or-left, or-right, clash}
+use Rattle.lists.specs.Laws.Booleans.{or-left, or-right, clash}
 use Rattle.grammar.specs.Document.{Element}
 use Rattle.grammar.specs.Look.{is, nameOf, attr, contentsOf, elements}
 use Rattle.numbers.specs.Numbers.{value}
 use Rattle.records.specs.Limits.{mostVertex}
-use Rattle.records.specs.Width.{Width, width40}
-use Rattle.records.specs.Fields.{bits, none, more}
-use Rattle.records.specs.Laws.Fields.{joined-below}
-use Rattle.records.specs.Record.{Location, onSurface, inVolume, recordIn, recordOf, FitsIn, Fits, surface, volume, isVoxelIn, structureIn}
-use Rattle.records.specs.Record.{payloadIn, iIn, jIn, kIn, locationIn, locationOf, legalIn, legalRecord}
-use Rattle.records.specs.Laws.Record.{width40-sound, location-back}
+use Rattle.records.specs.Width.{Width, seven}
+use Rattle.records.specs.Record.{Location, onSurface, recordOf, FitsIn, Fits, surface, volume, locationOf, legalRecord}
+use Rattle.records.specs.Laws.Record.{seven-sound, location-back}
+use Rattle.records.specs.Laws.Widths.{Wider, fits-wider, lawfulPlace, legal-made}
 use Rattle.cifti.specs.Maps.{Voxel, Model, Map, modelOf, mapOf, listedBy, lengthOf, isBrain, kindOfMap, covers, locations}
 use Rattle.cifti.specs.Conditions.{listsCount, uneven, beyond}
 use Rattle.cifti.specs.Answer.{recordAt}
@@ -42,40 +39,26 @@ use Rattle.demand.specs.Laws.Alone.{Alone, alone, alone-those, fails-at,
 -- ---- Legal locations: as in a record, and the vertex number at most 1,048,575.
 
 abbrev pub lawful : Width
-lawful = record { flag = 1; structure = 5; vertex = 20; i = 11; j = 11; k = 12; bytes = 5; ending = 0 }
+lawful = record { flag = 1; structure = 5; vertex = 20; i = 16; j = 16; k = 16; bytes = 7; ending = 2 }
+
+lawful-narrow : Wider seven lawful
+lawful-narrow = record { structure = omega arith; vertex = omega arith; i = omega arith; j = omega arith; k = omega arith }
 
 pub lawful-fits : {x : Location} → FitsIn lawful x → Fits x
-lawful-fits (surface {v = v} h u) = let w : v < 2 ^ 34 = omega arith in surface h w
-lawful-fits (volume h u v w) = volume h u v w
+lawful-fits = fits-wider lawful-narrow
 
 -- the location is read back from its record
 pub lawful-back : {x : Location} → FitsIn lawful x → locationOf (recordOf x) ≡ x
 unfolding locationOf
-lawful-back f = location-back width40-sound (lawful-fits f)
+lawful-back f = location-back seven-sound (lawful-fits f)
 
-record-below : {x : Location} → FitsIn width40 x → recordOf x < 2 ^ 40
-unfolding recordIn bits
-record-below (surface h u) = joined-below (more (omega arith) (more h (more u none)))
-record-below (volume h u v w) = joined-below (more (omega arith) (more h (more u (more v (more w none)))))
-
--- a record is a voxel's, or its payload is that of its location
-voxel-or : (r : ℕ) {x : Location} → FitsIn lawful x → locationIn width40 r ≡ x
-    → (isVoxelIn width40 r || leb (payloadIn width40 r) mostVertex) ≡ true
-unfolding locationIn
-voxel-or r f e = go (isVoxelIn width40 r) f e
-  where
-    go : (b : Bool) {x : Location} → FitsIn lawful x
-        → cond b (inVolume (structureIn width40 r) (iIn width40 r) (jIn width40 r) (kIn width40 r))
-        (onSurface (structureIn width40 r) (payloadIn width40 r)) ≡ x
-        → (b || leb (payloadIn width40 r) mostVertex) ≡ true
-    go true f e = refl
-    go false (surface {v = v} h u) e = let q : payloadIn width40 r ≡ v = cc in rw q (le-leb v mostVertex (omega arith))
-    go false (volume h u v w) e = clash (cc)
+lawful-place : {x : Location} → FitsIn lawful x → lawfulPlace x ≡ true
+unfolding lawfulPlace
+lawful-place (surface {v = v} h u) = le-leb v mostVertex (omega arith)
+lawful-place (volume h u v w) = refl
 
 pub lawful-legal : {x : Location} → FitsIn lawful x → legalRecord (recordOf x) ≡ true
-unfolding legalIn
-lawful-legal {x} f = and-both (lt-ltb _ _ (record-below (lawful-fits f)))
-    (voxel-or (recordOf x) f (location-back width40-sound (lawful-fits f)))
+lawful-legal f = legal-made seven-sound (lawful-fits f) ∙ lawful-place f
 
 -- ---- What a good model lists is legal, where 12 does not apply.
 

@@ -14,7 +14,7 @@ use Rattle.lists.specs.Laws.Booleans.{and-left, and-right, and-both}
 use Rattle.lists.specs.Laws.Lists.{all-append}
 use Rattle.lists.specs.Laws.Tables.{size-of-table, entry-of-table}
 use Rattle.grammar.specs.Document.{Element}
-use Rattle.records.specs.Width.{width40}
+use Rattle.records.specs.Width.{seven}
 use Rattle.records.specs.Record.{legalRecord}
 use Rattle.records.specs.Sheet.{goodCount, allLegal, packRefusal}
 use Rattle.cifti.specs.Maps.{mapOf, mapsOf, brainMaps, lengthOf, isBrain}
@@ -31,7 +31,7 @@ use Rattle.demand.specs.Laws.Indexed.{indexed, lawful-legal}
 -- ---- The stretches.
 
 stretch-legal : {e : Element} → GoodMap e → FineMap (mapOf e) → isBrain ((mapOf e) .kind) ≡ true
-    → allLegal width40 (stretch (mapOf e)) ≡ true
+    → allLegal seven (stretch (mapOf e)) ≡ true
 unfolding stretch
 stretch-legal {e} g f b = all-iff 0 legalRecord (table size made) .1 (λ i u. at i (rw (size-of-table made size) at u))
   where
@@ -46,28 +46,28 @@ stretch-legal {e} g f b = all-iff 0 legalRecord (table size made) .1 (λ i u. at
         let x = indexed g f b i u in
         ap legalRecord (entry-of-table made 0 size i u ∙ x .recorded) ∙ lawful-legal (x .fits)
 
-stretches-legal : {l : List Element} → GoodMaps l → Fine (each mapOf l) → allLegal width40 (stretches (each mapOf l)) ≡ true
+stretches-legal : {l : List Element} → GoodMaps l → Fine (each mapOf l) → allLegal seven (stretches (each mapOf l)) ≡ true
 unfolding each stretches brainMaps those eachIn all
 stretches-legal no-maps f = refl
 stretches-legal (one-map {e} {l} g m) f = go (isBrain ((mapOf e) .kind)) refl (stretches-legal m (fine-rest f))
   where
-    go : (b : Bool) → isBrain ((mapOf e) .kind) ≡ b → allLegal width40 (stretches (each mapOf l)) ≡ true
-        → allLegal width40 (eachIn stretch (cond b (mapOf e ∷ brainMaps (each mapOf l)) (brainMaps (each mapOf l)))) ≡ true
+    go : (b : Bool) → isBrain ((mapOf e) .kind) ≡ b → allLegal seven (stretches (each mapOf l)) ≡ true
+        → allLegal seven (eachIn stretch (cond b (mapOf e ∷ brainMaps (each mapOf l)) (brainMaps (each mapOf l)))) ≡ true
     go true q h = all-append legalRecord (stretch (mapOf e)) (stretches (each mapOf l))
         ∙ and-both (stretch-legal g (fine-first f) q) h
     go false q h = h
 
 -- ---- Packing.
 
-all-take : (n : ℕ) (l : List ℕ) → allLegal width40 l ≡ true → allLegal width40 (take n l) ≡ true
+all-take : (n : ℕ) (l : List ℕ) → allLegal seven l ≡ true → allLegal seven (take n l) ≡ true
 unfolding all
 all-take zero l h = refl
 all-take (suc n) [] h = refl
 all-take (suc n) (r ∷ l) h = and-both (and-left (legalRecord r) _ h) (all-take n l (and-right (legalRecord r) _ h))
 
-never-sixteen : (rs : List ℕ) (room : ℕ) → allLegal width40 rs ≡ true → packRefusal width40 rs room ≡ 16 → ⊥
+never-sixteen : (rs : List ℕ) (room : ℕ) → allLegal seven rs ≡ true → packRefusal seven rs room ≡ 16 → ⊥
 unfolding packRefusal first
-never-sixteen rs room h e = go (not (goodCount (length rs))) (ltb room (4 + 5 * length rs)) (rw h at e)
+never-sixteen rs room h e = go (not (goodCount (length rs))) (ltb room (4 + seven .bytes * length rs)) (rw h at e)
   where
     go : (a c : Bool) → first (15 when a ∷ 16 when false ∷ 17 when c ∷ []) ≡ 16 → ⊥
     go true c q = omega arith
@@ -80,10 +80,10 @@ take-first zero new rest u = refl
 take-first (suc n) [] rest u = absurd (omega arith)
 take-first (suc n) (a ∷ new) rest u = ap (λ l. a ∷ l) (take-first n new rest (le-of-suc-le-suc u))
 
-some-legal : (from count : ℕ) (new rest : List ℕ) → from + count ≤ length new → allLegal width40 new ≡ true
-    → allLegal width40 (take count (drop from (new ++ rest))) ≡ true
+some-legal : (from count : ℕ) (new rest : List ℕ) → from + count ≤ length new → allLegal seven new ≡ true
+    → allLegal seven (take count (drop from (new ++ rest))) ≡ true
 unfolding all
-some-legal zero n new rest u h = ap (allLegal width40) (take-first n new rest (omega arith)) ∙ all-take n new h
+some-legal zero n new rest u h = ap (allLegal seven) (take-first n new rest (omega arith)) ∙ all-take n new h
 some-legal (suc f) n [] rest u h = absurd (omega arith)
 some-legal (suc f) n (r ∷ new) rest u h = some-legal f n new rest (omega arith) (and-right (legalRecord r) _ h)
 
@@ -101,7 +101,7 @@ module _ {text lengths records : List ℕ} {a : Answer} {after : List ℕ} (x : 
   unfolding filledWith new
   after-is = x .filled
 
-  lawful : allLegal width40 new ≡ true
+  lawful : allLegal seven new ≡ true
   unfolding mapsOf new
   lawful = stretches-legal (maps-good (x .passes .good)) (x .passes .fine)
 
@@ -113,7 +113,7 @@ module _ {text lengths records : List ℕ} {a : Answer} {after : List ℕ} (x : 
     held = ap (take (length new)) after-is ∙ take-first (length new) new _ (omega arith) ∙ take-all new;
     legal = lawful;
     packed = λ f n room u h. never-sixteen (take n (drop f after)) room
-        (ap (λ l. allLegal width40 (take n (drop f l))) after-is ∙ some-legal f n new _ u lawful) h;
+        (ap (λ l. allLegal seven (take n (drop f l))) after-is ∙ some-legal f n new _ u lawful) h;
   }
 
 pub accepted-packs : {text lengths records work : List ℕ} {a : Answer} {after cleared : List ℕ}

@@ -26,7 +26,7 @@ answer = record {
 }
 
 abbrev held : List ℕ
-held = 0x4800000004 ∷ 0x4800000001 ∷ 0x9801003005 ∷ []
+held = 0x12000000000004 ∷ 0x12000000000001 ∷ 0x26000200030005 ∷ []
 
 accepted : Reads caseA (2 ∷ 3 ∷ []) three three answer held (replicate 3 0)
 accepted = rw (p1, p1-records) at (reading caseA (2 ∷ 3 ∷ []) three three)

@@ -26,7 +26,7 @@ use Rattle.schema.specs.Schema.{always, chosen, Case, _⇒_, Row, branch, leaf,
 use Rattle.schema.specs.Schema.{kindAmong, childRows, everywhere, shaped, numbered, attributesShaped, attributeShaped, attributeNumbered}
 use Rattle.schema.specs.Schema.{isWord, isNumber, isText, childrenShaped, childShaped, standsSo, orderly, neededBelow, atLeastOnce}
 use Rattle.schema.specs.Schema.{atMostOnce, anyTimes}
-use Rattle.cifti.specs.Words.{structures, units}
+use Rattle.cifti.specs.Words.{structures, units, mostLength, mostVoxel}
 use Rattle.cifti.specs.Rows.{ElementKind, cifti, matrix, metaData, md, words, brainModels, series, scalars, namedMap, volume, transform}
 use Rattle.cifti.specs.Rows.{surface, voxels, vertexIndices, voxelIndices, mapKinds, modelTypes, mapAttributes, seriesAttributes}
 use Rattle.cifti.specs.Rows.{modelAttributes, rows}
@@ -255,9 +255,9 @@ pub vertex-list : {e : Element} → Good vertexIndices e → wholes 1048575 (tex
 unfolding rows numbered isText textOf
 vertex-list {e} g = and-right (all (attributeNumbered (attributesOf e)) []) (isText (numbers (wholes 1048575)) (textOf e)) (number-here g)
 
-pub voxel-list : {e : Element} → Good voxelIndices e → wholes 4095 (textOf e) ≡ true
+pub voxel-list : {e : Element} → Good voxelIndices e → wholes mostVoxel (textOf e) ≡ true
 unfolding rows numbered isText textOf
-voxel-list {e} g = and-right (all (attributeNumbered (attributesOf e)) []) (isText (numbers (wholes 4095)) (textOf e)) (number-here g)
+voxel-list {e} g = and-right (all (attributeNumbered (attributesOf e)) []) (isText (numbers (wholes mostVoxel)) (textOf e)) (number-here g)
 
 pub surface-size : {e : Element} → Good surface e → whole 1 1048576 (attr "SurfaceNumberOfVertices" e) ≡ true
 unfolding modelAttributes
@@ -287,13 +287,13 @@ pub rows-scalars : rows scalars ≡ branch mapAttributes anyOrder scalarRows
 unfolding rows
 rows-scalars = refl
 
-rows-volume : rows volume ≡ branch (required "VolumeDimensions" (number (volumeDimensions 2048 2048 4096)) ∷ []) anyOrder
+rows-volume : rows volume ≡ branch (required "VolumeDimensions" (number (volumeDimensions mostLength mostLength mostLength)) ∷ []) anyOrder
     (child "TransformationMatrixVoxelIndicesIJKtoXYZ" once (always transform) ∷ [])
 unfolding rows
 rows-volume = refl
 
-pub volume-sizes : {e : Element} → Good volume e → volumeDimensions 2048 2048 4096 (attr "VolumeDimensions" e) ≡ true
-volume-sizes g = in-form g _ _ _ rows-volume 0 (omega arith) "VolumeDimensions" (volumeDimensions 2048 2048 4096) refl
+pub volume-sizes : {e : Element} → Good volume e → volumeDimensions mostLength mostLength mostLength (attr "VolumeDimensions" e) ≡ true
+volume-sizes g = in-form g _ _ _ rows-volume 0 (omega arith) "VolumeDimensions" (volumeDimensions mostLength mostLength mostLength) refl
 
 pub record SeriesFacts (e : Element) : Type 0 where
   pub points : whole 1 1048576 (attr "NumberOfSeriesPoints" e) ≡ true

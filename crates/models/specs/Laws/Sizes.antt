@@ -16,6 +16,7 @@ use Rattle.nodes.specs.Attributes.{place}
 use Rattle.nodes.specs.Values.{value-there}
 use Rattle.nodes.specs.declared.Found.{Found}
 use Rattle.nodes.specs.declared.Found.the-variants.{At, Nothing}
+use Rattle.cifti.specs.Words.{mostLength}
 use Rattle.cifti.specs.Rows.{volume}
 use Rattle.cifti.specs.Maps.{Voxel, voxel, sizesBy, sizesOf, mapOf}
 use Rattle.maps.specs.Laws.Good.{Good, AllGood, none-left, one-good}
@@ -46,9 +47,9 @@ three-values p q r (a ∷ b ∷ []) h = absurd (false≢true h)
 three-values p q r (a ∷ b ∷ c ∷ []) h = record { i = value a; j = value b; k = value c; are = refl }
 three-values p q r (a ∷ b ∷ c ∷ d ∷ l) h = absurd (false≢true h)
 
-dimensions-are : (w : Word) → volumeDimensions 2048 2048 4096 w ≡ true → Sizing (commaValues w)
+dimensions-are : (w : Word) → volumeDimensions mostLength mostLength mostLength w ≡ true → Sizing (commaValues w)
 unfolding volumeDimensions commaValues
-dimensions-are w h = three-values (whole 1 2048) (whole 1 2048) (whole 1 4096) (parts comma w) h
+dimensions-are w h = three-values (whole 1 mostLength) (whole 1 mostLength) (whole 1 mostLength) (parts comma w) h
 
 in-form : {e : Element} → Good volume e → Sizing (sizesAt e)
 unfolding sizesAt
@@ -68,13 +69,13 @@ module _ {text : List ℕ} {at : ℕ} (v : VolumeAt text at) {f : Found} (e : f 
   pub sizes-stands : Stands text at
   sizes-stands = v .stands
 
-  module _ {x : ℕ} (q : f ≡ At x) {a : Three} (y : a ≡ threeIn 2048 2048 4096 (value-there text x)) where
+  module _ {x : ℕ} (q : f ≡ At x) {a : Three} (y : a ≡ threeIn mostLength mostLength mostLength (value-there text x)) where
     word : value-there text x ≡ attr "VolumeDimensions" (the text at)
     word = found-value (ascii "VolumeDimensions") (v .stands) e q ∙ word-at "VolumeDimensions" (the text at)
 
     answered : a ≡ answers.Are (lengthsOf (sizesAt (the text at)))
     unfolding threeIn sizesAt
-    answered = y ∙ ap (threeIn 2048 2048 4096) word ∙ rw (volume-sizes (v .good))
+    answered = y ∙ ap (threeIn mostLength mostLength mostLength) word ∙ rw (volume-sizes (v .good))
 
     pub sizes-there : {l : Lengths} → a ≡ answers.Are l → voxel (l .i) (l .j) (l .k) ≡ sizesBy (sizesAt (the text at))
     unfolding lengthsOf
@@ -92,7 +93,7 @@ module _ {text : List ℕ} {at : ℕ} (v : VolumeAt text at) {f : Found} (e : f 
   sizes-missing q =
       let w : attr "VolumeDimensions" (the text at) ≡ [] = sym (word-at "VolumeDimensions" (the text at))
       ∙ found-none (ascii "VolumeDimensions") (v .stands) e q in
-      let h : volumeDimensions 2048 2048 4096 [] ≡ true = rw w at (volume-sizes (v .good)) in
+      let h : volumeDimensions mostLength mostLength mostLength [] ≡ true = rw w at (volume-sizes (v .good)) in
       absurd (false≢true h)
 
 pub ruleset sizing = (sizes-stands, sizes-there, sizes-not, sizes-missing, needs)

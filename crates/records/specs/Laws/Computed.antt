@@ -11,7 +11,7 @@ use borrow.Author.Tests.{eqb-true, eq-eqb}
 use lib.ListN.{length, getD, take, drop}
 use lib.Seq.{drop-cons, drop-length}
 use Rattle.lists.specs.Lists.{all}
-use Rattle.records.specs.Width.{Width, five, seven, widthSaid}
+use Rattle.records.specs.Width.{five, seven, widthSaid}
 use Rattle.records.specs.Fields.{bits, joined, parted}
 use Rattle.records.specs.Bytes.{bytesOf, numberWritten}
 use Rattle.records.specs.Sheet.{headOf, countOf, goodSheet, bytesSaid, widthOf, sheetWidth}

@@ -10,7 +10,8 @@ use Rattle.lists.specs.Laws.Booleans.{and-left, and-right, and-both}
 
 module _ {A B : Type 0} (p : A → Bool) where
   -- a test of what is made holds of all
-  pub all-made : (q : B → Bool) (g : A → B) → ((a : A) → p a ≡ true → q (g a) ≡ true) → (l : List A) → all p l ≡ true → all q (map g l) ≡ true
+  pub all-made : (q : B → Bool) (g : A → B) → ((a : A) → p a ≡ true → q (g a) ≡ true) → (l : List A) → all p l ≡ true
+      → all q (map g l) ≡ true
   unfolding all
   all-made q g h [] e = refl
   all-made q g h (a ∷ l) e =

@@ -13,7 +13,8 @@ use Rattle.records.specs.Width.{Width, seven, widthSaid}
 use Rattle.records.specs.Bytes.{body, numbersIn}
 use Rattle.records.specs.Fill.{wrote, wrote-on}
 use Rattle.records.specs.Outcome.{outcome, applies, passes, gives-first}
-use Rattle.records.specs.Sheet.{allLegal, allGood, wordOf, withEnds, goodCount, goodSheet, bytesSaid, sheetWidth, widthOf, headOf, sheetOf, countOf}
+use Rattle.records.specs.Sheet.{allLegal, allGood, wordOf, withEnds, goodCount, goodSheet, bytesSaid, sheetWidth, widthOf, headOf}
+use Rattle.records.specs.Sheet.{sheetOf, countOf}
 use Rattle.records.specs.Sheet.{wordsIn, heldBy, packRefusal, unpackRefusal, Packs, Unpacks}
 use Rattle.records.specs.Laws.Sheet.{count-small, GoodSheet, sheet-good, good-sheet, packs-so, unpacks-so}
 use Rattle.records.specs.Laws.Computed.{head-bytes, said-some, bytes-none, bytes-some, Widthed, no-sheet, sheet-widthed}
@@ -58,7 +59,8 @@ module _ {rs s : List ℕ} {counted : Bool} (count : counted ≡ goodCount (leng
             (passes (ap not (told every _ all lawful)) (applies (lt-ltb _ _ short)))) in
             record { answers = ap (λ (n : ℕ). outcome n (4 + 7 * length rs)) (sym is); holds = refl }
 
-        pub pack-done : {t u : List ℕ} → 4 + 7 * length rs ≤ length s → t ≡ wrote 0 (headOf 7 (length rs)) s → u ≡ wrote 4 (body 7 (withEnds seven rs)) t
+        pub pack-done : {t u : List ℕ} → 4 + 7 * length rs ≤ length s → t ≡ wrote 0 (headOf 7 (length rs)) s
+            → u ≡ wrote 4 (body 7 (withEnds seven rs)) t
             → Packs rs s (record { number = 0; value = 4 + 7 * length rs }) u
         unfolding sheetOf
         pack-done fits head rest =
@@ -165,7 +167,8 @@ module _ (s : List ℕ) {b : ℕ} (width : b ≡ sheetWidth s) (some : b ≡ 0 �
         ∙ ap (λ (m : ℕ). numbersIn ((widthOf s) .bytes) m (drop 4 s)) count
 
     judged : allGood (widthSaid b) (numbersIn ((widthSaid b) .bytes) n (drop 4 s)) ≡ allGood (widthOf s) (wordsIn ((widthOf s) .bytes) s)
-    judged = ap (λ (w : Width). allGood w (numbersIn ((widthSaid b) .bytes) n (drop 4 s))) (told-width .says) ∙ ap (allGood (widthOf s)) words
+    judged = ap (λ (w : Width). allGood w (numbersIn ((widthSaid b) .bytes) n (drop 4 s))) (told-width .says)
+        ∙ ap (allGood (widthOf s)) words
 
     all-good : {every : Bool} → every ≡ allGood (widthSaid b) (numbersIn ((widthSaid b) .bytes) n (drop 4 s)) → not every ≡ false
         → allGood (widthOf s) (wordsIn ((widthOf s) .bytes) s) ≡ true
@@ -195,7 +198,8 @@ module _ {s rs : List ℕ} {b : ℕ} (width : b ≡ sheetWidth s) where
         unpack-short short =
             let few : length rs < countOf s = omega arith in
             let is : unpackRefusal (widthOf s) s (length rs) ≡ 17 =
-            gives-first (passes (ap not (told-width s width some .fine)) (passes (ap not (all-good s width some count all lawful)) (applies (lt-ltb _ _ few)))) in
+            let good = all-good s width some count all lawful in
+            gives-first (passes (ap not (told-width s width some .fine)) (passes (ap not good) (applies (lt-ltb _ _ few)))) in
             record { answers = ap (λ (m : ℕ). outcome m (countOf s)) (sym is); holds = refl }
 
         pub unpack-done : {us : List ℕ} → n ≤ length rs
@@ -203,7 +207,8 @@ module _ {s rs : List ℕ} {b : ℕ} (width : b ≡ sheetWidth s) where
             → Unpacks s rs (record { number = 0; value = n }) us
         unpack-done room e =
             let is : unpackRefusal (widthOf s) s (length rs) ≡ 0 =
-            unpacks-so (widthOf s) s (length rs) (record { good = good s width some; words = all-good s width some count all lawful; fits = omega arith }) in
+            let words = all-good s width some count all lawful in
+            unpacks-so (widthOf s) s (length rs) (record { good = good s width some; words = words; fits = omega arith }) in
             record {
               answers = ap (outcome 0) count ∙ ap (λ (m : ℕ). outcome m (countOf s)) (sym is);
               holds = e

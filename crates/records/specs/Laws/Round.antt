@@ -2,25 +2,27 @@
 use mathlib.Core.Path.{_≡_, refl, sym, ap, _∙_, subst}
 use mathlib.Core.Bool.{Bool, true, false, cond, not}
 use mathlib.Core.List.{List, map}
-use Prim.Native.Nat.{ℕ, _+_, _*_, _≤_, _<_}
+use Prim.Native.Nat.{ℕ, _+_, _*_, _≤_}
 use native.Mathlib.Omega.{arith}
 use lib.Dec.{eqb}
 use lib.ListN.{length, getD, take, drop, length-map}
 use lib.Pow.{shl-shr}
-use borrow.Author.Tests.{ne-eqb, eq-eqb}
+use borrow.Author.Tests.{ne-eqb}
 use Rattle.records.specs.Width.{Width, five, seven, widthSaid}
-use Rattle.records.specs.Record.{Location, locationIn, locationOf, recordIn, legalIn, carried}
+use Rattle.records.specs.Record.{Location, locationIn, recordIn, legalIn, carried}
 use Rattle.records.specs.Bytes.{Below}
 use Rattle.records.specs.Fill.{wrote}
 use Rattle.records.specs.Outcome.{unless, outcome, applies, gives-first}
-use Rattle.records.specs.Sheet.{sheetOf, sheetFrom, countOf, wordsIn, wordOf, bare, withEnds, withoutEnds, allLegal, goodWord, allGood}
+use Rattle.records.specs.Sheet.{sheetOf, sheetFrom, countOf, wordsIn, wordOf, bare, withEnds, withoutEnds, allLegal, goodWord}
+use Rattle.records.specs.Sheet.{allGood}
 use Rattle.records.specs.Sheet.{goodCount, goodSheet, widthOf, packRefusal, unpackRefusal, packedInto, heldIn, unpackedInto}
 use Rattle.records.specs.Sheet.{PacksIn, UnpacksIn, Packs, Unpacks}
 use Rattle.records.specs.Laws.Mapped.{all-made, made-back, made-twice}
 use Rattle.records.specs.Laws.Bytes.{length-numbersIn}
 use Rattle.records.specs.Laws.Record.{Sound, five-sound, seven-sound}
-use Rattle.records.specs.Laws.Widths.{Wider, wider-same, seven-wider, carried-same, carried-location, carried-back, legal-carried, legal-size}
-use Rattle.records.specs.Laws.Sheet.{count-small, GoodSheet, CanPack, CanUnpack, can-pack, packs-so, can-unpack, unpacks-so, wrote-front}
+use Rattle.records.specs.Laws.Widths.{Wider, wider-same, seven-wider, carried-same, carried-location, legal-carried, legal-size}
+use Rattle.records.specs.Laws.Sheet.{count-small, GoodSheet, CanPack, CanUnpack, can-pack, packs-so, can-unpack, unpacks-so}
+use Rattle.records.specs.Laws.Sheet.{wrote-front}
 use Rattle.records.specs.Laws.Sheet.{sheet-good, sheet-long, sheet-count, records-back, sheet-made-good, sheet-back}
 use Rattle.records.specs.Laws.Sheet.{word-good, good-legal, word-back, legal-below}
 use Rattle.records.specs.declared.outcome.Outcome.{Outcome}

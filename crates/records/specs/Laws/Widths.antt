@@ -1,13 +1,12 @@
 -- Two layouts: a location that fits the one fits the other, and its record is legal in both or in neither. Assumes nothing.
 use mathlib.Core.Path.{_≡_, refl, sym, ap, _∙_}
-use mathlib.Core.List.{List, []}
 use mathlib.Core.Bool.{Bool, true, false, cond, _&&_, _||_}
 use Prim.Native.Nat.{ℕ, _+_, _*_, _-_, _/_, _%_, _^_, _<_, _≤_}
 use native.Mathlib.Omega.{arith}
 use native.Mathlib.Nat.{lt-of-lt-of-le, div-eq-of-lt, zero-mod, div-one}
-use lib.Dec.{eqb, leb, ltb}
+use lib.Dec.{leb, ltb}
 use lib.Pow.{pow-pos, pow-mono, pow-add}
-use borrow.Author.Tests.{lt-ltb, ltb-true, eq-eqb, ne-eqb}
+use borrow.Author.Tests.{leb-true, lt-ltb, ltb-true, eq-eqb, ne-eqb}
 use Rattle.lists.specs.Laws.Booleans.{and-left}
 use Rattle.records.specs.Limits.{mostVertex}
 use Rattle.records.specs.Fields.{bits, parted}
@@ -94,7 +93,8 @@ module _ {w : Width} (ok : Sound w) where
       let twice : 2 ^ recordBits w ≡ 2 * b =
       pow-add 2 (w .flag) (w .structure + w .vertex) ∙ ap (λ (n : ℕ). 2 ^ n * b) (ok .flag) in
       let sum : 1 * b + (r - b) ≡ r = omega arith in
-      let one : r / b ≡ 1 = ap (λ (n : ℕ). n / b) (sym sum) ∙ above b (pow-pos (w .structure + w .vertex)) 1 (r - b) (omega (arith, twice)) in
+      let one : r / b ≡ 1 = ap (λ (n : ℕ). n / b) (sym sum)
+      ∙ above b (pow-pos (w .structure + w .vertex)) 1 (r - b) (omega (arith, twice)) in
       eq-eqb _ 1 (ap (λ (n : ℕ). r / 2 ^ n % 2 ^ (w .flag)) lone ∙ ap (λ (n : ℕ). n % 2 ^ (w .flag)) one
       ∙ ap (λ (n : ℕ). 1 % 2 ^ n) (ok .flag))
 
@@ -126,3 +126,20 @@ module _ {v w : Width} (okV : Sound v) (okW : Sound w) (wide : Wider v w) where
 -- a record of a sheet of five, widened, is legal exactly where it was
 pub legal-widened : (r : ℕ) → r < 2 ^ recordBits five → legalRecord (widened r) ≡ legalIn five r
 legal-widened = legal-carried seven-sound five-sound seven-wider
+
+-- A record of 40 bits that is legal in 54 too is a vertex of structure 0, and the same in both: an old table is refused, or means what
+-- it meant.
+pub old-record : (r : ℕ) → legalIn five r ≡ true → legalRecord r ≡ true → r ≤ mostVertex
+old-record r e h =
+    let short = legal-size five r e in
+    let small = leb-true (r % 2 ^ 48) mostVertex (legal-low seven-sound r (omega arith) ∙ h) in
+    omega arith
+
+pub old-location : (r : ℕ) → r ≤ mostVertex → locationIn five r ≡ locationIn seven r
+unfolding locationIn isVoxelIn structureIn payloadIn bits parted
+old-location r h =
+    let a : r / 2 ^ 34 % 32 ≡ 0 = omega arith in
+    let b : r / 2 ^ 48 % 32 ≡ 0 = omega arith in
+    let c : r % 2 ^ 34 ≡ r = omega arith in
+    let d : r % 2 ^ 48 ≡ r = omega arith in
+    rw (ne-eqb (r / 2 ^ 39 % 2) 1 (omega arith), ne-eqb (r / 2 ^ 53 % 2) 1 (omega arith), div-one, a, b, c, d)

@@ -11,8 +11,8 @@ use Rattle.grammar.specs.Document.{Element}
 use Rattle.grammar.specs.Laws.Facts.{and-left, and-right}
 use Rattle.grammar.specs.Look.{Word, is, nameOf, contentsOf, attr, elements, children}
 use Rattle.numbers.specs.Numbers.{whole, value, three, parts, comma, volumeDimensions, commaValues}
-use Rattle.records.specs.Limits.{mostRecords, mostAcross, mostAlong}
-use Rattle.records.specs.Width.{width40}
+use Rattle.records.specs.Limits.{mostRecords, mostLength}
+use Rattle.records.specs.Width.{seven}
 use Rattle.records.specs.Record.{Location, onSurface, Fits}
 use Rattle.cifti.specs.Rows.{brainModels, volume}
 use Rattle.cifti.specs.Maps.{Voxel, Model, modelOf, listedBy, sizesBy, sizesOf, locations}
@@ -28,22 +28,22 @@ use Rattle.table.specs.Listing.{AllFit, none-to-fit, one-fits}
 -- ---- The volume.
 
 pub record InBits (v : Voxel) : Type 0 where
-  pub small-i : v .i ≤ 2 ^ (width40 .i)
-  pub small-j : v .j ≤ 2 ^ (width40 .j)
-  pub small-k : v .k ≤ 2 ^ (width40 .k)
+  pub small-i : v .i ≤ 2 ^ (seven .i)
+  pub small-j : v .j ≤ 2 ^ (seven .j)
+  pub small-k : v .k ≤ 2 ^ (seven .k)
 
 -- three words in form, and more behind them
-three-sized : (l : List Word) (m : List ℕ) → three (whole 1 mostAcross) (whole 1 mostAcross) (whole 1 mostAlong) l ≡ true
+three-sized : (l : List Word) (m : List ℕ) → three (whole 1 mostLength) (whole 1 mostLength) (whole 1 mostLength) l ≡ true
     → InBits (sizesBy (each value l ++ m))
 unfolding three each sizesBy
 three-sized [] m h = absurd (false≢true h)
 three-sized (a ∷ []) m h = absurd (false≢true h)
 three-sized (a ∷ b ∷ []) m h = absurd (false≢true h)
 three-sized (a ∷ b ∷ c ∷ []) m h =
-    let x = whole-within 1 mostAcross a (and-left (whole 1 mostAcross a) _ h) in
-    let k = and-right (whole 1 mostAcross a) _ h in
-    let y = whole-within 1 mostAcross b (and-left (whole 1 mostAcross b) _ k) in
-    let z = whole-within 1 mostAlong c (and-right (whole 1 mostAcross b) _ k) in
+    let x = whole-within 1 mostLength a (and-left (whole 1 mostLength a) _ h) in
+    let k = and-right (whole 1 mostLength a) _ h in
+    let y = whole-within 1 mostLength b (and-left (whole 1 mostLength b) _ k) in
+    let z = whole-within 1 mostLength c (and-right (whole 1 mostLength b) _ k) in
     record { small-i = omega (arith, x .1); small-j = omega (arith, y .1); small-k = omega (arith, z .1) }
 three-sized (a ∷ b ∷ c ∷ d ∷ l) m h = absurd (false≢true h)
 
@@ -74,21 +74,21 @@ pub all-fit : (l : List Location) → ((p : ℕ) → p < length l → Fits (getD
 all-fit [] h = none-to-fit
 all-fit (a ∷ l) h = one-fits (h 0 (omega arith)) (all-fit l (λ p u. h (suc p) (omega arith)))
 
-surface-small : {e : Element} → GoodModel e → Small width40 ((modelOf e) .listed)
+surface-small : {e : Element} → GoodModel e → Small seven ((modelOf e) .listed)
 unfolding modelOf
 surface-small {e} g = go (model-lists g)
   where
-    go : Lists e → Small width40 (listedBy e)
+    go : Lists e → Small seven (listedBy e)
     go (lists-vertices o a f n s) =
         let w = whole-within 1 mostRecords (attr "SurfaceNumberOfVertices" e) s in
-        let h : value (attr "SurfaceNumberOfVertices" e) ≤ 2 ^ (width40 .vertex) = omega (arith, w .1) in
+        let h : value (attr "SurfaceNumberOfVertices" e) ≤ 2 ^ (seven .vertex) = omega (arith, w .1) in
         rw n (small-surface h)
     go (lists-voxels o a f n) = rw n voxels-small
 
 pub model-fits : {e : Element} (v : Voxel) → GoodModel e → InBits v → beyond v ((modelOf e) .listed) ≡ false → (p : ℕ)
     → p < length (locations (modelOf e)) → Fits (getD (locations (modelOf e)) p (onSurface 0 0))
 unfolding locations
-model-fits {e} v g z h = listed-fits width40 ((modelOf e) .structure) v ((modelOf e) .listed) (structure-small g) (z .small-i)
+model-fits {e} v g z h = listed-fits seven ((modelOf e) .structure) v ((modelOf e) .listed) (structure-small g) (z .small-i)
     (z .small-j) (z .small-k) (surface-small g) h
 
 -- none of the list is beyond

@@ -1,5 +1,5 @@
 -- `sheets::sheet::all_good` meets its contract. The invariant: all are good exactly where those to come are. Assumes nothing.
-use lib.ListN.{length, getD, take, drop}
+use lib.ListN.{take, drop}
 use mathlib.Core.Path.{_≡_, refl, sym, ap, _∙_}
 use mathlib.Core.List.{List}
 use mathlib.Core.Bool.{Bool, _&&_}

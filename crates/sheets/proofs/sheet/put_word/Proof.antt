@@ -29,8 +29,10 @@ slice-write-sheet-7 c = simp length-set (omega arith)
 
 returns : tie.Need-returns
 returns c = let r = c .args .word in rw (word-bytes, add-one, add-two, add-three, add-four, add-five, add-six)
-    (sets-eq (r / 281474976710656 % 256 ∷ r / 1099511627776 % 256 ∷ r / 4294967296 % 256 ∷ r / 16777216 % 256 ∷ r / 65536 % 256 ∷ r / 256 % 256 ∷ r % 256 ∷ []) (c .args .sheet .now)
-    (c .args .at) (c .pre))
+    (sets-eq
+    (r / 281474976710656 % 256 ∷ r / 1099511627776 % 256 ∷ r / 4294967296 % 256 ∷ r / 16777216 % 256 ∷ r / 65536 % 256 ∷ r / 256 % 256
+    ∷ r % 256 ∷ [])
+    (c .args .sheet .now) (c .args .at) (c .pre))
 
 pub put-word-spec : {M : Type 1} → statement M
 put-word-spec =

@@ -1,7 +1,7 @@
 -- `sheets::sheet::said` meets its contract. Assumes nothing.
-use mathlib.Core.Path.{_≡_, ap, _∙_, sym}
+use mathlib.Core.Path.{_≡_, ap, sym}
 use Prim.Native.Nat.{ℕ}
-use borrow.Author.Tests.{eq-eqb, ne-eqb}
+use borrow.Author.Tests.{ne-eqb}
 use Rattle.records.specs.Width.{widthSaid}
 use Rattle.records.specs.Sheet.{bytesSaid}
 use Rattle.sheets.proofs.sheet.said.Statement.{statement}

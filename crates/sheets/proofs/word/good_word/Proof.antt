@@ -1,6 +1,6 @@
 -- `sheets::word::good_word` meets its contract. Assumes nothing.
-use mathlib.Core.Path.{_≡_, sym, ap, _∙_}
-use mathlib.Core.Bool.{Bool, false}
+use mathlib.Core.Path.{_≡_, _∙_}
+use mathlib.Core.Bool.{false}
 use Prim.Native.Nat.{ℕ, _/_, _%_}
 use native.Mathlib.Nat.{div-one, mod-one}
 use borrow.Author.Needs.{needs}

@@ -1,7 +1,7 @@
 -- `sheets::word::word_at` meets its contract. Assumes nothing.
 use mathlib.Core.Path.{_≡_, sym, ap, _∙_}
 use mathlib.Core.List.{List}
-use Prim.Native.Nat.{ℕ, _+_, _*_, _≤_, _<_}
+use Prim.Native.Nat.{ℕ, _+_, _*_, _≤_}
 use lib.ListN.{length, take, drop}
 use borrow.Author.Tests.{eq-eqb, ne-eqb}
 use Rattle.records.specs.Width.{Width, five, seven, widthSaid}
@@ -34,28 +34,38 @@ read : (b i : ℕ) (s : List ℕ) (w : Width) {r : ℕ} → widthSaid b ≡ w �
 read b i s w is e = e ∙ ap (λ (v : Width). numberWritten (take (v .bytes) (drop (4 + v .bytes * i) s))) (sym is)
 
 mul-five-bytes : tie.Need-mul-five-bytes
-mul-five-bytes c = omega (arith, fits-five (c .before .before .args .i) (c .before .before .args .sheet .now) (c .if1 .taken) (c .before .before .pre))
+mul-five-bytes c =
+    let a = c .before .before in omega (arith, fits-five (a .args .i) (a .args .sheet .now) (c .if1 .taken) (a .pre))
 
 add-five-bytes : tie.Need-add-five-bytes
-add-five-bytes c = omega (arith, fits-five (c .before .before .args .i) (c .before .before .args .sheet .now) (c .if1 .taken) (c .before .before .pre))
+add-five-bytes c =
+    let a = c .before .before in omega (arith, fits-five (a .args .i) (a .args .sheet .now) (c .if1 .taken) (a .pre))
 
 five-bytes-requires : tie.Need-five-bytes-requires
-five-bytes-requires c κs = omega (arith, fits-five (c .before .before .args .i) (c .before .before .args .sheet .now) (c .if1 .taken) (c .before .before .pre))
+five-bytes-requires c κs =
+    let a = c .before .before in omega (arith, fits-five (a .args .i) (a .args .sheet .now) (c .if1 .taken) (a .pre))
 
 mul-seven-bytes : tie.Need-mul-seven-bytes
-mul-seven-bytes c = omega (arith, fits-seven (c .before .before .args .i) (c .before .before .args .sheet .now) (c .if1 .left) (c .before .before .pre))
+mul-seven-bytes c =
+    let a = c .before .before in omega (arith, fits-seven (a .args .i) (a .args .sheet .now) (c .if1 .left) (a .pre))
 
 add-seven-bytes : tie.Need-add-seven-bytes
-add-seven-bytes c = omega (arith, fits-seven (c .before .before .args .i) (c .before .before .args .sheet .now) (c .if1 .left) (c .before .before .pre))
+add-seven-bytes c =
+    let a = c .before .before in omega (arith, fits-seven (a .args .i) (a .args .sheet .now) (c .if1 .left) (a .pre))
 
 seven-bytes-requires : tie.Need-seven-bytes-requires
-seven-bytes-requires c κs = omega (arith, fits-seven (c .before .before .args .i) (c .before .before .args .sheet .now) (c .if1 .left) (c .before .before .pre))
+seven-bytes-requires c κs =
+    let a = c .before .before in omega (arith, fits-seven (a .args .i) (a .args .sheet .now) (c .if1 .left) (a .pre))
 
 returns : tie.Need-returns
-returns c = let a = c .before .before .before .args in read (a .width) (a .i) (a .sheet .now) five (is-five (c .before .if1 .taken)) (c .five-bytes .ensures .0)
+returns c =
+    let a = c .before .before .before .args in
+    read (a .width) (a .i) (a .sheet .now) five (is-five (c .before .if1 .taken)) (c .five-bytes .ensures .0)
 
 returns-2 : tie.Need-returns-2
-returns-2 c = let a = c .before .before .before .args in read (a .width) (a .i) (a .sheet .now) seven (is-seven (c .before .if1 .left)) (c .seven-bytes .ensures)
+returns-2 c =
+    let a = c .before .before .before .args in
+    read (a .width) (a .i) (a .sheet .now) seven (is-seven (c .before .if1 .left)) (c .seven-bytes .ensures)
 
 pub word-at-spec : {M : Type 1} → statement M
 word-at-spec =
