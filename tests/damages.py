@@ -20,10 +20,10 @@ BAD_WORDS = ["", " ", "x", "SURFACE", "BRAIN_MODELS", "CIFTI_INDEX_TYPE_", "CIFT
 STRAY_TEXTS = ["x", " .", "0", "\u00a0", "\ufeff", "&", "]]", "\u2003", "\x7f", "<"]
 LIMITS = {"IndexOffset": ["1048577"], "IndexCount": ["0", "1048577"], "SurfaceNumberOfVertices": ["0", "1048577"],
           "NumberOfSeriesPoints": ["0", "1048577"], "SeriesExponent": ["31", "-31"], "MeterExponent": ["31", "-31"],
-          "VolumeDimensions": ["0,2048,4096", "2048,0,4096", "2048,2048,0", "2049,2048,4096", "2048,2049,4096", "2048,2048,4097"],
+          "VolumeDimensions": ["0,65536,65536", "65536,0,65536", "65536,65536,0", "65537,65536,1", "1,65537,65536", "65536,1,65537"],
           "SeriesStart": ["1234567890.123456", "-0000000000000000", "1E46", "1E-46", "1.0E47", "1.0E-45"],
           "SeriesStep": ["1234567890.123456", "+0000000000000001", "0E46", "0.0E-45"]}
-LISTED_LIMITS = {"VertexIndices": "1048576", "VoxelIndicesIJK": "4096"}
+LISTED_LIMITS = {"VertexIndices": "1048576", "VoxelIndicesIJK": "65536"}
 LENGTHS = [[], [1], [0, 1], [1, 0], [1048577, 1], [1, 1048577], [1, 1, 1, 1], [1, 1, 0], [1, 1, 1048577],
            [2 ** 64 - 1, 1], [1, 2 ** 40], [2 ** 32 + 1, 1], [1, 1, 2 ** 63], [1, 2, 3, 4, 5]]
 
@@ -153,7 +153,7 @@ def listed_number(rng, doc):
     node = pick(rng, doc.root.all("VertexIndices") + doc.root.all("VoxelIndicesIJK") + doc.root.all(TRANSFORMATION))
     if not node or not node.words:
         return False
-    bad = BAD_DECIMALS if node.name == TRANSFORMATION else BAD_WHOLES + ["1048576" if node.name[1] == "e" else "4096"]
+    bad = BAD_DECIMALS if node.name == TRANSFORMATION else BAD_WHOLES + ["1048576" if node.name[1] == "e" else "65536"]
     bad = [b for b in bad if b.strip() == b and b != ""]
     node.words[rng.choice([0, -1, rng.randrange(len(node.words))])] = rng.choice(bad)
     return True
@@ -286,9 +286,9 @@ def outside(rng, doc):
     axes = next(m for m in doc.brains() if model in m.contents).children("Volume")[0].get("VolumeDimensions").split(",")
     axis = rng.randrange(3)
     at = rng.choice([0, len(words) // 3 - 1, rng.randrange(len(words) // 3)])
-    if int(axes[axis]) > 4095:
+    if int(axes[axis]) > 65535:
         return False
-    words[3 * at + axis] = str(rng.choice([int(axes[axis]), int(axes[axis]), 4095]))
+    words[3 * at + axis] = str(rng.choice([int(axes[axis]), int(axes[axis]), 65535]))
     return True
 
 

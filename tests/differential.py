@@ -150,7 +150,7 @@ class Comparison:
         if number % 8 == 0 or wanted.records and len(wanted.records) < 5000:
             self.find(rng, name, wanted.records)
         if wanted.records and len(wanted.records) < 5000:
-            self.pack(rng, name, wanted.records, 4 + 5 * len(wanted.records))
+            self.pack(rng, name, wanted.records, 4 + 7 * len(wanted.records))
         if number % 2 == 0:
             self.pack(rng, name, *texts.records_case(seed, number))
             self.unpack(rng, name, *texts.sheet_case(seed, number))
@@ -184,7 +184,7 @@ class Comparison:
             self.map_names(rng, name, text, lengths)
             print(f"{name}: {len(text)} bytes, number {wanted.number}, {len(wanted.records)} records")
             if wanted.records:
-                self.pack(rng, name, wanted.records, 4 + 5 * len(wanted.records))
+                self.pack(rng, name, wanted.records, 4 + 7 * len(wanted.records))
                 self.read(rng, name + " short", text, lengths, sum(lengths), len(wanted.records) - 1)
 
 

@@ -119,9 +119,9 @@ class Document:
         models = min(total, rng.choice([1, 2, 2, 3, 4, 6, rng.randint(1, 64)]))
         cuts = sorted(rng.sample(range(1, total), models - 1))
         pairs = rng.sample([(kind, name) for kind in "SV" for name in STRUCTURES], models)
-        axes = [rng.choice([1, 2, 8, rng.randint(1, most), most]) for most in (2048, 2048, 4096)]
+        axes = [rng.choice([1, 2, 8, rng.randint(1, 2048), rng.randint(1, 65536), 65536]) for _ in range(3)]
         while axes[0] * axes[1] * axes[2] < 2 * total:
-            axes = [min(2048, 2 * axes[0]), min(2048, 2 * axes[1]), min(4096, 2 * axes[2])]
+            axes = [min(65536, 2 * axis) for axis in axes]
         voxels = iter(rng.sample(range(axes[0] * axes[1] * axes[2]), total))
         children = []
         for begin, end, (kind, name) in zip([0] + cuts, cuts + [total], pairs):

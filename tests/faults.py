@@ -135,7 +135,7 @@ def written_power_only(o):
 
 def limit_off_by_one(o):
     whole = o.rules.volume_dimensions
-    o.rules.volume_dimensions = lambda word: whole(word.replace(b"4097", b"4096"))
+    o.rules.volume_dimensions = lambda word: whole(word.replace(b"65537", b"65536"))
 
 
 def name_past_nine(o):

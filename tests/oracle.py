@@ -77,17 +77,17 @@ def check_inside(one):
 
 
 def model_records(model):
-    front = ((model.type == "V") << 5 | model.structure) << 34
+    front = ((model.type == "V") << 5 | model.structure) << 48
     if model.type == "S":
         return [front | vertex for vertex in model.numbers]
-    return [front | i << 23 | j << 12 | k for i, j, k in
+    return [front | i << 32 | j << 16 | k for i, j, k in
             zip(model.numbers[0::3], model.numbers[1::3], model.numbers[2::3])]
 
 
 def location(record):
     """What may not come twice in a map: for a voxel the structure does not count."""
-    if record >> 39:
-        return 1 << 39 | record & (1 << 34) - 1
+    if record >> 53:
+        return 1 << 53 | record & (1 << 48) - 1
     return record
 
 
@@ -162,9 +162,9 @@ def find(records, number):
 # ------------------------------------------------------------------ the sheet
 
 def legal(record):
-    if record >= 1 << 40:
+    if record >= 1 << 54:
         return False
-    return bool(record >> 39) or record & (1 << 34) - 1 <= VERTEX_LIMIT
+    return bool(record >> 53) or record & (1 << 48) - 1 <= VERTEX_LIMIT
 
 
 def pack(records, room=None):
@@ -173,19 +173,34 @@ def pack(records, room=None):
         return 15, b""
     if not all(map(legal, records)):
         return 16, b""
-    if room is not None and room < 4 + 5 * len(records):
+    if room is not None and room < 4 + 7 * len(records):
         return 17, b""
-    return 0, b"\x05" + len(records).to_bytes(3, "big") + b"".join(r.to_bytes(5, "big") for r in records)
+    return 0, b"\x07" + len(records).to_bytes(3, "big") + b"".join((r << 2).to_bytes(7, "big") for r in records)
+
+
+def from_five(word):
+    """The record of the location that 5 bytes name: flag 1, structure 5, then a vertex, or i in 11 bits, j in 11, k in 12."""
+    flag, structure, payload = word >> 39, word >> 34 & 31, word & (1 << 34) - 1
+    if flag:
+        i, j, k = payload >> 23, payload >> 12 & 2047, payload & 4095
+        payload = i << 32 | j << 16 | k
+    return flag << 53 | structure << 48 | payload
+
+
+def from_seven(word):
+    """The record of 7 bytes; a number that is no record where an end bit is not zero."""
+    return 1 << 54 if word & 3 else word >> 2
 
 
 def unpack(sheet, room=None):
     """(number, the records); room is the length of the slice lent for them."""
-    if len(sheet) < 4 or sheet[0] != 5:
+    if len(sheet) < 4 or sheet[0] not in (5, 7):
         return 15, []
-    count = int.from_bytes(sheet[1:4], "big")
-    if not 1 <= count <= LENGTH_LIMIT or len(sheet) != 4 + 5 * count:
+    width, count = sheet[0], int.from_bytes(sheet[1:4], "big")
+    if not 1 <= count <= LENGTH_LIMIT or len(sheet) != 4 + width * count:
         return 15, []
-    records = [int.from_bytes(sheet[at:at + 5], "big") for at in range(4, len(sheet), 5)]
+    words = [int.from_bytes(sheet[at:at + width], "big") for at in range(4, len(sheet), width)]
+    records = [from_five(w) if width == 5 else from_seven(w) for w in words]
     if not all(map(legal, records)):
         return 16, []
     if room is not None and room < count:
@@ -201,9 +216,9 @@ LENGTHS_LINE = re.compile(rb"([0-9]{1,7}(?:,[0-9]{1,7})*)\n")
 
 
 def record_line(index, record):
-    structure, payload = record >> 34 & 31, record & (1 << 34) - 1
-    if record >> 39:
-        return f"{index} V {structure} {payload >> 23} {payload >> 12 & 2047} {payload & 4095}"
+    structure, payload = record >> 48 & 31, record & (1 << 48) - 1
+    if record >> 53:
+        return f"{index} V {structure} {payload >> 32} {payload >> 16 & 65535} {payload & 65535}"
     return f"{index} S {structure} {payload}"
 
 

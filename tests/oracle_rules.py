@@ -6,7 +6,8 @@ from oracle_markup import BLANKS, Refused
 
 LENGTH_LIMIT = 1048576
 VERTEX_LIMIT = 1048575
-VOXEL_LIMIT = 4095
+VOXEL_LIMIT = 65535
+VOLUME_LIMIT = 65536
 
 # ---------------------------------------------------------- elements, rule 6
 
@@ -181,7 +182,7 @@ def volume_dimensions(word):
     parts = word.split(b",")
     if len(parts) != 3:
         raise not_a_number("VolumeDimensions")
-    return tuple(whole(p, 1, most) for p, most in zip(parts, (2048, 2048, 4096)))
+    return tuple(whole(p, 1, VOLUME_LIMIT) for p in parts)
 
 
 def words(text):

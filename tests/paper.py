@@ -26,8 +26,9 @@ CASE_A = (
     b'</MatrixIndicesMap></Matrix></CIFTI>')
 MODELS_A = b"model 0 S 18 CORTEX_RIGHT 2 0\nmodel 0 V 6 BRAIN_STEM 1 2\n"
 CARD_A = b"ok\n0 scalars 2\n1 brain 3 0\n0 S 18 4\n1 S 18 1\n2 V 6 2 3 5\n"
-SHEET_A = bytes.fromhex("05 00 00 03 48 00 00 00 04 48 00 00 00 01 98 01 00 30 05")
-RECORDS_A = [18 << 34 | 4, 18 << 34 | 1, 1 << 39 | 6 << 34 | 2 << 23 | 3 << 12 | 5]
+SHEET_A = bytes.fromhex("07 00 00 03 48 00 00 00 00 00 10 48 00 00 00 00 00 04 98 00 08 00 0c 00 14")
+SHEET_OF_FIVE = bytes.fromhex("05 00 00 03 48 00 00 00 04 48 00 00 00 01 98 01 00 30 05")
+RECORDS_A = [18 << 48 | 4, 18 << 48 | 1, 1 << 53 | 6 << 48 | 2 << 32 | 3 << 16 | 5]
 
 
 def with_a(old, new):
@@ -66,7 +67,7 @@ def by_oracle():
         yield "oracle, card of A"
     if oracle.read(CASE_A, [2, 3], 3, 3).records != RECORDS_A:
         yield "oracle, records of A"
-    if oracle.pack(RECORDS_A) != (0, SHEET_A) or oracle.unpack(SHEET_A) != (0, RECORDS_A):
+    if oracle.pack(RECORDS_A) != (0, SHEET_A) or oracle.unpack(SHEET_A) != (0, RECORDS_A) or oracle.unpack(SHEET_OF_FIVE) != (0, RECORDS_A):
         yield "oracle, P2"
     if oracle.markup.document(b"<a>&amp;lt;</a>").text() != b"&lt;":
         yield "oracle, P5"
@@ -95,7 +96,7 @@ def by_library():
             yield f"library, {word} of A"
     if dzwonolin.read(CASE_A, [2, 3]).records != RECORDS_A:
         yield "library, records of A"
-    if dzwonolin.pack(RECORDS_A) != (0, SHEET_A) or dzwonolin.unpack(SHEET_A) != (0, RECORDS_A):
+    if dzwonolin.pack(RECORDS_A) != (0, SHEET_A) or {dzwonolin.unpack(s)[1] == RECORDS_A for s in (SHEET_A, SHEET_OF_FIVE)} != {True}:
         yield "library, P2"
     names = [dzwonolin.map_name(CASE_A, [2, 3], 0, n) for n in range(3)]
     if names != [(0, b"a"), (0, b"b"), (18, b"")]:

@@ -176,17 +176,17 @@ def questions(rng, lengths):
 
 # ------------------------------------------------------------ records and sheets
 
-def record(rng):
-    """Legal mostly, some just over a limit."""
+def record(rng, bits=48):
+    """Legal mostly, some just over a limit; with so many bits of payload."""
     structure = rng.randrange(32)
     if rng.random() < 0.5:
         payload = rng.choice([rng.randrange(1048576), 1048575, 0])
         if rng.random() < 0.03:
-            payload = rng.choice([1048576, rng.randrange(1 << 34), (1 << 34) - 1])
-        return structure << 34 | payload
-    value = 1 << 39 | structure << 34 | rng.choice([rng.randrange(1 << 34), (1 << 34) - 1, 0])
+            payload = rng.choice([1048576, rng.randrange(1 << bits), (1 << bits) - 1])
+        return structure << bits | payload
+    value = 1 << bits + 5 | structure << bits | rng.choice([rng.randrange(1 << bits), (1 << bits) - 1, 0])
     if rng.random() < 0.02:
-        return rng.choice([value + (1 << 40), 1 << 40, (1 << 64) - 1, 1 << 63])
+        return rng.choice([value + (1 << bits + 6), 1 << bits + 6, (1 << 64) - 1, 1 << 63])
     return value
 
 
@@ -195,7 +195,7 @@ def records_case(seed, number):
     rng = random.Random(f"{seed}/records/{number}")
     count = rng.choice([0, 1, 1, 2, 3, 10, 40])
     records = [record(rng) for _ in range(count)]
-    need = 4 + 5 * count
+    need = 4 + 7 * count
     return records, max(0, need + rng.choice([0, 0, 0, 1, 7, -1, -5, -need]))
 
 
@@ -203,10 +203,12 @@ def sheet_case(seed, number):
     """(sheet, room for the records)."""
     rng = random.Random(f"{seed}/sheet/{number}")
     count = rng.choice([0, 1, 1, 2, 3, 10, 40])
-    records = [record(rng) % (1 << 40) for _ in range(count)]
+    width, payload, ends = rng.choice([(5, 34, 0), (7, 48, 2)])
+    words = [record(rng, payload) % (1 << payload + 6) << ends for _ in range(count)]
+    words = [word | rng.randrange(1, 4) if ends and rng.random() < 0.01 else word for word in words]
     told = count + (rng.choice([-1, 1, 1048576, -count]) if rng.random() < 0.15 else 0)
-    sheet = bytes([5 if rng.random() < 0.95 else rng.choice([0, 4, 6, 7, 255])]) + max(0, told).to_bytes(3, "big")
-    sheet += b"".join(r.to_bytes(5, "big") for r in records)
+    sheet = bytes([width if rng.random() < 0.95 else rng.choice([0, 4, 5, 6, 7, 255])]) + max(0, told).to_bytes(3, "big")
+    sheet += b"".join(word.to_bytes(width, "big") for word in words)
     way = rng.random()
     if way < 0.06:
         sheet = sheet[:rng.randrange(len(sheet) + 1)]

@@ -16,32 +16,51 @@ uint64_t bench_repeats(uint64_t *work, size_t room, size_t count);
 typedef std::vector<uint64_t> Numbers;
 static const uint64_t one = 1;
 
-static bool legal(uint64_t r) { return r >> 39 ? !(r >> 40) : (r & ((one << 34) - 1)) < 1048576; }
+static bool legal(uint64_t r) { return r >> 53 ? !(r >> 54) : (r & ((one << 48) - 1)) < 1048576; }
+static bool legal_five(uint64_t r) { return r >> 39 || (r & ((one << 34) - 1)) < 1048576; }
 
 static uint64_t five(const uint8_t *p) {
   return (uint64_t)p[0] << 32 | (uint64_t)p[1] << 24 | (uint64_t)p[2] << 16 | (uint64_t)p[3] << 8 | p[4];
+}
+
+static uint64_t seven(const uint8_t *p) { return (uint64_t)p[0] << 48 | (uint64_t)p[1] << 40 | five(p + 2); }
+
+static uint64_t widen(uint64_t r) {
+  uint64_t front = (r >> 34) << 48;
+  return r >> 39 ? front | (r >> 23 & 2047) << 32 | (r >> 12 & 2047) << 16 | (r & 4095) : front | (r & ((one << 34) - 1));
 }
 
 static size_t plain_pack(const uint64_t *r, size_t n, uint8_t *s, size_t room) {
   if (n == 0 || n > 1048576) return 0;
   for (size_t i = 0; i < n; i++)
     if (!legal(r[i])) return 0;
-  if (room < 4 + 5 * n) return 0;
-  s[0] = 5, s[1] = n >> 16, s[2] = n >> 8, s[3] = n;
+  if (room < 4 + 7 * n) return 0;
+  s[0] = 7, s[1] = n >> 16, s[2] = n >> 8, s[3] = n;
   uint8_t *p = s + 4;
-  for (size_t i = 0; i < n; i++, p += 5)
-    p[0] = r[i] >> 32, p[1] = r[i] >> 24, p[2] = r[i] >> 16, p[3] = r[i] >> 8, p[4] = r[i];
-  return 4 + 5 * n;
+  for (size_t i = 0; i < n; i++, p += 7) {
+    uint64_t w = r[i] << 2;
+    p[0] = w >> 48, p[1] = w >> 40, p[2] = w >> 32, p[3] = w >> 24, p[4] = w >> 16, p[5] = w >> 8, p[6] = w;
+  }
+  return 4 + 7 * n;
 }
 
 static size_t plain_unpack(const uint8_t *s, size_t size, uint64_t *r, size_t room) {
-  if (size < 4 || s[0] != 5) return 0;
+  if (size < 4 || (s[0] != 5 && s[0] != 7)) return 0;
   size_t n = s[1] << 16 | s[2] << 8 | s[3];
-  if (n == 0 || n > 1048576 || size != 4 + 5 * n) return 0;
-  for (size_t i = 0; i < n; i++)
-    if (!legal(five(s + 4 + 5 * i))) return 0;
+  if (n == 0 || n > 1048576 || size != 4 + s[0] * n) return 0;
+  if (s[0] == 5) {
+    for (size_t i = 0; i < n; i++)
+      if (!legal_five(five(s + 4 + 5 * i))) return 0;
+    if (room < n) return 0;
+    for (size_t i = 0; i < n; i++) r[i] = widen(five(s + 4 + 5 * i));
+    return n;
+  }
+  for (size_t i = 0; i < n; i++) {
+    uint64_t w = seven(s + 4 + 7 * i);
+    if (w & 3 || !legal(w >> 2)) return 0;
+  }
   if (room < n) return 0;
-  for (size_t i = 0; i < n; i++) r[i] = five(s + 4 + 5 * i);
+  for (size_t i = 0; i < n; i++) r[i] = seven(s + 4 + 7 * i) >> 2;
   return n;
 }
 
@@ -78,17 +97,27 @@ static uint64_t next() { return seed ^= seed << 13, seed ^= seed >> 7, seed ^= s
 
 static void sheets(size_t n) {
   Numbers records(n), back(n), again(n);
-  for (auto &r : records) r = next() & 1 ? one << 39 | (next() & ((one << 39) - 1)) : (next() & 31) << 34 | (next() & 1048575);
-  std::vector<uint8_t> ours(4 + 5 * n), theirs(4 + 5 * n);
+  std::vector<uint8_t> ours(4 + 7 * n), theirs(4 + 7 * n), old(4 + 5 * n);
+  old[0] = 5, old[1] = n >> 16, old[2] = n >> 8, old[3] = n;
+  for (size_t i = 0; i < n; i++) {
+    uint64_t r = next() & 1 ? one << 39 | (next() & ((one << 39) - 1)) : (next() & 31) << 34 | (next() & 1048575);
+    for (int b = 0; b < 5; b++) old[4 + 5 * i + b] = r >> (32 - 8 * b);
+    records[i] = widen(r);
+  }
   size_t wrote = 0, read = 0;
   double a = best([] {}, [&] { wrote = bench_pack(records.data(), n, ours.data(), ours.size()); });
   double b = best([] {}, [&] { plain_pack(records.data(), n, theirs.data(), theirs.size()); });
   double c = best([] {}, [&] { read = bench_unpack(ours.data(), ours.size(), back.data(), n); });
   double d = best([] {}, [&] { plain_unpack(theirs.data(), theirs.size(), again.data(), n); });
   if (wrote != ours.size() || ours != theirs || read != n || back != records || again != records) printf("WRONG\n"), exit(1);
+  std::fill(back.begin(), back.end(), 0), std::fill(again.begin(), again.end(), 0);
+  double e = best([] {}, [&] { read = bench_unpack(old.data(), old.size(), back.data(), n); });
+  double f = best([] {}, [&] { plain_unpack(old.data(), old.size(), again.data(), n); });
+  if (read != n || back != records || again != records) printf("WRONG\n"), exit(1);
   char name[64];
   snprintf(name, sizeof name, "pack %zu", n), row(name, a, b);
   snprintf(name, sizeof name, "unpack %zu", n), row(name, c, d);
+  snprintf(name, sizeof name, "unpack %zu, 5 bytes each", n), row(name, e, f);
 }
 
 static void repeats(const char *what, const Numbers &keys, uint64_t wanted) {
@@ -120,10 +149,10 @@ int main() {
     repeats("ascending, the last two exchanged", keys(n, [](size_t i, size_t n) { return (uint64_t)(i + 2 == n ? n - 1 : i + 1 == n ? n - 2 : i); }), 0);
     repeats("descending, the last two exchanged", keys(n, [](size_t i, size_t n) { return (uint64_t)(i + 2 == n ? 0 : i + 1 == n ? 1 : n - 1 - i); }), 0);
     repeats("two ascending runs, interleaved", keys(n, [](size_t i, size_t n) { return (uint64_t)(i < n / 2 ? 2 * i + 1 : 2 * (i - n / 2)); }), 0);
-    repeats("steps of 7919", keys(n, [](size_t i, size_t n) { return (uint64_t)(17 * one << 34) + i * 7919 % n; }), 0);
-    repeats("powers of two far apart", keys(n, [](size_t i, size_t) { return (uint64_t)(one << (i % 40)) + i / 40 * (i % 2); }), 14);
-    repeats("half near 0, half near 2^40", keys(n, [](size_t i, size_t n) { return (i & 1) ? (one << 40) - 1 - i : i * 7919 % n * 2; }), 0);
-    repeats("one cortex, one volume", keys(n, [](size_t i, size_t n) { uint64_t v = i * 7919 % n; return i < n / 2 ? (17 * one << 34) + i : (one << 39) + (v % 101 << 23 | v / 101 % 107 << 12 | v / 101 / 107); }), 0);
+    repeats("steps of 7919", keys(n, [](size_t i, size_t n) { return (uint64_t)(17 * one << 48) + i * 7919 % n; }), 0);
+    repeats("powers of two far apart", keys(n, [](size_t i, size_t) { return (uint64_t)(one << (i % 54)) + i / 54 * (i % 2); }), 14);
+    repeats("half near 0, half near 2^54", keys(n, [](size_t i, size_t n) { return (i & 1) ? (one << 54) - 1 - i : i * 7919 % n * 2; }), 0);
+    repeats("one cortex, one volume", keys(n, [](size_t i, size_t n) { uint64_t v = i * 7919 % n; return i < n / 2 ? (17 * one << 48) + i : (one << 53) + (v % 101 << 32 | v / 101 % 107 << 16 | v / 101 / 107); }), 0);
     repeats("near 0, and one at each power of 2", keys(n, [](size_t i, size_t n) { return i < 43 ? one << (21 + i) : i * 7919 % n; }), 0);
     Numbers last = random;
     last[n - 1] = last[0];
