@@ -58,14 +58,13 @@ pub fn k_of(r: u64) -> u64
     r % 65_536
 }
 
+// The bits too many, and those of a vertex number that is too large: one sum, so that no branch goes by the kind of the record.
 pub fn legal(r: u64) -> bool
     ensures { λ ok. ⌜ ok ≡ legalRecord r ⌝ }
 {
-    if r < 9_007_199_254_740_992 {
-        r % 281_474_976_710_656 <= 1_048_575
-    } else {
-        r < 18_014_398_509_481_984
-    }
+    r / 18_014_398_509_481_984
+        + (1 - r / 9_007_199_254_740_992 % 2) * (r % 281_474_976_710_656 / 1_048_576)
+        == 0
 }
 
 // What two records share exactly where they name the same vertex of a structure, or the same voxel.

@@ -27,10 +27,10 @@ unfolding locationIn isVoxelIn structureIn payloadIn bits parted
 surface r h = whole r _ (rw (ne-eqb (r / 2 ^ 39 % 2) 1 h, div-one))
 
 returns : tie.Need-returns
-returns c = c .voxel-record .ensures ∙ volume _ (c .before .if1 .taken)
+returns c = c .before .before .voxel-record .ensures ∙ volume _ (c .if1 .taken)
 
 returns-2 : tie.Need-returns-2
-returns-2 c = c .surface-record .ensures ∙ surface _ (c .before .if1 .left)
+returns-2 c = c .before .surface-record .ensures ∙ surface _ (c .if1 .left)
 
 pub widen-spec : {M : Type 1} → statement M
 widen-spec = tie.close (tie.spec (λ c κs. search needs) (λ c κs. search needs) returns returns-2)

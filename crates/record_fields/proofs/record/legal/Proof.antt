@@ -1,8 +1,16 @@
 -- `record_fields::record::legal` meets its contract. Assumes nothing.
+use Prim.Native.Nat.{_/_, _%_, _^_}
 use Rattle.records.specs.Laws.Record.{seven-sound}
-use Rattle.records.specs.Laws.Widths.{legal-low, legal-high}
+use Rattle.record_fields.specs.Laws.Sums.{once, legal-sum}
+use native.Mathlib.Omega.{arith}
 use Rattle.record_fields.proofs.record.legal.Statement.{statement}
 use Rattle.record_fields.proofs.record.legal.Tie as tie
 
+mul-result : tie.Need-mul-result
+mul-result c = let r = c .args .r in omega (arith, once (r / 2 ^ 53 % 2) (r % 2 ^ 48 / 1048576))
+
+add-result : tie.Need-add-result
+add-result c = let r = c .args .r in omega (arith, once (r / 2 ^ 53 % 2) (r % 2 ^ 48 / 1048576))
+
 pub legal-spec : {M : Type 1} → statement M
-legal-spec = tie.close (tie.spec (λ c. legal-low seven-sound _ (c .if1 .taken)) (λ c. legal-high seven-sound _ (c .if1 .left)))
+legal-spec = tie.close (tie.spec (λ c. omega arith) mul-result add-result (λ c. legal-sum seven-sound (c .args .r)))
