@@ -1,0 +1,5 @@
+pub mod Fields
+pub mod Lists
+pub mod File
+pub mod Header
+pub mod Walk

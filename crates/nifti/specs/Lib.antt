@@ -1,0 +1,6 @@
+pub mod Fields
+pub mod Extensions
+pub mod File
+pub mod Model
+pub mod Laws
+pub mod Tests
