@@ -125,9 +125,9 @@ module _ (o : Order) (e : Extension) (g : Good e) (t : List ℕ) where
       ∙ number-past o 4 0 (field o 4 (sizeOf e)) ((field o 4 (e .code) ++ e .body) ++ t)
       ∙ rw append-assoc (number-first o 4 (e .code) (e .body ++ t) (g .coded))
 
-  behind : drop 8 (written o e ++ t) ≡ e .body ++ t
+  pub behind-eight : drop 8 (written o e ++ t) ≡ e .body ++ t
   unfolding written
-  behind =
+  behind-eight =
       let a = length-field o 4 (sizeOf e) in
       let b = length-field o 4 (e .code) in
       let c = length-append (field o 4 (sizeOf e)) (field o 4 (e .code)) in
@@ -138,7 +138,7 @@ module _ (o : Order) (e : Extension) (g : Good e) (t : List ℕ) where
   unfolding sizeOf
   body-read =
       let p : sizeOf e - 8 ≡ length (e .body) = omega arith in
-      rw (size-read, behind, p) (take-append-seam (e .body) t)
+      rw (size-read, behind-eight, p) (take-append-seam (e .body) t)
 
   pub read-back : extensionIn o (written o e ++ t) ≡ e
   unfolding extensionIn
@@ -166,29 +166,30 @@ list-unique h k = let p = list-found h in let q = list-found k in cc
 
 -- ---- What is found is written.
 
-module _ (o : Order) (s : List ℕ) (b : Below 256 s) (f : Fits (numberAt o 4 0 s) (length s)) where
+module _ (o : Order) (s : List ℕ) (f : Fits (numberAt o 4 0 s) (length s)) where
   long : 16 ≤ length s
   long = let l = f .low in let i = f .inside in omega arith
 
-  body-length : length (take (numberAt o 4 0 s - 8) (drop 8 s)) ≡ numberAt o 4 0 s - 8
+  pub body-length : length (take (numberAt o 4 0 s - 8) (drop 8 s)) ≡ numberAt o 4 0 s - 8
   body-length =
       let u = length-drop 8 s in
       let i = f .inside in
       let l = f .low in
       length-take-le (numberAt o 4 0 s - 8) (drop 8 s) (omega arith)
 
-  size-is : sizeOf (extensionIn o s) ≡ numberAt o 4 0 s
+  pub size-is : sizeOf (extensionIn o s) ≡ numberAt o 4 0 s
   unfolding sizeOf extensionIn
   size-is = let e = body-length in let l = f .low in omega arith
 
+module _ (o : Order) (s : List ℕ) (b : Below 256 s) (f : Fits (numberAt o 4 0 s) (length s)) where
   found-good : Good (extensionIn o s)
   unfolding extensionIn
   found-good =
-      let e = size-is in
+      let e = size-is o s f in
       let l = f .low in
       let h = f .high in
       let u = length-drop 4 s in
-      let k = long in
+      let k = long o s f in
       record {
         whole = rw e (f .whole);
         low = omega arith;
@@ -200,11 +201,11 @@ module _ (o : Order) (s : List ℕ) (b : Below 256 s) (f : Fits (numberAt o 4 0 
   unfolding written extensionIn
   found-bytes =
       let u = length-drop 4 s in
-      let k = long in
+      let k = long o s f in
       let l = f .low in
       let n : ℕ = numberAt o 4 0 s in
       let p : 4 + (4 + (n - 8)) ≡ n = omega arith in
-      let size : field o 4 (sizeOf (extensionIn o s)) ≡ take 4 s = ap (field o 4) size-is ∙ field-of o 4 s b (omega arith) in
+      let size : field o 4 (sizeOf (extensionIn o s)) ≡ take 4 s = ap (field o 4) (size-is o s f) ∙ field-of o 4 s b (omega arith) in
       let code : field o 4 (numberAt o 4 4 s) ≡ take 4 (drop 4 s) =
       ap (field o 4) (number-drop o 4 4 s) ∙ field-of o 4 (drop 4 s) (drop-below 256 4 s b) (omega arith) in
       let whole : take 4 s ++ (take 4 (drop 4 s) ++ take (n - 8) (drop 8 s)) ≡ take n s =
