@@ -1,20 +1,20 @@
 -- THE FIELDS OF THE HEADER, AS CODE READS THEM: each test of the conditions by the bits of its field. Assumes nothing.
 use mathlib.Core.Path.{_≡_, refl, sym, ap, _∙_}
 use mathlib.Core.List.{List, [], _∷_, _++_, reverse}
-use mathlib.Core.Bool.{Bool, true, false, _&&_, cond}
-use Prim.Native.Nat.{ℕ, zero, suc, _+_, _*_, _≤_, _<_}
+use mathlib.Core.Bool.{Bool, true, false, _&&_, not, cond}
+use Prim.Native.Nat.{ℕ, zero, suc, _+_, _-_, _*_, _^_, _≤_, _<_}
 use native.Mathlib.Omega.{arith}
 use native.Mathlib.Numerals.{add-one}
 use lib.Dec.{eqb, leb, ltb}
 use lib.ListN.{length, getD, take, drop}
 use lib.Seq.{drop-cons, take-add, drop-drop}
-use borrow.Author.Tests.{lt-ltb, le-ltb, le-leb, lt-leb, eq-eqb, ne-eqb}
+use borrow.Author.Tests.{lt-ltb, le-ltb, le-leb, lt-leb, eq-eqb, ne-eqb, not-true, not-false}
 use Rattle.lists.specs.Lists.{allBelow}
 use Rattle.records.specs.Bytes.{numberWritten, byteWords}
 use Rattle.nifti.specs.Fields.{ordered, numberAt, signed, isNumber, atLeast, natural}
 use Rattle.nifti.specs.Extensions.{withoutZeros}
 use Rattle.nifti.specs.File.{orderOf, dim, offset, sizeStands, magicAt, offsetStands, frontStands, lengthCount, oneAt, lengthStands}
-use Rattle.nifti.specs.File.{dimsStand, lengthAt, frontWith}
+use Rattle.nifti.specs.File.{dimsStand, lengthAt, frontWith, magic}
 use Rattle.nifti.specs.Laws.Fields.{least-signed, is-bits, natural-signed}
 use Rattle.nifti.specs.declared.Order.{Order}
 use Rattle.nifti.specs.declared.Order.the-variants.{MostFirst, LeastFirst}
@@ -24,6 +24,20 @@ use Rattle.nifti.specs.declared.Front.{Front}
 pub record Told (file : List ℕ) (o : Order) : Type 0 where
   pub long : 544 ≤ length file
   pub is : o ≡ orderOf file
+
+-- and a place among the lengths; a number of lengths; a place, and how many lengths there are
+pub record Asked (file : List ℕ) (o : Order) (i : ℕ) : Type 0 where
+  pub told : Told file o
+  pub small : i < 3
+
+pub record Counted (file : List ℕ) (o : Order) (count : ℕ) : Type 0 where
+  pub told : Told file o
+  pub few : count ≤ 3
+
+pub record Looked (file : List ℕ) (o : Order) (count i : ℕ) : Type 0 where
+  pub told : Told file o
+  pub counted : count ≡ lengthCount file
+  pub small : i < 3
 
 -- the answer of a file that is not refused, by the place of the body
 unfoldable pub acceptedWith : List ℕ → (start size : ℕ) → Front
@@ -48,15 +62,18 @@ take-four s at h =
     r₀ ∙ ap (λ l. getD s at 0 ∷ l) (r₁ ∙ ap (λ l. getD s (at + 1) 0 ∷ l)
     (ap (λ k. take 2 (drop k s)) p ∙ r₂ ∙ ap (λ l. getD s (at + 2) 0 ∷ l) (ap (λ k. take 1 (drop k s)) q ∙ r₃)))
 
-pub four-most : (s : List ℕ) (at : ℕ) → at + 4 ≤ length s
-    → numberWritten (getD s at 0 ∷ getD s (at + 1) 0 ∷ getD s (at + 2) 0 ∷ getD s (at + 3) 0 ∷ []) ≡ numberAt MostFirst 4 at s
-unfolding numberAt ordered
-four-most s at h = sym (ap numberWritten (take-four s at h))
+module _ {o : Order} (s : List ℕ) (at : ℕ) {r : ℕ} where
+  pub four-most : o ≡ MostFirst → at + 4 ≤ length s
+      → (r ≡ numberWritten (getD s at 0 ∷ getD s (at + 1) 0 ∷ getD s (at + 2) 0 ∷ getD s (at + 3) 0 ∷ [])) × (r < 2 ^ 32)
+      → (r ≡ numberAt o 4 at s) × (r < 2 ^ 32)
+  unfolding numberAt ordered
+  four-most m h (e, k) = (rw m (e ∙ sym (ap numberWritten (take-four s at h))), k)
 
-pub four-least : (s : List ℕ) (at : ℕ) → at + 4 ≤ length s
-    → numberWritten (getD s (at + 3) 0 ∷ getD s (at + 2) 0 ∷ getD s (at + 1) 0 ∷ getD s at 0 ∷ []) ≡ numberAt LeastFirst 4 at s
-unfolding numberAt ordered
-four-least s at h = sym (ap (λ l. numberWritten (reverse l)) (take-four s at h))
+  pub four-least : o ≡ LeastFirst → at + 4 ≤ length s
+      → (r ≡ numberWritten (getD s (at + 3) 0 ∷ getD s (at + 2) 0 ∷ getD s (at + 1) 0 ∷ getD s at 0 ∷ [])) × (r < 2 ^ 32)
+      → (r ≡ numberAt o 4 at s) × (r < 2 ^ 32)
+  unfolding numberAt ordered
+  four-least m h (e, k) = (rw m (e ∙ sym (ap (λ l. numberWritten (reverse l)) (take-four s at h))), k)
 
 -- two numbers of four bytes in a row
 two-fours : (a b c d e f g h : ℕ) → numberWritten (a ∷ b ∷ c ∷ d ∷ e ∷ f ∷ g ∷ h ∷ [])
@@ -72,13 +89,22 @@ module _ (s : List ℕ) (at : ℕ) (long : at + 8 ≤ length s) where
       × (take 4 (drop (at + 4) s) ≡ getD s (at + 4) 0 ∷ getD s (at + 4 + 1) 0 ∷ getD s (at + 4 + 2) 0 ∷ getD s (at + 4 + 3) 0 ∷ []))
   fours = (take-four s at (omega arith), take-four s (at + 4) (omega arith))
 
-  pub eight-most : numberAt MostFirst 4 at s * 4294967296 + numberAt MostFirst 4 (at + 4) s ≡ numberAt MostFirst 8 at s
+  most-eight : numberAt MostFirst 4 at s * 4294967296 + numberAt MostFirst 4 (at + 4) s ≡ numberAt MostFirst 8 at s
   unfolding numberAt ordered
-  eight-most = rw (take-eight, fours .0, fours .1) (sym (two-fours _ _ _ _ _ _ _ _))
+  most-eight = rw (take-eight, fours .0, fours .1) (sym (two-fours _ _ _ _ _ _ _ _))
 
-  pub eight-least : numberAt LeastFirst 4 (at + 4) s * 4294967296 + numberAt LeastFirst 4 at s ≡ numberAt LeastFirst 8 at s
+  least-eight : numberAt LeastFirst 4 (at + 4) s * 4294967296 + numberAt LeastFirst 4 at s ≡ numberAt LeastFirst 8 at s
   unfolding numberAt ordered
-  eight-least = rw (take-eight, fours .0, fours .1) (sym (two-fours _ _ _ _ _ _ _ _))
+  least-eight = rw (take-eight, fours .0, fours .1) (sym (two-fours _ _ _ _ _ _ _ _))
+
+module _ {o : Order} (s : List ℕ) (at : ℕ) {x y : ℕ} where
+  pub eight-most : o ≡ MostFirst → at + 8 ≤ length s → x ≡ numberAt o 4 at s → y ≡ numberAt o 4 (at + 4) s
+      → x * 4294967296 + y ≡ numberAt o 8 at s
+  eight-most m h p q = rw (p, q, m) (most-eight s at h)
+
+  pub eight-least : o ≡ LeastFirst → at + 8 ≤ length s → x ≡ numberAt o 4 at s → y ≡ numberAt o 4 (at + 4) s
+      → y * 4294967296 + x ≡ numberAt o 8 at s
+  eight-least m h p q = rw (p, q, m) (least-eight s at h)
 
 -- four bytes are below 2^32
 pub four-below : (a b c d : ℕ) → a < 256 → b < 256 → c < 256 → d < 256 → numberWritten (a ∷ b ∷ c ∷ d ∷ []) < 4294967296
@@ -112,9 +138,15 @@ module _ {file : List ℕ} {o : Order} (t : Told file o) where
   unfolding offsetStands
   offset-high {n} e h = sym (ap (atLeast 544) (offset-is e) ∙ least-signed 8 n 544 ∙ rw (le-ltb n 9223372036854775808 h))
 
-  pub one-test : (i : ℕ) {n : ℕ} → n ≡ numberAt o 8 (16 + 8 * (1 + i)) file → eqb n 1 ≡ oneAt file i
+  one-test : (i : ℕ) {n : ℕ} → n ≡ numberAt o 8 (16 + 8 * (1 + i)) file → eqb n 1 ≡ oneAt file i
   unfolding oneAt
   one-test i {n} e = sym (ap (isNumber 1) (dim-is (1 + i) e) ∙ is-bits 8 n 1 (omega arith))
+
+  pub one-yes : (i : ℕ) {n : ℕ} → n ≡ numberAt o 8 (16 + 8 * (1 + i)) file → n ≡ 1 → oneAt file i ≡ true
+  one-yes i {n} e h = sym (one-test i e) ∙ eq-eqb n 1 h
+
+  pub one-no : (i : ℕ) {n : ℕ} → n ≡ numberAt o 8 (16 + 8 * (1 + i)) file → (n ≡ 1 → ⊥) → oneAt file i ≡ false
+  one-no i {n} e h = sym (one-test i e) ∙ ne-eqb n 1 h
 
   pub length-low : (i : ℕ) {n : ℕ} → n ≡ numberAt o 8 (16 + 8 * (5 + i)) file → n < 9223372036854775808 → leb 1 n ≡ lengthStands file i
   unfolding lengthStands
@@ -144,24 +176,113 @@ module _ {file : List ℕ} {o : Order} (t : Told file o) where
   unfolding lengthAt
   length-is i {n} e h = rw (lt-ltb i (lengthCount file) h) (ap natural (dim-is (5 + i) e) ∙ natural-signed 8 n)
 
-  pub length-there : (i : ℕ) {n : ℕ} → n ≡ numberAt o 8 (16 + 8 * (5 + i)) file → i < lengthCount file → n < 9223372036854775808
-      → n ≡ lengthAt file i
-  length-there i {n} e h k = sym (length-is i e h ∙ rw (lt-ltb n 9223372036854775808 k))
+module _ {file : List ℕ} {o : Order} {count i : ℕ} (l : Looked file o count i) where
+  pub length-there : {n : ℕ} → n ≡ numberAt o 8 (16 + 8 * (5 + i)) file → i < count → n < 9223372036854775808 → n ≡ lengthAt file i
+  length-there {n} e h k = let c = l .counted in sym (length-is (l .told) i e (omega arith) ∙ rw (lt-ltb n 9223372036854775808 k))
 
-  pub length-negative : (i : ℕ) {n : ℕ} → n ≡ numberAt o 8 (16 + 8 * (5 + i)) file → i < lengthCount file → 9223372036854775808 ≤ n
-      → 0 ≡ lengthAt file i
-  length-negative i {n} e h k = sym (length-is i e h ∙ rw (le-ltb n 9223372036854775808 k))
+  pub length-negative : {n : ℕ} → n ≡ numberAt o 8 (16 + 8 * (5 + i)) file → i < count → 9223372036854775808 ≤ n → 0 ≡ lengthAt file i
+  length-negative {n} e h k = let c = l .counted in sym (length-is (l .told) i e (omega arith) ∙ rw (le-ltb n 9223372036854775808 k))
 
-pub length-none : (file : List ℕ) (i : ℕ) → lengthCount file ≤ i → 0 ≡ lengthAt file i
-unfolding lengthAt
-length-none file i h = sym (rw (le-ltb i (lengthCount file) h))
+  pub length-none : count ≤ i → 0 ≡ lengthAt file i
+  unfolding lengthAt
+  length-none h = let c = l .counted in let u : lengthCount file ≤ i = omega arith in sym (rw (le-ltb i (lengthCount file) u))
+
+pub looked : {file : List ℕ} {o : Order} {count i : ℕ} → Told file o → count ≡ lengthCount file → i < 3 → Looked file o count i
+looked t c h = record { told = t; counted = c; small = h }
+
+pub counted-so : {file : List ℕ} {o : Order} {count : ℕ} → Told file o → count ≡ lengthCount file → Counted file o count
+unfolding lengthCount
+counted-so {file} t c = record { told = t; few = rw c (go (isNumber 6 (dim file 0)) (isNumber 7 (dim file 0))) }
+  where
+    go : (a b : Bool) → cond a 2 (cond b 3 0) ≤ 3
+    go true b = omega arith
+    go false true = omega arith
+    go false false = omega arith
+
+pub asked-so : {file : List ℕ} {o : Order} {count i : ℕ} → Counted file o count → i < count → Asked file o i
+asked-so c h = let f = c .few in record { told = c .told; small = omega arith }
+
+-- ---- The magic, and all together.
+
+pub magic-yes : (file : List ℕ) (i : ℕ) → getD file (4 + i) 0 ≡ getD magic i 0 → magicAt file i ≡ true
+unfolding magicAt
+magic-yes file i e = eq-eqb _ _ e
+
+pub magic-no : (file : List ℕ) (i : ℕ) → (getD file (4 + i) 0 ≡ getD magic i 0 → ⊥) → magicAt file i ≡ false
+unfolding magicAt
+magic-no file i e = ne-eqb _ _ e
+
+module _ (file : List ℕ) {a : Bool} (p : a ≡ sizeStands file) where
+  pub front-unsized : a ≡ false → false ≡ frontStands file
+  unfolding frontStands
+  front-unsized h = sym (rw (sym p ∙ h))
+
+  module _ {b : Bool} (q : b ≡ allBelow 8 (magicAt file)) (h : a ≡ true) where
+    pub front-unmagic : b ≡ false → false ≡ frontStands file
+    unfolding frontStands
+    front-unmagic k = sym (rw (sym p ∙ h, sym q ∙ k))
+
+    pub front-rest : {r : Bool} → b ≡ true → r ≡ offsetStands file → r ≡ frontStands file
+    unfolding frontStands
+    front-rest k e = e ∙ sym (rw (sym p ∙ h, sym q ∙ k))
+
+module _ (file : List ℕ) {n : ℕ} (p : n ≡ lengthCount file) where
+  pub dims-none : n ≤ 0 → false ≡ dimsStand file
+  unfolding dimsStand
+  dims-none h = let u : lengthCount file ≤ 0 = omega arith in sym (rw (le-ltb 0 (lengthCount file) u))
+
+  module _ {b : Bool} (q : b ≡ allBelow 4 (oneAt file)) (h : 0 < n) where
+    some-lengths : ltb 0 (lengthCount file) ≡ true
+    some-lengths = let u : 0 < lengthCount file = omega arith in lt-ltb 0 (lengthCount file) u
+
+    pub dims-ones : b ≡ false → false ≡ dimsStand file
+    unfolding dimsStand
+    dims-ones k = sym (rw (some-lengths, sym q ∙ k))
+
+    pub dims-rest : {r : Bool} → b ≡ true → r ≡ allBelow n (lengthStands file) → r ≡ dimsStand file
+    unfolding dimsStand
+    dims-rest k e = e ∙ ap (λ m. allBelow m (lengthStands file)) p ∙ sym (rw (some-lengths, sym q ∙ k))
 
 -- ---- All below a number, from the last on.
 
-pub below-next : (p : ℕ → Bool) (n i : ℕ) → allBelow n p ≡ allBelow (i + 1) p → p i ≡ true → allBelow n p ≡ allBelow i p
-unfolding allBelow
-below-next p n i h e = h ∙ ap (λ k. allBelow k p) (add-one i) ∙ rw e
+pub record Down (p : ℕ → Bool) (most i : ℕ) : Type 0 where
+  pub few : i ≤ most
+  pub same : allBelow most p ≡ allBelow i p
 
-pub below-fails : (p : ℕ → Bool) (n i : ℕ) → allBelow n p ≡ allBelow (i + 1) p → p i ≡ false → false ≡ allBelow n p
-unfolding allBelow
-below-fails p n i h e = sym (h ∙ ap (λ k. allBelow k p) (add-one i) ∙ rw e)
+module _ (p : ℕ → Bool) (most : ℕ) where
+  pub down-begins : Down p most most
+  down-begins = record { few = omega arith; same = refl }
+
+  pub down-ends : {i : ℕ} → Down p most i → i ≤ 0 → true ≡ allBelow most p
+  unfolding allBelow
+  down-ends {i} d h = let z : i ≡ 0 = omega arith in sym (d .same ∙ rw z)
+
+  one-less : (i : ℕ) → 0 < i → allBelow i p ≡ (p (i - 1) && allBelow (i - 1) p)
+  unfolding allBelow
+  one-less zero h = absurd (omega arith)
+  one-less (suc i) h = let e : suc i - 1 ≡ i = omega arith in rw e
+
+  pub down-next : {i : ℕ} → Down p most i → 0 < i → p (i - 1) ≡ true → Down p most (i - 1)
+  down-next {i} d h e = let f = d .few in record { few = omega arith; same = d .same ∙ one-less i h ∙ rw e }
+
+  pub down-fails : {i : ℕ} → Down p most i → 0 < i → p (i - 1) ≡ false → false ≡ allBelow most p
+  down-fails {i} d h e = sym (d .same ∙ one-less i h ∙ rw e)
+
+-- a test that is answered
+pub told-yes : {b t : Bool} → b ≡ t → not b ≡ false → t ≡ true
+told-yes {b} e h = sym e ∙ not-false b h
+
+pub told-no : {b t : Bool} → b ≡ t → not b ≡ true → t ≡ false
+told-no {b} e h = sym e ∙ not-true b h
+
+pub ruleset counting-down = (down-begins, down-ends, down-next, down-fails)
+
+-- ---- The order.
+
+pub order-most : (file : List ℕ) {n : ℕ} → n ≡ numberAt MostFirst 4 0 file → n ≡ 540 → MostFirst ≡ orderOf file
+unfolding orderOf
+order-most file e h = sym (rw (eq-eqb (numberAt MostFirst 4 0 file) 540 (sym e ∙ h)))
+
+pub order-least : (file : List ℕ) {n : ℕ} → n ≡ numberAt MostFirst 4 0 file → (n ≡ 540 → ⊥) → LeastFirst ≡ orderOf file
+unfolding orderOf
+order-least file e h = sym (rw (ne-eqb (numberAt MostFirst 4 0 file) 540 (λ q. h (e ∙ q))))

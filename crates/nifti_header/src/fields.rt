@@ -14,7 +14,7 @@ fn joined(a: u8, b: u8, c: u8, d: u8) -> u64
     a as u64 * 16_777_216 + b as u64 * 65_536 + c as u64 * 256 + d as u64
 }
 
-pub(crate) fn four(file: &[u8], at: usize, order: Order) -> u64
+pub fn four(file: &[u8], at: usize, order: Order) -> u64
     requires { ⌜ at + 4 ≤ length (now file) ⌝ }
     ensures { λ r. ⌜ (r ≡ numberAt order 4 at (now (file .entry))) × (r < 2 ^ 32) ⌝ }
 {
@@ -24,7 +24,7 @@ pub(crate) fn four(file: &[u8], at: usize, order: Order) -> u64
     }
 }
 
-pub(crate) fn eight(file: &[u8], at: usize, order: Order) -> u64
+pub fn eight(file: &[u8], at: usize, order: Order) -> u64
     requires { ⌜ at + 8 ≤ length (now file) ⌝ }
     ensures { λ r. ⌜ r ≡ numberAt order 8 at (now (file .entry)) ⌝ }
 {

@@ -3,17 +3,17 @@ use super::fields::eight;
 use super::fields::four;
 use nifti::Order;
 ghost use mathlib.Core.Path.{_≡_};
-ghost use Prim.Native.Nat.{_≤_, _<_};
+ghost use Prim.Native.Nat.{_≤_};
 ghost use lib.ListN.{length};
 ghost use Rattle.lists.specs.Lists.{allBelow};
 ghost use Rattle.nifti.specs.File.{orderOf, sizeStands, magicAt, offsetStands, frontStands, oneAt, lengthStands, dimsStand};
 ghost use Rattle.nifti.specs.File.{lengthCount, lengthAt};
-ghost use Rattle.nifti.specs.Laws.Header.{Told};
+ghost use Rattle.nifti.specs.Laws.Header.{Told, Asked, Counted, Looked};
 
 const MAGIC: [u8; 8] = [110, 43, 50, 0, 13, 10, 26, 10];
 
 // Where the list begins.
-pub(crate) const LIST: usize = 544;
+pub const LIST: usize = 544;
 
 // The numbers of 64 bits from here on are negative.
 const HALF: u64 = 9_223_372_036_854_775_808;
@@ -22,7 +22,7 @@ const OFFSET: usize = 168;
 
 const DIMS: usize = 16;
 
-pub(crate) fn order_of(file: &[u8]) -> Order
+pub fn order_of(file: &[u8]) -> Order
     requires { ⌜ 544 ≤ length (now file) ⌝ }
     ensures { λ r. ⌜ r ≡ orderOf (now (file .entry)) ⌝ }
 {
@@ -61,7 +61,7 @@ fn offset_stands(file: &[u8], order: Order) -> bool
     if end < HALF { 544 <= end } else { false }
 }
 
-pub(crate) fn front_stands(file: &[u8], order: Order) -> bool
+pub fn front_stands(file: &[u8], order: Order) -> bool
     requires { ⌜ Told (now file) order ⌝ }
     ensures { λ r. ⌜ r ≡ frontStands (now (file .entry)) ⌝ }
 {
@@ -74,7 +74,7 @@ pub(crate) fn front_stands(file: &[u8], order: Order) -> bool
 }
 
 // As many as dim[0] says; 0 where it says another number.
-pub(crate) fn length_count(file: &[u8], order: Order) -> usize
+pub fn length_count(file: &[u8], order: Order) -> usize
     requires { ⌜ Told (now file) order ⌝ }
     ensures { λ r. ⌜ r ≡ lengthCount (now (file .entry)) ⌝ }
 {
@@ -101,7 +101,7 @@ fn ones_stand(file: &[u8], order: Order) -> bool
 }
 
 fn length_stands(file: &[u8], order: Order, i: usize) -> bool
-    requires { ⌜ Told (now file) order × (i < 3) ⌝ }
+    requires { ⌜ Asked (now file) order i ⌝ }
     ensures { λ r. ⌜ r ≡ lengthStands (now (file .entry)) i ⌝ }
 {
     let n = eight(file, DIMS + 8 * (5 + i), order);
@@ -109,7 +109,7 @@ fn length_stands(file: &[u8], order: Order, i: usize) -> bool
 }
 
 fn lengths_stand(file: &[u8], order: Order, count: usize) -> bool
-    requires { ⌜ Told (now file) order × (count ≤ 3) ⌝ }
+    requires { ⌜ Counted (now file) order count ⌝ }
     ensures { λ r. ⌜ r ≡ allBelow count (lengthStands (now (file .entry))) ⌝ }
 {
     let mut i = count;
@@ -122,7 +122,7 @@ fn lengths_stand(file: &[u8], order: Order, count: usize) -> bool
     true
 }
 
-pub(crate) fn dims_stand(file: &[u8], order: Order) -> bool
+pub fn dims_stand(file: &[u8], order: Order) -> bool
     requires { ⌜ Told (now file) order ⌝ }
     ensures { λ r. ⌜ r ≡ dimsStand (now (file .entry)) ⌝ }
 {
@@ -136,8 +136,8 @@ pub(crate) fn dims_stand(file: &[u8], order: Order) -> bool
 }
 
 // The length on a dimension; 0 where there is none, or it is negative.
-pub(crate) fn length_at(file: &[u8], order: Order, count: usize, i: usize) -> u64
-    requires { ⌜ Told (now file) order × (i < 3) × (count ≡ lengthCount (now file)) ⌝ }
+pub fn length_at(file: &[u8], order: Order, count: usize, i: usize) -> u64
+    requires { ⌜ Looked (now file) order count i ⌝ }
     ensures { λ r. ⌜ r ≡ lengthAt (now (file .entry)) i ⌝ }
 {
     if i < count {
