@@ -18,8 +18,10 @@ pub const LIST: usize = 544;
 // The numbers of 64 bits from here on are negative.
 const HALF: u64 = 9_223_372_036_854_775_808;
 
-const OFFSET: usize = 168;
+// Where the data offset stands.
+pub const OFFSET: usize = 168;
 
+// Where dim[0] stands.
 const DIMS: usize = 16;
 
 pub fn order_of(file: &[u8]) -> Order

@@ -7,25 +7,92 @@ use mathlib.Core.Bool.{Bool, true, false, _&&_, _||_, not, cond}
 use Prim.Native.Nat.{ℕ, zero, suc, _+_, _-_, _≤_, _<_}
 use native.Mathlib.Omega.{arith}
 use lib.Dec.{eqb, leb, ltb}
-use lib.ListN.{length, take, drop, length-append}
+use lib.IntN.{pos}
+use mir.Syntax.{w8}
+use mir.Val.{Fits}
+use lib.ListN.{length, getD, take, drop, length-append}
 use lib.Seq.{slice, drop-drop, drop-at, take-append-seam, length-slice}
-use borrow.Author.Tests.{eqb-true, eqb-false, leb-true, lt-ltb, le-ltb, ne-eqb}
+use borrow.Author.Tests.{eqb-true, eqb-false, leb-true, ltb-true, lt-ltb, le-ltb, le-leb, lt-leb, eq-eqb, ne-eqb, not-false}
 use Rattle.lists.specs.Lists.{isSome, allBelow}
-use Rattle.lists.specs.Laws.Booleans.{and-right, both-ways, clash, never-some}
-use Rattle.lists.specs.Refusals.{_when_, first}
+use Rattle.lists.specs.Laws.Booleans.{and-left, and-right, or-right, both-ways, clash, never-some}
+use Rattle.lists.specs.Refusals.{_when_, first, positive}
+use Rattle.lists.specs.Laws.Refusals.{given-none, row-fails}
 use Rattle.records.specs.Bytes.{Below}
-use Rattle.nifti.specs.Fields.{atLeast}
+use Rattle.nifti.specs.Fields.{numberAt, signed, atLeast}
 use Rattle.nifti.specs.Extensions.{Extension, sizeOf, written, Good, Listed, nothing, next, Body, firstText, withoutZeros}
-use Rattle.nifti.specs.File.{orderOf, offset, listStart, HasList, empty, listed, ListOf, list, unlisted, sizeStands, magicAt, offsetStands, frontStands, noFront, dimsStand}
+use Rattle.nifti.specs.File.{orderOf, offset, extender, listStart, HasList, empty, listed, ListOf, list, unlisted, sizeStands, magicAt, offsetStands, frontStands, noFront, dimsStand}
 use Rattle.nifti.specs.File.{textOf, conditionsOfFile, frontWith, lengthCount, lengthAt, refusedFront, acceptedFront, frontBy, frontTo, Fronts, FrontPart, partOf}
-use Rattle.nifti.specs.Model.{notListed, taken, takenBy, listIn, frontOf}
+use Rattle.nifti.specs.Model.{notListed, cut, cutTo, taken, takenBy, listIn, frontOf}
 use Rattle.nifti.specs.Laws.File.{fronts-by, listing}
 use Rattle.nifti.specs.Laws.Header.{Told, acceptedWith}
+use Rattle.nifti.specs.Laws.Fields.{least-signed, signed-pos}
 use Rattle.nifti.specs.Laws.Lists.{written-size, behind-eight}
 use Rattle.nifti.specs.Laws.Walk.{take-within}
+use Rattle.nifti.specs.Laws.Zeros.{kept-few}
 use Rattle.nifti.specs.declared.Order.{Order}
 use Rattle.nifti.specs.declared.Taken.{Taken}
 use Rattle.nifti.specs.declared.Front.{Front}
+
+-- ---- What code asks for.
+
+-- a file whose header stands, and its order
+pub record Standing (file : List ℕ) (o : Order) : Type 0 where
+  pub told : Told file o
+  pub stands : frontStands file ≡ true
+
+-- and a part inside it
+pub record Bodied (file : List ℕ) (o : Order) (start size : ℕ) : Type 0 where
+  pub told : Told file o
+  pub inside : start + size ≤ length file
+
+pub told-so : {file : List ℕ} {o : Order} → 544 ≤ length file → o ≡ orderOf file → Told file o
+told-so h e = record { long = h; is = e }
+
+pub standing-so : {file : List ℕ} {o : Order} → Told file o → frontStands file ≡ true → Standing file o
+standing-so t h = record { told = t; stands = h }
+
+-- bytes are below 256
+pub record Bytes (file : List ℕ) : Type 0 where
+  pub known : Below 256 file
+
+pub bytes-known : (file : List ℕ) → ((i : ℕ) → Fits w8 (getD file i 0)) → Bytes file
+bytes-known file h = record { known = λ i. h i .fits }
+
+-- ---- The list of a file, as the walk is begun.
+
+offset-there : (file : List ℕ) → frontStands file ≡ true → offsetStands file ≡ true
+unfolding frontStands
+offset-there file h = and-right (allBelow 8 (magicAt file)) (offsetStands file) (and-right (sizeStands file) _ h)
+
+pub list-empty : (file : List ℕ) → getD file 540 0 ≡ 0 → record { listed = true; start = 0; length = 0 } ≡ takenBy 0 0 544 (listIn file)
+unfolding listIn extender takenBy taken
+list-empty file z = sym (rw (eq-eqb (getD file 540 0) 0 z))
+
+module _ {file : List ℕ} {o : Order} (s : Standing file o) {n : ℕ} (e : n ≡ numberAt o 8 168 file) where
+  offset-at : offset file ≡ signed 8 n
+  unfolding offset
+  offset-at = rw (e, s .told .is)
+
+  stands-so : (ltb n 9223372036854775808 && leb 544 n) ≡ true
+  unfolding offsetStands
+  stands-so = sym (ap (atLeast 544) offset-at ∙ least-signed 8 n 544) ∙ offset-there file (s .stands)
+
+  pub end-low : 544 ≤ n
+  end-low = leb-true 544 n (and-right (ltb n 9223372036854775808) (leb 544 n) stands-so)
+
+  offset-pos : offset file ≡ pos n
+  offset-pos = offset-at ∙ signed-pos 8 n (ltb-true n 9223372036854775808 (and-left (ltb n 9223372036854775808) (leb 544 n) stands-so))
+
+  module _ (x : getD file 540 0 ≡ 0 → ⊥) where
+    pub list-past : {r : Taken} → r ≡ notListed → length file < n → r ≡ takenBy 0 0 544 (listIn file)
+    unfolding listIn extender cutTo takenBy
+    list-past z h = z ∙ sym (rw (ne-eqb (getD file 540 0) 0 x, offset-pos, lt-leb n (length file) h))
+
+    pub list-walked : {r : Taken} → n ≤ length file → r ≡ takenBy 0 0 544 (cut o (slice 544 n file)) → r ≡ takenBy 0 0 544 (listIn file)
+    unfolding listIn extender cutTo
+    list-walked h q = q ∙ sym (rw (ne-eqb (getD file 540 0) 0 x, offset-pos, le-leb n (length file) h, s .told .is))
+
+pub ruleset beginning = (list-empty, list-past, list-walked, end-low)
 
 -- ---- What a walk takes is the first of code 32.
 
@@ -121,36 +188,72 @@ unfolding textOf
 list-inside (list h) p f = has-inside h p f
 list-inside (unlisted h) p f = never-some f
 
+-- ---- The part of a front, refused or not, lies inside the file.
+
+stands-first : (file : List ℕ) (l : Option (List Extension)) → first (conditionsOfFile file l) ≡ 0 → offsetStands file ≡ true
+unfolding conditionsOfFile noFront positive
+stands-first file l h =
+    offset-there file
+    (not-false (frontStands file) (or-right (ltb (length file) 544) (not (frontStands file)) (row-fails (given-none (conditionsOfFile file l) refl h))))
+
+accepted-inside : (file : List ℕ) (o : Option Body) → ((b : Body) → o ≡ some b → Inside file (length file) b)
+    → (acceptedFront file o) .start + (acceptedFront file o) .length ≤ length file
+unfolding acceptedFront
+accepted-inside file Option.none h = omega arith
+accepted-inside file (some b) h =
+    let i = h b refl in
+    let w = i .within in
+    let k = kept-few (b .bytes) in
+    omega arith
+
+to-inside : (file : List ℕ) (l : Option (List Extension)) → ListOf file l → (frontTo file l) .start + (frontTo file l) .length ≤ length file
+unfolding frontTo frontBy
+to-inside file l w = go (first (conditionsOfFile file l)) refl
+  where
+    go : (n : ℕ) → first (conditionsOfFile file l) ≡ n → (frontBy n file (textOf l)) .start + (frontBy n file (textOf l)) .length ≤ length file
+    go zero e = accepted-inside file (textOf l) (λ b q. list-inside w (stands-first file l e) q)
+    go (suc n) e = omega arith
+
+pub part-inside : {file : List ℕ} {f : Front} → Fronts file f → f .start + f .length ≤ length file
+part-inside {file} r = rw (r .answered) (to-inside file (r .extensions) (r .of))
+
+pub part-cut : {file : List ℕ} {f : Front} → Fronts file f → FrontPart file (take ((f .start + f .length) - f .start) (drop (f .start) file))
+unfolding partOf
+part-cut {file} {f} r =
+    let n : (f .start + f .length) - f .start ≡ f .length = omega arith in
+    record { front = f; fronts = r; cut = ap (λ m. take m (drop (f .start) file)) n }
+
+pub accepted-so : (file : List ℕ) (start size : ℕ) {count a b c m : ℕ} → count ≡ lengthCount file → a ≡ lengthAt file 0 → b ≡ lengthAt file 1
+    → c ≡ lengthAt file 2 → m ≡ length (withoutZeros (take size (drop start file))) → frontWith 0 count a b c start m ≡ acceptedWith file start size
+unfolding acceptedWith
+accepted-so file start size e p q r h = rw (e, p, q, r, h)
+
 -- ---- The front, by what the code finds.
 
 abbrev acceptedBy : List ℕ → ℕ → List ℕ → Front
 acceptedBy file start s =
     frontWith 0 (lengthCount file) (lengthAt file 0) (lengthAt file 1) (lengthAt file 2) start (length (withoutZeros s))
 
-module _ (file : List ℕ) (b : Below 256 file) where
+module _ (file : List ℕ) (k : Bytes file) where
   pub front-short : {f : Front} → length file < 544 → f ≡ refusedFront 20 → Fronts file f
   unfolding frontOf frontTo conditionsOfFile noFront first frontBy
-  front-short h e = fronts-by file b (e ∙ sym (rw (lt-ltb (length file) 544 h)))
+  front-short h e = fronts-by file (k .known) (e ∙ sym (rw (lt-ltb (length file) 544 h)))
 
-  module _ {o : Order} (t : Told file o) where
+  module _ (long : 544 ≤ length file) where
     pub no-front : {f : Front} → frontStands file ≡ false → f ≡ refusedFront 20 → Fronts file f
     unfolding frontOf frontTo conditionsOfFile noFront first frontBy
-    no-front h e = fronts-by file b (e ∙ sym (rw (le-ltb (length file) 544 (t .long), h)))
+    no-front h e = fronts-by file (k .known) (e ∙ sym (rw (le-ltb (length file) 544 long, h)))
 
     module _ (stands : frontStands file ≡ true) where
       pub no-dims : {f : Front} → dimsStand file ≡ false → f ≡ refusedFront 21 → Fronts file f
       unfolding frontOf frontTo conditionsOfFile noFront first frontBy
-      no-dims h e = fronts-by file b (e ∙ sym (rw (le-ltb (length file) 544 (t .long), stands, h)))
+      no-dims h e = fronts-by file (k .known) (e ∙ sym (rw (le-ltb (length file) 544 long, stands, h)))
 
       module _ (dims : dimsStand file ≡ true) where
         later : (l : Option (List Extension)) → frontTo file l
             ≡ frontBy (first (22 when not (isSome l) ∷ 23 when not (isSome (textOf l)) ∷ [])) file (textOf l)
         unfolding frontTo conditionsOfFile noFront first
-        later l = rw (le-ltb (length file) 544 (t .long), stands, dims)
-
-        offset-there : offsetStands file ≡ true
-        unfolding frontStands
-        offset-there = and-right (allBelow 8 (magicAt file)) (offsetStands file) (and-right (sizeStands file) _ stands)
+        later l = rw (le-ltb (length file) 544 long, stands, dims)
 
         module _ {r : Taken} (taken-is : r ≡ takenBy 0 0 544 (listIn file)) where
           not-there : (l : Option (List Extension)) → takenBy 0 0 544 l .listed ≡ false → frontTo file l ≡ refusedFront 22
@@ -160,7 +263,7 @@ module _ (file : List ℕ) (b : Below 256 file) where
 
           pub no-list : {f : Front} → r .listed ≡ false → f ≡ refusedFront 22 → Fronts file f
           unfolding frontOf
-          no-list h e = fronts-by file b (e ∙ sym (not-there (listIn file) (ap (λ (x : Taken). x .listed) (sym taken-is) ∙ h)))
+          no-list h e = fronts-by file (k .known) (e ∙ sym (not-there (listIn file) (ap (λ (x : Taken). x .listed) (sym taken-is) ∙ h)))
 
           none-there : (l : Option (List Extension)) → takenBy 0 0 544 l .listed ≡ true → takenBy 0 0 544 l .start ≡ 0
               → ListOf file l → frontTo file l ≡ refusedFront 23
@@ -172,14 +275,14 @@ module _ (file : List ℕ) (b : Below 256 file) where
               go Option.none q = later (some es) ∙ rw q
               go (some x) q =
                   let s : x .start ≡ 0 = sym (ap (λ (y : Taken). y .start) (taken-first 544 es ∙ ap takenAs q)) ∙ z in
-                  let i = list-inside w offset-there q in
+                  let i = list-inside w (offset-there file stands) q in
                   let k = i .behind in
                   absurd (omega arith)
 
           pub no-text : {f : Front} → r .listed ≡ true → r .start ≡ 0 → f ≡ refusedFront 23 → Fronts file f
           unfolding frontOf
-          no-text h z e = fronts-by file b (e ∙ sym (none-there (listIn file) (ap (λ (x : Taken). x .listed) (sym taken-is) ∙ h)
-              (ap (λ (x : Taken). x .start) (sym taken-is) ∙ z) (listing file b)))
+          no-text h z e = fronts-by file (k .known) (e ∙ sym (none-there (listIn file) (ap (λ (x : Taken). x .listed) (sym taken-is) ∙ h)
+              (ap (λ (x : Taken). x .start) (sym taken-is) ∙ z) (listing file (k .known))))
 
           record Found (l : Option (List Extension)) (x : Taken) : Type 0 where
             within : x .start + x .length ≤ length file
@@ -194,7 +297,7 @@ module _ (file : List ℕ) (b : Below 256 file) where
               go : (o : Option Body) → firstText 544 es ≡ o → Found (some es) (taken 0 0 544 es)
               go Option.none q = absurd (z (ap (λ (y : Taken). y .start) (taken-first 544 es ∙ ap takenAs q)))
               go (some x) q =
-                  let i = list-inside w offset-there q in
+                  let i = list-inside w (offset-there file stands) q in
                   let e : takenAs (some x) ≡ taken 0 0 544 es = sym (taken-first 544 es ∙ ap takenAs q) in
                   subst (Found (some es)) e (record {
                     within = i .within;
@@ -203,11 +306,13 @@ module _ (file : List ℕ) (b : Below 256 file) where
 
           found : r .listed ≡ true → (r .start ≡ 0 → ⊥) → Found (listIn file) r
           found h z = subst (Found (listIn file)) (sym taken-is) (one-there (listIn file) (ap (λ (x : Taken). x .listed) (sym taken-is) ∙ h)
-              (λ y. z (ap (λ (x : Taken). x .start) taken-is ∙ y)) (listing file b))
+              (λ y. z (ap (λ (x : Taken). x .start) taken-is ∙ y)) (listing file (k .known)))
 
-          pub text-inside : r .listed ≡ true → (r .start ≡ 0 → ⊥) → r .start + r .length ≤ length file
-          text-inside h z = found h z .within
+          pub text-inside : {o : Order} → Told file o → r .listed ≡ true → (r .start ≡ 0 → ⊥) → Bodied file o (r .start) (r .length)
+          text-inside t h z = record { told = t; inside = found h z .within }
 
           pub a-text : {f : Front} → r .listed ≡ true → (r .start ≡ 0 → ⊥) → f ≡ acceptedWith file (r .start) (r .length) → Fronts file f
           unfolding frontOf
-          a-text h z e = fronts-by file b (e ∙ sym (found h z .is))
+          a-text h z e = fronts-by file (k .known) (e ∙ sym (found h z .is))
+
+pub ruleset fronting = (front-short, no-front, no-dims, no-list, no-text, text-inside, a-text, told-so, standing-so, bytes-known)

@@ -3,14 +3,14 @@ use mathlib.Core.Path.{_≡_, refl, sym, ap, _∙_, subst}
 use mathlib.Core.List.{List, [], _∷_, _++_}
 use mathlib.Core.Option.{Option, some}
 use mathlib.Core.Option
-use mathlib.Core.Bool.{Bool, true, false, _&&_, cond}
-use Prim.Native.Nat.{ℕ, zero, suc, _+_, _-_, _≤_, _<_}
+use mathlib.Core.Bool.{Bool, true, false, _&&_, not, cond}
+use Prim.Native.Nat.{ℕ, zero, suc, _+_, _-_, _%_, _≤_, _<_}
 use native.Mathlib.Omega.{arith}
 use lib.Dec.{eqb, leb, ltb}
 use lib.ListN.{length, take, drop}
 use lib.Seq.{slice, take-take, drop-drop, length-slice, take-nil, drop-nil}
-use borrow.Author.Tests.{eq-eqb, ne-eqb}
-use Rattle.lists.specs.Laws.Booleans.{and-no, both-ways, refute}
+use borrow.Author.Tests.{eq-eqb, ne-eqb, le-leb, lt-leb, lt-ltb, le-ltb, not-true, not-false}
+use Rattle.lists.specs.Laws.Booleans.{and-no, refute}
 use Rattle.records.specs.Bytes.{numberWritten}
 use Rattle.nifti.specs.Fields.{ordered, numberAt}
 use Rattle.nifti.specs.Extensions.{Extension, sizeOf, Body, firstText}
@@ -59,6 +59,20 @@ pub record Walking (file : List ℕ) (o : Order) (end start size place left : �
   pub inside : end ≤ length file
   pub same : takenBy 0 0 544 (cut o (slice 544 end file)) ≡ takenBy start size place (cut o (slice place end file))
 
+-- what a good size allows
+pub size-allows : {size left : ℕ} {b : Bool} → b ≡ goodSize size left → not b ≡ false → Fits size left
+size-allows {size} {left} {b} p y = size-fits size left (sym p ∙ not-false b y)
+
+module _ (size left : ℕ) {b : Bool} (p : b ≡ goodSize size left) (y : not b ≡ false) where
+  pub allows-inside : size ≤ left
+  allows-inside = size-allows p y .inside
+
+  pub allows-eight : 8 ≤ size
+  allows-eight = let l = size-allows p y .low in omega arith
+
+  pub allows-less : left - size < left
+  allows-less = let l = size-allows p y .low in let i = size-allows p y .inside in omega arith
+
 pub walk-begins : (file : List ℕ) (o : Order) (end : ℕ) → 544 ≤ end → end ≤ length file → Walking file o end 0 0 544 (end - 544)
 walk-begins file o end h k = record { low = omega arith; reach = omega arith; inside = k; same = refl }
 
@@ -66,9 +80,9 @@ module _ {file : List ℕ} {o : Order} {end start size place left : ℕ} (w : Wa
   long-slice : length (slice place end file) ≡ left
   long-slice = let r = w .reach in length-slice place end file (w .inside) ∙ omega arith
 
-  pub walk-ends : left ≡ 0 → record { listed = true; start = start; length = size } ≡ takenBy 0 0 544 (cut o (slice 544 end file))
+  pub walk-ends : left ≤ 0 → record { listed = true; start = start; length = size } ≡ takenBy 0 0 544 (cut o (slice 544 end file))
   unfolding takenBy taken
-  walk-ends z = sym (w .same ∙ ap (takenBy start size place) (cut-none o (slice place end file) (long-slice ∙ z)))
+  walk-ends h = let z : left ≡ 0 = omega arith in sym (w .same ∙ ap (takenBy start size place) (cut-none o (slice place end file) (long-slice ∙ z)))
 
   fails : 0 < left → goodSize (numberAt o 4 0 (slice place end file)) left ≡ false → notListed ≡ takenBy 0 0 544 (cut o (slice 544 end file))
   unfolding takenBy
@@ -77,8 +91,8 @@ module _ {file : List ℕ} {o : Order} {end start size place left : ℕ} (w : Wa
       sym (w .same ∙ ap (takenBy start size place)
       (cut-bad o (slice place end file) (λ z. omega arith) (subst (λ n. goodSize (numberAt o 4 0 (slice place end file)) n ≡ false) (sym l) b)))
 
-  pub walk-short : 0 < left → left < 16 → notListed ≡ takenBy 0 0 544 (cut o (slice 544 end file))
-  walk-short h k = fails h (refute _ (λ g. let f = size-fits _ _ g in let a = f .low in let b = f .inside in omega arith))
+  pub walk-short : {r : Taken} → r ≡ notListed → 0 < left → left < 16 → r ≡ takenBy 0 0 544 (cut o (slice 544 end file))
+  walk-short x h k = x ∙ fails h (refute _ (λ g. let f = size-fits _ _ g in let a = f .low in let b = f .inside in omega arith))
 
   module _ {n : ℕ} (e : n ≡ numberAt o 4 place file) (room : 16 ≤ left) where
     here : numberAt o 4 0 (slice place end file) ≡ n
@@ -87,10 +101,14 @@ module _ {file : List ℕ} {o : Order} {end start size place left : ℕ} (w : Wa
         let z : place + 0 ≡ place = omega arith in
         number-slice o 4 0 place end file (omega arith) ∙ ap (λ k. numberAt o 4 k file) z ∙ sym e
 
-    pub walk-fails : goodSize n left ≡ false → notListed ≡ takenBy 0 0 544 (cut o (slice 544 end file))
-    walk-fails b = fails (omega arith) (rw here b)
+    pub walk-fails : {r : Taken} {b : Bool} → r ≡ notListed → b ≡ goodSize n left → not b ≡ true
+        → r ≡ takenBy 0 0 544 (cut o (slice 544 end file))
+    walk-fails {b = b} x q h = x ∙ fails (omega arith) (rw here (sym q ∙ not-true b h))
 
-    module _ (g : goodSize n left ≡ true) where
+    module _ {b : Bool} (p : b ≡ goodSize n left) (y : not b ≡ false) where
+      g : goodSize n left ≡ true
+      g = sym p ∙ not-false b y
+
       good-here : goodSize (numberAt o 4 0 (slice place end file)) (length (slice place end file)) ≡ true
       good-here = rw (here, long-slice) g
 
@@ -148,3 +166,28 @@ module _ {file : List ℕ} {o : Order} {end start size place left : ℕ} (w : Wa
         walk-takes y z = goes (place + 8) (n - 8)
             (take-on start size place the _ y (the-code q ∙ z)
             ∙ ap (λ k. takenBy (place + 8) k (place + sizeOf the) (cut o (slice (place + n) end file))) the-body)
+
+pub ruleset walking = (allows-inside, allows-eight, allows-less, walk-begins, walk-ends, walk-short, walk-fails, walk-past, walk-other, walk-takes)
+
+-- ---- A good size, as code asks for it.
+
+module _ (size left : ℕ) where
+  pub size-small : size < 16 → false ≡ goodSize size left
+  unfolding goodSize
+  size-small h = sym (rw (lt-leb 16 size h))
+
+  module _ (a : 16 ≤ size) where
+    pub size-past : left < size → false ≡ goodSize size left
+    unfolding goodSize
+    size-past h = sym (rw (le-leb 16 size a, lt-leb size left h))
+
+    module _ (b : size ≤ left) where
+      pub size-huge : 2147483647 < size → false ≡ goodSize size left
+      unfolding goodSize
+      size-huge h = sym (rw (le-leb 16 size a, le-leb size left b, le-ltb size 2147483648 (omega arith)))
+
+      pub size-whole : size ≤ 2147483647 → eqb (size % 16) 0 ≡ goodSize size left
+      unfolding goodSize
+      size-whole h = sym (rw (le-leb 16 size a, le-leb size left b, lt-ltb size 2147483648 (omega arith)))
+
+pub ruleset sizing = (size-small, size-past, size-huge, size-whole)
