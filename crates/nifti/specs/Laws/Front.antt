@@ -24,7 +24,7 @@ use Rattle.nifti.specs.File.{orderOf, offset, extender, listStart, HasLi
 use Rattle.nifti.specs.File.{textOf, conditionsOfFile, frontWith, lengthCount, lengthAt, refusedFront, acceptedFront, frontBy, frontTo, Fronts, FrontPart, partOf}
 use Rattle.nifti.specs.Model.{notListed, cut, cutTo, taken, takenBy, listIn, frontOf}
 use Rattle.nifti.specs.Laws.File.{fronts-by, listing}
-use Rattle.nifti.specs.Laws.Header.{Told, acceptedWith}
+use Rattle.nifti.specs.Laws.Header.{Told, acceptedWith, count-few}
 use Rattle.nifti.specs.Laws.Fields.{least-signed, signed-pos}
 use Rattle.nifti.specs.Laws.Lists.{written-size, behind-eight}
 use Rattle.nifti.specs.Laws.Walk.{take-within}
@@ -213,6 +213,21 @@ to-inside file l w = go (first (conditionsOfFile file l)) refl
     go : (n : ℕ) → first (conditionsOfFile file l) ≡ n → (frontBy n file (textOf l)) .start + (frontBy n file (textOf l)) .length ≤ length file
     go zero e = accepted-inside file (textOf l) (λ b q. list-inside w (stands-first file l e) q)
     go (suc n) e = omega arith
+
+-- three lengths, and not more of them told
+pub record Shaped (f : Front) : Type 0 where
+  pub few : f .count ≤ 3
+  pub three : length (f .lengths) ≡ 3
+
+shaped-by : (n : ℕ) (file : List ℕ) (o : Option Body) → Shaped (frontBy n file o)
+unfolding frontBy acceptedFront
+shaped-by zero file Option.none = record { few = omega arith; three = refl }
+shaped-by zero file (some b) = record { few = count-few file; three = refl }
+shaped-by (suc n) file o = record { few = omega arith; three = refl }
+
+pub front-shaped : {file : List ℕ} {f : Front} → Fronts file f → Shaped f
+unfolding frontTo
+front-shaped {file} r = rw (r .answered) (shaped-by (first (conditionsOfFile file (r .extensions))) file (textOf (r .extensions)))
 
 pub part-inside : {file : List ℕ} {f : Front} → Fronts file f → f .start + f .length ≤ length file
 part-inside {file} r = rw (r .answered) (to-inside file (r .extensions) (r .of))

@@ -190,14 +190,17 @@ module _ {file : List ℕ} {o : Order} {count i : ℕ} (l : Looked file o count 
 pub looked : {file : List ℕ} {o : Order} {count i : ℕ} → Told file o → count ≡ lengthCount file → i < 3 → Looked file o count i
 looked t c h = record { told = t; counted = c; small = h }
 
-pub counted-so : {file : List ℕ} {o : Order} {count : ℕ} → Told file o → count ≡ lengthCount file → Counted file o count
+pub count-few : (file : List ℕ) → lengthCount file ≤ 3
 unfolding lengthCount
-counted-so {file} t c = record { told = t; few = rw c (go (isNumber 6 (dim file 0)) (isNumber 7 (dim file 0))) }
+count-few file = go (isNumber 6 (dim file 0)) (isNumber 7 (dim file 0))
   where
     go : (a b : Bool) → cond a 2 (cond b 3 0) ≤ 3
     go true b = omega arith
     go false true = omega arith
     go false false = omega arith
+
+pub counted-so : {file : List ℕ} {o : Order} {count : ℕ} → Told file o → count ≡ lengthCount file → Counted file o count
+counted-so {file} t c = record { told = t; few = rw c (count-few file) }
 
 pub asked-so : {file : List ℕ} {o : Order} {count i : ℕ} → Counted file o count → i < count → Asked file o i
 asked-so c h = let f = c .few in record { told = c .told; small = omega arith }
