@@ -26,6 +26,11 @@
     17  the slice to be written is too short
     18  map name: no such dimension, it is not scalars, or the index is not below its length
     19  find: no such record
+    20  a file under 544 bytes; its size field or magic is not NIfTI-2's single file; a data offset below 544
+    21  a file's dim[0] is not 6 or 7, one of dim[1] to dim[4] is not 1, or one of dim[5] to dim[dim[0]] is below 1
+    22  the extensions up to a file's data offset are no list, or the data offset lies past its bytes
+    23  a file has no extension of code 32
+   In a call on a file 20 to 23 come first, in this order, and then those of the read.
 
    The slices `answer`, `part`, `place` and `count` take the rest of an answer. They are written on every
    call, refused or not, from their start; what lies past the numbers named below is left as it was. Where
@@ -123,6 +128,35 @@ uint64_t dz_pack(const uint64_t *records, size_t records_len,
 uint64_t dz_unpack(const uint8_t *sheet, size_t sheet_len,
                    uint64_t *records, size_t records_len,
                    uint64_t *count, size_t count_len);
+
+/* The front of a NIfTI-2 file (.nii), in either byte order: the lengths of its matrix, and the part of its bytes that
+   is the header text, the body of its first extension of code 32 without the zero bytes at its end. Refusals 20 to 23.
+   Where the data offset is not past the bytes, the bytes behind it do not count: give only those before it if you like.
+
+   front           DZ_FRONT numbers, as below. Refused: all 0. */
+#define DZ_FRONT 6
+enum {
+    DZ_FRONT_COUNT = 0,   /* how many lengths: 2 or 3 */
+    DZ_FRONT_LENGTHS = 1, /* dim[5], dim[6] and dim[7], or 0 for a third that is not there */
+    DZ_FRONT_START = 4,   /* where the part starts in the file */
+    DZ_FRONT_LENGTH = 5   /* and its length */
+};
+uint64_t dz_front(const uint8_t *file, size_t file_len,
+                  uint64_t *front, size_t front_len);
+
+/* Reads a NIfTI-2 file: its front, and then as dz_read of its part with its lengths. Refusals 20 to 23, then 1 to 14.
+   The slices are as those of dz_read. */
+uint64_t dz_read_file(const uint8_t *file, size_t file_len,
+                      uint64_t *records, size_t records_len,
+                      uint64_t *work, size_t work_len,
+                      uint64_t *answer, size_t answer_len);
+
+/* The name of a map of a NIfTI-2 file, as dz_map_name of its part with its lengths. Refusals 20 to 23, 1 to 9, then 18.
+
+   part            [0], [1] = where the name starts in the file, and its length. Refused: 0, 0. */
+uint64_t dz_file_map_name(const uint8_t *file, size_t file_len,
+                          uint64_t dimension, uint64_t index,
+                          uint64_t *part, size_t part_len);
 
 #ifdef __cplusplus
 }

@@ -6,9 +6,13 @@
     answer.dimensions[1].kind     'brain', 'series' or 'scalars'
     answer.records                one whole number of 40 bits for each location
     dzwonolin.map_name(text, [2, 91282], 0, 1)     (0, b'the second name')
+    dzwonolin.read_file("brain.dscalar.nii")       the same of a NIfTI-2 file, by its path or its bytes
+    dzwonolin.front("brain.dscalar.nii")           its number, lengths, and where the header text starts and how long it is
+    dzwonolin.file_map_name("brain.dscalar.nii", 0, 1)
 
-On a terminal, with the text of a header in a file and the lengths of its matrix:
+On a terminal, with a NIfTI-2 file, or with the text of a header in a file and the lengths of its matrix:
 
+    python3 python/dzwonolin.py card brain.dscalar.nii
     python3 python/dzwonolin.py list header.xml 2,91282      the morning card, for a text of any size
     python3 python/dzwonolin.py card header.xml 2,91282      the same, then a line for each model:
         model START TYPE STRUCTURE NAME COUNT FIRST          stretch start, S or V, count, first index
@@ -20,12 +24,14 @@ another processor bench/native makes one to try.
 import collections
 import ctypes
 import ctypes.util
+import mmap
 import os
 import pathlib
 import re
 import sys
 
-__all__ = ["read", "map_name", "find", "pack", "unpack", "unfold", "Answer", "Dimension", "STRUCTURES", "UNITS"]
+__all__ = ["read", "read_file", "front", "file_map_name", "map_name", "find", "pack", "unpack", "unfold", "Answer", "Dimension", "Front",
+           "STRUCTURES", "UNITS"]
 
 LENGTH_LIMIT = 1048576
 # An answer of dz_read, by the names of include/dzwonolin.h: a head, then the numbers of three dimensions.
@@ -45,11 +51,14 @@ STRUCTURES = (
 Dimension = collections.namedtuple("Dimension", "kind length start series_start series_step exponent unit")
 # A refused answer has its number, no dimensions and no records.
 Answer = collections.namedtuple("Answer", "number dimensions records")
+# A refused front has its number, no lengths, and 0, 0. The lengths are in the header's order.
+Front = collections.namedtuple("Front", "number lengths start length")
 
 _loaded = None
 _SLICE = (ctypes.c_void_p, ctypes.c_size_t)
 _FUNCTIONS = {"dz_read": _SLICE * 5, "dz_map_name": _SLICE * 2 + (ctypes.c_uint64,) * 2 + _SLICE,
-              "dz_find": _SLICE + (ctypes.c_uint64,) + _SLICE, "dz_pack": _SLICE * 3, "dz_unpack": _SLICE * 3}
+              "dz_find": _SLICE + (ctypes.c_uint64,) + _SLICE, "dz_pack": _SLICE * 3, "dz_unpack": _SLICE * 3,
+              "dz_front": _SLICE * 2, "dz_read_file": _SLICE * 4, "dz_file_map_name": _SLICE + (ctypes.c_uint64,) * 2 + _SLICE}
 
 
 # ----------------------------------------------------------- library and slices
@@ -113,6 +122,38 @@ def _room(given, default):
     return (ctypes.c_uint64 * (view.nbytes // 8)).from_buffer(given)
 
 
+class _Lent:
+    """The bytes of a file, lent: a path is mapped, never read whole, and a buffer is lent as it is. Used with `with`."""
+
+    def __init__(self, file):
+        self.mapped, self.view = None, None
+        if isinstance(file, (str, os.PathLike)):
+            with open(file, "rb") as opened:
+                size = os.fstat(opened.fileno()).st_size
+                # a private copy: ctypes lends only memory that could be written, and nothing is
+                self.mapped = file = mmap.mmap(opened.fileno(), size, access=mmap.ACCESS_COPY) if size else b""
+        self.file, self.length = file, memoryview(file).nbytes
+
+    def __enter__(self):
+        if isinstance(self.file, bytes):
+            self.pointer = self.file
+        elif not self.length:
+            self.pointer = b""
+        elif memoryview(self.file).readonly:
+            self.pointer = bytes(self.file)
+        else:
+            self.view = self.pointer = (ctypes.c_ubyte * self.length).from_buffer(self.file)
+        return self
+
+    def __exit__(self, *_):
+        self.pointer = self.view = None
+        if isinstance(self.mapped, mmap.mmap):
+            self.mapped.close()
+
+    def cut(self, start, length):
+        return bytes(memoryview(self.file).cast("B")[start:start + length])
+
+
 def _signed(number):
     return number - (1 << 64) if number >> 63 else number
 
@@ -142,11 +183,18 @@ def read(text, lengths, records=None, work=None):
 
     `records` and `work` are sizes, or buffers of 64-bit numbers that are written in place. By default both are as
     large as the lengths can ask for."""
-    fine = len(lengths) in (2, 3) and all(1 <= n <= LENGTH_LIMIT for n in lengths)
-    records = _room(records, sum(lengths) if fine else 0)
-    work = _room(work, max(lengths) if fine else 0)
+    records, work = _rooms(lengths, records, work)
     answer = (ctypes.c_uint64 * ANSWER)()
-    number = call_read(text, _numbers(lengths), records, work, answer)
+    return _answered(call_read(text, _numbers(lengths), records, work, answer), answer, records)
+
+
+def _rooms(lengths, records, work):
+    """The slices lent for writing: as large as the lengths can ask for, where no other size is given."""
+    fine = len(lengths) in (2, 3) and all(1 <= n <= LENGTH_LIMIT for n in lengths)
+    return _room(records, sum(lengths) if fine else 0), _room(work, max(lengths) if fine else 0)
+
+
+def _answered(number, answer, records):
     if number:
         return Answer(number, [], [])
     dimensions = [_dimension(answer[at:at + DIMENSION]) for at in range(HEAD, ANSWER, DIMENSION) if answer[at]]
@@ -159,6 +207,36 @@ def map_name(text, lengths, dimension, index):
     part = (ctypes.c_uint64 * 2)()
     number = call_map_name(text, _numbers(lengths), _number(dimension), _number(index), part)
     return number, bytes(text[part[0]:part[0] + part[1]])
+
+
+def _front(lent):
+    told = (ctypes.c_uint64 * 6)()
+    number = _library().dz_front(lent.pointer, lent.length, told, 6)
+    return Front(number, told[1:1 + told[0]], told[4], told[5])
+
+
+def front(file):
+    """The front of a NIfTI-2 file, by its path or its bytes."""
+    with _Lent(file) as lent:
+        return _front(lent)
+
+
+def read_file(file, records=None, work=None):
+    """Reads a NIfTI-2 file, by its path or its bytes: its front, and then its header text as `read` does."""
+    with _Lent(file) as lent:
+        lengths = _front(lent).lengths
+        records, work = _rooms(lengths, records, work)
+        answer = (ctypes.c_uint64 * ANSWER)()
+        number = _library().dz_read_file(lent.pointer, lent.length, records, len(records), work, len(work), answer, len(answer))
+        return _answered(number, answer, records)
+
+
+def file_map_name(file, dimension, index):
+    """(0, the bytes between the tags of that MapName, as written) or (number, b'')."""
+    with _Lent(file) as lent:
+        part = (ctypes.c_uint64 * 2)()
+        number = _library().dz_file_map_name(lent.pointer, lent.length, _number(dimension), _number(index), part, 2)
+        return number, lent.cut(part[0], part[1])
 
 
 def find(records, number):
@@ -223,12 +301,15 @@ def models(answer):
 
 
 def main(arguments):
-    if len(arguments) != 3 or arguments[0] not in ("card", "list"):
-        print("usage: dzwonolin.py card|list FILE LENGTHS (as 2,91282)", file=sys.stderr)
+    if len(arguments) not in (2, 3) or arguments[0] not in ("card", "list"):
+        print("usage: dzwonolin.py card|list FILE.nii, or card|list TEXT LENGTHS (as 2,91282)", file=sys.stderr)
         return 2
-    text = pathlib.Path(arguments[1]).read_bytes()
-    fine = re.fullmatch("[0-9]{1,7}(,[0-9]{1,7})*", arguments[2])
-    answer = read(text, [int(n) for n in arguments[2].split(",")] if fine else [])
+    if len(arguments) == 2:
+        answer = read_file(arguments[1])
+    else:
+        text = pathlib.Path(arguments[1]).read_bytes()
+        fine = re.fullmatch("[0-9]{1,7}(,[0-9]{1,7})*", arguments[2])
+        answer = read(text, [int(n) for n in arguments[2].split(",")] if fine else [])
     sys.stdout.writelines(line + "\n" for line in card(answer))
     if arguments[0] == "card":
         sys.stdout.writelines(line + "\n" for line in models(answer))

@@ -7,6 +7,7 @@ import ctypes
 import pathlib
 import subprocess
 import sys
+import tempfile
 
 HERE = pathlib.Path(__file__).resolve().parent
 sys.path[:0] = [str(HERE), str(HERE.parent / "python")]
@@ -100,3 +101,26 @@ def pack_unpack(records, sheet):
     packed = pack(records, sheet)
     number, back = dzwonolin.unpack(bytes.fromhex(packed["sheet"])[:packed["written"]])
     return {"number": packed["number"] or number, "sheet": packed["sheet"], "back": back}
+
+
+def nii(file):
+    """The front of a file, and the card of it, by its bytes and by a mapped path."""
+    data = bytes.fromhex(file)
+    front, answer = dzwonolin.front(data), dzwonolin.read_file(data)
+    with tempfile.NamedTemporaryFile(suffix=".nii") as mapped:
+        mapped.write(data)
+        mapped.flush()
+        if (dzwonolin.front(mapped.name), dzwonolin.read_file(mapped.name)) != (front, answer):
+            raise ValueError("a mapped file is answered otherwise")
+    card = "".join(line + "\n" for line in dzwonolin.card(answer))
+    return {"number": front.number, "lengths": front.lengths, "start": front.start, "length": front.length, "card": card}
+
+
+def read_file(file, records, work, beginnings=None):
+    not_yet(beginnings=beginnings)
+    lent, space = lent_numbers(records), lent_numbers([0] * work)
+    answer = dzwonolin.read_file(bytes.fromhex(file), lent, space)
+    if any(space):
+        raise ValueError("the work space is not zero")
+    return {"number": answer.number, "lengths": [d.length for d in answer.dimensions],
+            "kinds": [d.kind for d in answer.dimensions], "records": list(lent)}

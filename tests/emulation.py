@@ -12,7 +12,8 @@ import subprocess
 
 HERE = pathlib.Path(__file__).resolve().parent
 ROOT = HERE.parent
-SHAPES = {"dz_read": "bnNNN", "dz_map_name": "bnvvN", "dz_find": "nvN", "dz_pack": "nBN", "dz_unpack": "bNN"}
+SHAPES = {"dz_read": "bnNNN", "dz_map_name": "bnvvN", "dz_find": "nvN", "dz_pack": "nBN", "dz_unpack": "bNN",
+          "dz_front": "bN", "dz_read_file": "bNNN", "dz_file_map_name": "bvvN"}
 
 
 def needed():
@@ -50,7 +51,7 @@ def build():
 
 
 class Library:
-    """Has the five functions, each a question to the program."""
+    """Has the functions, each a question to the program."""
 
     def __init__(self):
         self.server = subprocess.Popen(build(), stdin=subprocess.PIPE, stdout=subprocess.PIPE)

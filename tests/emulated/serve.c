@@ -15,7 +15,7 @@ void _exit(int status);
 enum { GUARD = 64, MARK = 0xA5, ARGUMENTS = 5 };
 
 /* b, n: bytes and numbers to be read; B, N: to be written; v: a number. */
-static const char *const SHAPES[] = {"bnNNN", "bnvvN", "nvN", "nBN", "bNN"};
+static const char *const SHAPES[] = {"bnNNN", "bnvvN", "nvN", "nBN", "bNN", "bN", "bNNN", "bvvN"};
 
 struct argument {
     uint64_t count;
@@ -85,7 +85,10 @@ static uint64_t call(uint64_t function, struct argument *a)
     case 1: return dz_map_name(BYTES(0), NUMBERS(1), a[2].count, a[3].count, NUMBERS(4));
     case 2: return dz_find(NUMBERS(0), a[1].count, NUMBERS(2));
     case 3: return dz_pack(NUMBERS(0), BYTES(1), NUMBERS(2));
-    default: return dz_unpack(BYTES(0), NUMBERS(1), NUMBERS(2));
+    case 4: return dz_unpack(BYTES(0), NUMBERS(1), NUMBERS(2));
+    case 5: return dz_front(BYTES(0), NUMBERS(1));
+    case 6: return dz_read_file(BYTES(0), NUMBERS(1), NUMBERS(2), NUMBERS(3));
+    default: return dz_file_map_name(BYTES(0), a[1].count, a[2].count, NUMBERS(3));
     }
 }
 

@@ -1,10 +1,12 @@
 // The library for C: include/dzwonolin.h says what each function takes and gives. A slice is a pointer and the number of its elements.
 use flat::tell_answer;
 use flat::tell_one;
+use flat::tell_row;
 use flat::tell_two;
 use reader::map_name_place;
 use records::Index;
 ghost use Rattle.dzwonolin.specs.Promises.{ReadsFlat, NamesFlat, FindsFlat, PacksFlat, UnpacksFlat};
+ghost use Rattle.dzwonolin.specs.Promises.{FrontsFlat, ReadsFileFlat, FileNamesFlat};
 
 #[no_mangle]
 pub extern "C" fn dz_read(
@@ -63,5 +65,46 @@ pub extern "C" fn dz_unpack(sheet: &[u8], records: &mut [u64], count: &mut [u64]
 {
     let said = sheets::unpack(sheet, records);
     tell_one(count, said.value);
+    said.number
+}
+
+#[no_mangle]
+pub extern "C" fn dz_front(file: &[u8], front: &mut [u64]) -> u64
+    ensures { λ r. ⌜ FrontsFlat (now (file .entry)) (now (front .entry)) r (now (front .exit)) ⌝ }
+{
+    let said = front::front(file);
+    let lengths = said.lengths;
+    let mut row = [0u64; 6];
+    row[0] = said.count;
+    row[1] = lengths[0];
+    row[2] = lengths[1];
+    row[3] = lengths[2];
+    row[4] = said.start as u64;
+    row[5] = said.length as u64;
+    tell_row(front, &row);
+    said.number
+}
+
+#[no_mangle]
+pub extern "C" fn dz_read_file(
+    file: &[u8],
+    records: &mut [u64],
+    work: &mut [u64],
+    answer: &mut [u64],
+) -> u64
+    ensures { λ r. ⌜ ReadsFileFlat (now (file .entry)) (now (records .entry)) (now (work .entry)) (now (answer .entry)) r
+        (now (records .exit)) (now (work .exit)) (now (answer .exit)) ⌝ }
+{
+    let said = file_reader::read_file(file, records, work);
+    tell_answer(answer, said);
+    said.number
+}
+
+#[no_mangle]
+pub extern "C" fn dz_file_map_name(file: &[u8], dimension: u64, index: u64, part: &mut [u64]) -> u64
+    ensures { λ r. ⌜ FileNamesFlat (now (file .entry)) dimension index (now (part .entry)) r (now (part .exit)) ⌝ }
+{
+    let said = file_reader::file_map_name_place(file, dimension, Index(index));
+    tell_two(part, said.start as u64, said.length as u64);
     said.number
 }

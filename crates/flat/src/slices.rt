@@ -114,3 +114,12 @@ pub fn tell_two(slice: &mut [u64], first: u64, second: u64)
     slice[0] = first;
     slice[1] = second;
 }
+
+pub fn tell_row(slice: &mut [u64], row: &[u64])
+    ensures { λ _. ⌜ now (slice .exit) ≡ flat.laidOver (now (row .entry)) (now (slice .entry)) ⌝ }
+{
+    if slice.len() < row.len() {
+        return;
+    }
+    put(slice, 0, row);
+}

@@ -3,4 +3,3 @@ pub mod Extensions
 pub mod File
 pub mod Model
 pub mod Laws
-pub mod Tests

@@ -86,6 +86,9 @@ pub told-all : (v s : List ℕ) → length v ≤ length s → wrote 0 v s ≡ la
 unfolding laidOver filledWith
 told-all v s h = let e : 0 + length v ≡ length v = omega arith in rw (le-leb (length v) (length s) h, e)
 
+pub told-row : (v s : List ℕ) {r : List ℕ} → r ≡ wrote 0 v s → length v ≤ length s → r ≡ laidOver v s
+told-row v s e h = e ∙ told-all v s h
+
 -- ---- Store by store.
 
 -- the number of the kind, amounts, powers and exponent come from calls; the rest is read off

@@ -150,7 +150,7 @@ module _ (o : Order) (e : Extension) (g : Good e) (t : List ℕ) where
       let b = written-size in
       rw size-read (fits-size (record { low = g .low; inside = omega arith; high = g .high; whole = g .whole }))
 
-  found-next : cut o (written o e ++ t) ≡ onward true e (cut o t)
+  pub found-next : cut o (written o e ++ t) ≡ onward true e (cut o t)
   found-next =
       cut-good o (written o e ++ t) good-read
       ∙ rw (read-back, size-read) (ap (λ l. onward true e (cut o l)) (drop-at (written o e) t (sizeOf e) written-size))
@@ -182,7 +182,7 @@ module _ (o : Order) (s : List ℕ) (f : Fits (numberAt o 4 0 s) (length s)) whe
   size-is = let e = body-length in let l = f .low in omega arith
 
 module _ (o : Order) (s : List ℕ) (b : Below 256 s) (f : Fits (numberAt o 4 0 s) (length s)) where
-  found-good : Good (extensionIn o s)
+  pub found-good : Good (extensionIn o s)
   unfolding extensionIn
   found-good =
       let e = size-is o s f in
@@ -213,7 +213,7 @@ module _ (o : Order) (s : List ℕ) (b : Below 256 s) (f : Fits (numberAt o 4 0 
       ∙ ap (λ r. take 4 s ++ r) (take-add 4 (n - 8) (drop 4 s) ∙ ap (λ r. take 4 (drop 4 s) ++ take (n - 8) r) (drop-drop 4 4 s))) in
       rw (size, code) whole
 
-  found-joined : written o (extensionIn o s) ++ drop (numberAt o 4 0 s) s ≡ s
+  pub found-joined : written o (extensionIn o s) ++ drop (numberAt o 4 0 s) s ≡ s
   found-joined = ap (λ r. r ++ drop (numberAt o 4 0 s) s) found-bytes ∙ take-append-drop (numberAt o 4 0 s) s
 
 -- one more in front, taken apart

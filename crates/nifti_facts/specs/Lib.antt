@@ -1,0 +1,5 @@
+pub mod First
+pub mod Alike
+pub mod Cut
+pub mod Breaks
+pub mod Computed
