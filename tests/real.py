@@ -1,6 +1,8 @@
 """Real headers: the five files that Debian's libcifti-doc carries, fetched into a temporary folder.
 
     python3 tests/real.py [DIR]      the library against the oracle on each; the texts are kept in DIR
+
+Texts and lengths are taken out of the files by the library, from each file as it is and in the other byte order.
 """
 import pathlib
 import struct
@@ -11,18 +13,31 @@ import tempfile
 PACKAGE = "libcifti-doc"
 
 
-def header(data):
-    """(the text, the lengths of the matrix) of a NIfTI-2 file with a CIFTI extension."""
-    order = "<" if struct.unpack("<i", data[:4])[0] == 540 else ">"
-    dim = struct.unpack(order + "8q", data[16:80])
+def turned(data):
+    """The same header and list in the other byte order: the fields that are read, each with its bytes turned round."""
+    order = "<" if data[:4] == struct.pack("<i", 540) else ">"
     offset = struct.unpack(order + "q", data[168:176])[0]
+    fields = [(0, 4), *((at, 8) for at in range(16, 80, 8)), (168, 8)]
     at = 544
-    while data[540] and at + 16 <= offset:
-        size, code = struct.unpack(order + "ii", data[at:at + 8])
-        if code == 32:
-            return data[at + 8:at + size].rstrip(b"\0"), list(dim[5:dim[0] + 1])
-        at += size
-    raise ValueError("no CIFTI extension")
+    while data[540] and at < offset:
+        fields += [(at, 4), (at + 4, 4)]
+        at += struct.unpack(order + "i", data[at:at + 4])[0]
+    other = bytearray(data)
+    for at, width in fields:
+        other[at:at + width] = data[at:at + width][::-1]
+    return bytes(other)
+
+
+def header(path):
+    """(the text, the lengths of the matrix) of a NIfTI-2 file, by the library; by its bytes and in the other order the same."""
+    import dzwonolin
+    data = path.read_bytes()
+    front = dzwonolin.front(path)
+    if front.number or any(dzwonolin.front(other) != front for other in (data, turned(data))):
+        raise ValueError(f"{path.name}: {front}, and otherwise by its bytes or in the other order")
+    if dzwonolin.read_file(path) != dzwonolin.read_file(turned(data)):
+        raise ValueError(f"{path.name}: read otherwise in the other order")
+    return data[front.start:front.start + front.length], front.lengths
 
 
 def headers():
@@ -37,7 +52,7 @@ def headers():
             if done.returncode:
                 raise OSError(done.stderr.decode(errors="replace").strip().splitlines()[-1])
         files = sorted(pathlib.Path(folder).rglob("*.nii"))
-        return [(f.name, *header(f.read_bytes())) for f in files]
+        return [(f.name, *header(f)) for f in files]
 
 
 def headers_or_skipped():
