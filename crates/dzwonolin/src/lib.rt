@@ -104,7 +104,7 @@ pub extern "C" fn dz_read_file(
 pub extern "C" fn dz_file_map_name(file: &[u8], dimension: u64, index: u64, part: &mut [u64]) -> u64
     ensures { λ r. ⌜ FileNamesFlat (now (file .entry)) dimension index (now (part .entry)) r (now (part .exit)) ⌝ }
 {
-    let said = file_reader::file_map_name_place(file, dimension, Index(index));
-    tell_two(part, said.start as u64, said.length as u64);
-    said.number
+    let name = file_reader::file_map_name_place(file, dimension, Index(index));
+    tell_two(part, name.start as u64, name.length as u64);
+    name.number
 }
