@@ -122,36 +122,39 @@ def _room(given, default):
     return (ctypes.c_uint64 * (view.nbytes // 8)).from_buffer(given)
 
 
+class _Buffer(ctypes.Structure):
+    """Python's Py_buffer: where the bytes of an object lie. A read-only one is lent too, which ctypes alone does not do."""
+    _fields_ = [("at", ctypes.c_void_p), ("owner", ctypes.c_void_p), ("length", ctypes.c_ssize_t), ("item", ctypes.c_ssize_t),
+                ("readonly", ctypes.c_int), ("dimensions", ctypes.c_int), ("format", ctypes.c_void_p), ("shape", ctypes.c_void_p),
+                ("strides", ctypes.c_void_p), ("suboffsets", ctypes.c_void_p), ("internal", ctypes.c_void_p)]
+
+
 class _Lent:
-    """The bytes of a file, lent: a path is mapped, never read whole, and a buffer is lent as it is. Used with `with`."""
+    """The bytes of a file, lent without a copy: a path is mapped, never read whole. Used with `with`."""
 
     def __init__(self, file):
-        self.mapped, self.view = None, None
+        self.mapped, self.buffer = None, _Buffer()
         if isinstance(file, (str, os.PathLike)):
             with open(file, "rb") as opened:
                 size = os.fstat(opened.fileno()).st_size
-                # a private copy: ctypes lends only memory that could be written, and nothing is
-                self.mapped = file = mmap.mmap(opened.fileno(), size, access=mmap.ACCESS_COPY) if size else b""
-        self.file, self.length = file, memoryview(file).nbytes
+                self.mapped = mmap.mmap(opened.fileno(), size, access=mmap.ACCESS_COPY) if size else None
+            file = self.mapped or b""
+        self.file = file
 
     def __enter__(self):
-        if isinstance(self.file, bytes):
-            self.pointer = self.file
-        elif not self.length:
-            self.pointer = b""
-        elif memoryview(self.file).readonly:
-            self.pointer = bytes(self.file)
-        else:
-            self.view = self.pointer = (ctypes.c_ubyte * self.length).from_buffer(self.file)
+        ctypes.pythonapi.PyObject_GetBuffer(ctypes.py_object(self.file), ctypes.byref(self.buffer), 0)
+        self.length = self.buffer.length
+        self.slice = (ctypes.c_ubyte * self.length).from_address(self.buffer.at) if self.length else b""
         return self
 
     def __exit__(self, *_):
-        self.pointer = self.view = None
-        if isinstance(self.mapped, mmap.mmap):
+        self.slice = None
+        ctypes.pythonapi.PyBuffer_Release(ctypes.byref(self.buffer))
+        if self.mapped:
             self.mapped.close()
 
     def cut(self, start, length):
-        return bytes(memoryview(self.file).cast("B")[start:start + length])
+        return bytes(self.slice[start:start + length])
 
 
 def _signed(number):
@@ -211,7 +214,7 @@ def map_name(text, lengths, dimension, index):
 
 def _front(lent):
     told = (ctypes.c_uint64 * 6)()
-    number = _library().dz_front(lent.pointer, lent.length, told, 6)
+    number = _library().dz_front(lent.slice, lent.length, told, 6)
     return Front(number, told[1:1 + told[0]], told[4], told[5])
 
 
@@ -227,7 +230,7 @@ def read_file(file, records=None, work=None):
         lengths = _front(lent).lengths
         records, work = _rooms(lengths, records, work)
         answer = (ctypes.c_uint64 * ANSWER)()
-        number = _library().dz_read_file(lent.pointer, lent.length, records, len(records), work, len(work), answer, len(answer))
+        number = _library().dz_read_file(lent.slice, lent.length, records, len(records), work, len(work), answer, len(answer))
         return _answered(number, answer, records)
 
 
@@ -235,7 +238,7 @@ def file_map_name(file, dimension, index):
     """(0, the bytes between the tags of that MapName, as written) or (number, b'')."""
     with _Lent(file) as lent:
         part = (ctypes.c_uint64 * 2)()
-        number = _library().dz_file_map_name(lent.pointer, lent.length, _number(dimension), _number(index), part, 2)
+        number = _library().dz_file_map_name(lent.slice, lent.length, _number(dimension), _number(index), part, 2)
         return number, lent.cut(part[0], part[1])
 
 
