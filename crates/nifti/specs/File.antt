@@ -138,6 +138,6 @@ pub record FrontPart (file part : List ℕ) : Type 0 where
   pub cut : part ≡ partOf file front
 
 unfoldable pub fileWords : Unit {0}
-unfolding orderOf dim offset extender sizeStands magicAt offsetStands frontStands noFront lengthCount oneAt lengthStands dimsStand textOf conditionsOfFile lengthAt acceptedFront frontBy frontTo lengthsOf
-    partOf
+unfolding orderOf dim offset extender sizeStands magicAt offsetStands frontStands noFront lengthCount oneAt lengthStands dimsStand
+    textOf conditionsOfFile lengthAt acceptedFront frontBy frontTo lengthsOf partOf
 fileWords = tt

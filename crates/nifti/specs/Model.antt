@@ -59,7 +59,8 @@ notListed = record { listed = false; start = 0; length = 0 }
 unfoldable pub taken : (start length place : ℕ) → List Extension → Taken
 taken start size place [] = record { listed = true; start = start; length = size }
 taken start size place (e ∷ es) =
-    cond (eqb start 0 && eqb (e .code) 32) (taken (place + 8) (length (e .body)) (place + sizeOf e) es) (taken start size (place + sizeOf e) es)
+    cond (eqb start 0 && eqb (e .code) 32) (taken (place + 8) (length (e .body)) (place + sizeOf e) es)
+    (taken start size (place + sizeOf e) es)
 
 unfoldable pub takenBy : (start length place : ℕ) → Option (List Extension) → Taken
 takenBy start size place Option.none = notListed

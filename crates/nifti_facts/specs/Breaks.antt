@@ -1,5 +1,5 @@
--- THE FOUR CASES OF 22: no list is written up to the data offset just where, behind some good extensions, fewer than 16 bytes are left before
--- the data offset or the end of the bytes, or a size is below 16, not a multiple of 16, or past either.
+-- THE FOUR CASES OF 22: no list is written up to the data offset just where, behind some good extensions, fewer than 16 bytes are left
+-- before the data offset or the end of the bytes, or a size is below 16, not a multiple of 16, or past either.
 use mathlib.Core.Path.{_≡_, refl, sym, ap, _∙_, subst}
 use mathlib.Core.List.{List, [], _∷_, _++_}
 use mathlib.Core.Option.{Option, some}
@@ -31,7 +31,8 @@ pub data Breaks (o : Order) : (left : ℕ) → List ℕ → Type 0 where
   size-broken : {left : ℕ} {s : List ℕ} → 0 < left → (numberAt o 4 0 s % 16 ≡ 0 → ⊥) → Breaks o left s
   past-offset : {left : ℕ} {s : List ℕ} → 0 < left → left < numberAt o 4 0 s → Breaks o left s
   past-end : {left : ℕ} {s : List ℕ} → 0 < left → length s < numberAt o 4 0 s → Breaks o left s
-  later : {left : ℕ} {e : Extension} {t : List ℕ} → Good e → sizeOf e ≤ left → Breaks o (left - sizeOf e) t → Breaks o left (written o e ++ t)
+  later : {left : ℕ} {e : Extension} {t : List ℕ} → Good e → sizeOf e ≤ left → Breaks o (left - sizeOf e) t
+      → Breaks o left (written o e ++ t)
 
 -- ---- Where it breaks no list is found.
 
@@ -120,7 +121,8 @@ either-by (suc n) o left s h b = go (decLt 0 left) (decLt left 16) (decLt (numbe
     go (yes a) (no c) (no d) (no e) (no f) (no g) _ ih = broken (size-negative {s = s} a (omega arith))
     go (yes a) (no c) (no d) (no e) (no f) (yes g) (no w) ih = broken (size-broken a w)
     go (yes a) (no c) (no d) (no e) (no f) (yes g) (yes w) ih =
-        more o left s b a (omega arith) (record { low = omega arith; inside = omega arith; high = g; whole = w }) (omega arith) (ih (omega arith))
+        more o left s b a (omega arith) (record { low = omega arith; inside = omega arith; high = g; whole = w }) (omega arith)
+        (ih (omega arith))
 
 pub either-way : (o : Order) (left : ℕ) (s : List ℕ) → Below 256 s → Either o left s
 either-way o left s b = either-by left o left s (omega arith) b

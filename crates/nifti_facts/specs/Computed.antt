@@ -1,4 +1,4 @@
--- COMPUTED: files in both orders, an all-zero body, a dim[7] that is not looked at.
+-- COMPUTED: files in both orders, case A among them, an all-zero body, a dim[7] that is not looked at.
 use mathlib.Core.Path.{_≡_, refl}
 use mathlib.Core.List.{List, [], _∷_, _++_}
 use Prim.Native.Nat.{ℕ}
@@ -8,8 +8,9 @@ use Rattle.lists.specs.Refusals.{refusals}
 use Rattle.records.specs.Bytes.{byteWords}
 use Rattle.nifti.specs.Fields.{field, fieldWords}
 use Rattle.nifti.specs.Extensions.{Extension, written, extensionWords}
-use Rattle.nifti.specs.File.{magic, frontWith, refusedFront, fileWords}
+use Rattle.nifti.specs.File.{magic, frontWith, refusedFront, partOf, fileWords}
 use Rattle.nifti.specs.Model.{frontOf, modelWords}
+use Rattle.cifti.specs.Tests.CaseA.{caseA}
 use Rattle.nifti.specs.declared.Order.{Order}
 use Rattle.nifti.specs.declared.Order.the-variants.{MostFirst, LeastFirst}
 
@@ -77,3 +78,19 @@ half-way = refl
 no-extender : frontOf (fileOf LeastFirst six 99999 0 (text ∷ [])) ≡ refusedFront 23
 unfolding computing
 no-extender = refl
+
+-- case A behind another extension, in either order: its lengths, and its text as the part
+unfoldable fileA : Order → List ℕ
+fileA o = fileOf o (6 ∷ 1 ∷ 1 ∷ 1 ∷ 1 ∷ 2 ∷ 3 ∷ 1 ∷ []) 1504 1 (other ∷ record { code = 32; body = caseA ++ replicate 7 0 } ∷ [])
+
+case-a-most : frontOf (fileA MostFirst) ≡ frontWith 0 2 2 3 0 584 913
+unfolding computing fileA
+case-a-most = refl
+
+case-a-least : frontOf (fileA LeastFirst) ≡ frontWith 0 2 2 3 0 584 913
+unfolding computing fileA
+case-a-least = refl
+
+case-a-part : partOf (fileA LeastFirst) (frontOf (fileA LeastFirst)) ≡ caseA
+unfolding computing fileA
+case-a-part = refl

@@ -64,7 +64,16 @@ module _ (file : List ℕ) (end : ℕ) (inside : end ≤ length file) where
     unfolding listIn cutTo
     list-same e =
         let t : take end (take end file) ≡ take end file = take-take end end file (omega arith) in
-        rw (extender-same, offset-alike alike, e, order-same, short-length, le-leb end end (omega arith), le-leb end (length file) inside, t)
+        rw (
+          extender-same,
+          offset-alike alike,
+          e,
+          order-same,
+          short-length,
+          le-leb end end (omega arith),
+          le-leb end (length file) inside,
+          t,
+        )
 
     long-same : offset file ≡ pos end → frontOf short ≡ frontOf file
     unfolding frontOf

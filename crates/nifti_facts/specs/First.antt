@@ -25,9 +25,11 @@ first-32 at (e ∷ es) b h = go (eqb (e .code) 32) refl h (first-32 (at + sizeOf
     later q (found before x after p n c w s) =
         found (e ∷ before) x after (ap (λ l. e ∷ l) p) (rw q n) c w (s ∙ omega arith)
 
-    go : (t : Bool) → eqb (e .code) 32 ≡ t → cond t (some (record { start = at + 8; bytes = e .body })) (firstText (at + sizeOf e) es) ≡ some b
+    go : (t : Bool) → eqb (e .code) 32 ≡ t
+        → cond t (some (record { start = at + 8; bytes = e .body })) (firstText (at + sizeOf e) es) ≡ some b
         → (firstText (at + sizeOf e) es ≡ some b → FirstText (at + sizeOf e) es b) → FirstText at (e ∷ es) b
     go true q k ih =
         let z : record { start = at + 8; bytes = e .body } ≡ b = cc in
-        found [] e es refl refl (eqb-true (e .code) 32 q) (sym (ap (λ (x : Body). x .bytes) z)) (sym (ap (λ (x : Body). x .start) z) ∙ omega arith)
+        found [] e es refl refl (eqb-true (e .code) 32 q) (sym (ap (λ (x : Body). x .bytes) z))
+        (sym (ap (λ (x : Body). x .start) z) ∙ omega arith)
     go false q k ih = later q (ih k)

@@ -50,7 +50,8 @@ module _ {file : List ℕ} {f : Front} (p : Fronts file f) where
       (subst (λ k. Reads (take ((f .start + f .length) - f .start) (drop (f .start) file)) (take (f .count) k) records work a s v) e r))
 
   module _ {d i : ℕ} where
-    pub place-refused : {r : NamePlace} → (f .number ≡ 0 → ⊥) → r ≡ record { number = f .number; start = 0; length = 0 } → FilePlaced file d i r
+    pub place-refused : {r : NamePlace} → (f .number ≡ 0 → ⊥) → r ≡ record { number = f .number; start = 0; length = 0 }
+        → FilePlaced file d i r
     place-refused z e = name-refused p z e
 
     cut-placed : {l : List ℕ} {x : NamePlace} → l ≡ handedOn f
@@ -84,7 +85,8 @@ pub moved-number : (from : ℕ) {p : NamePlace} → (p .number ≡ 0 → ⊥) �
 unfolding movedBy
 moved-number from {p} h = sym (rw (ne-eqb (p .number) 0 h))
 
-pub moved-on : (from : ℕ) (p : NamePlace) → p .number ≡ 0 → record { number = 0; start = from + p .start; length = p .length } ≡ movedBy from p
+pub moved-on : (from : ℕ) (p : NamePlace) → p .number ≡ 0
+    → record { number = 0; start = from + p .start; length = p .length } ≡ movedBy from p
 unfolding movedBy
 moved-on from p h = sym (rw (eq-eqb (p .number) 0 h, h))
 

@@ -20,8 +20,9 @@ use Rattle.lists.specs.Laws.Refusals.{given-none, row-fails}
 use Rattle.records.specs.Bytes.{Below}
 use Rattle.nifti.specs.Fields.{numberAt, signed, atLeast}
 use Rattle.nifti.specs.Extensions.{Extension, sizeOf, written, Good, Listed, nothing, next, Body, firstText, withoutZeros}
-use Rattle.nifti.specs.File.{orderOf, offset, extender, listStart, HasList, empty, listed, ListOf, list, unlisted, sizeStands, magicAt, offsetStands, frontStands, noFront, dimsStand}
-use Rattle.nifti.specs.File.{textOf, conditionsOfFile, frontWith, lengthCount, lengthAt, refusedFront, acceptedFront, frontBy, frontTo, Fronts, FrontPart, partOf}
+use Rattle.nifti.specs.File.{orderOf, offset, extender, listStart, HasList, empty, listed, ListOf, list, unlisted, sizeStands}
+use Rattle.nifti.specs.File.{magicAt, offsetStands, frontStands, noFront, dimsStand, textOf, conditionsOfFile, frontWith}
+use Rattle.nifti.specs.File.{lengthCount, lengthAt, refusedFront, acceptedFront, frontBy, frontTo, Fronts, FrontPart, partOf}
 use Rattle.nifti.specs.Model.{notListed, cut, cutTo, taken, takenBy, listIn, frontOf}
 use Rattle.nifti.specs.Laws.File.{fronts-by, listing}
 use Rattle.nifti.specs.Laws.Header.{Told, acceptedWith, count-few}
@@ -194,7 +195,8 @@ stands-first : (file : List ℕ) (l : Option (List Extension)) → first (condit
 unfolding conditionsOfFile noFront positive
 stands-first file l h =
     offset-there file
-    (not-false (frontStands file) (or-right (ltb (length file) 544) (not (frontStands file)) (row-fails (given-none (conditionsOfFile file l) refl h))))
+    (not-false (frontStands file)
+    (or-right (ltb (length file) 544) (not (frontStands file)) (row-fails (given-none (conditionsOfFile file l) refl h))))
 
 accepted-inside : (file : List ℕ) (o : Option Body) → ((b : Body) → o ≡ some b → Inside file (length file) b)
     → (acceptedFront file o) .start + (acceptedFront file o) .length ≤ length file
@@ -210,7 +212,8 @@ to-inside : (file : List ℕ) (l : Option (List Extension)) → ListOf file l �
 unfolding frontTo frontBy
 to-inside file l w = go (first (conditionsOfFile file l)) refl
   where
-    go : (n : ℕ) → first (conditionsOfFile file l) ≡ n → (frontBy n file (textOf l)) .start + (frontBy n file (textOf l)) .length ≤ length file
+    go : (n : ℕ) → first (conditionsOfFile file l) ≡ n
+        → (frontBy n file (textOf l)) .start + (frontBy n file (textOf l)) .length ≤ length file
     go zero e = accepted-inside file (textOf l) (λ b q. list-inside w (stands-first file l e) q)
     go (suc n) e = omega arith
 
@@ -232,14 +235,16 @@ front-shaped {file} r = rw (r .answered) (shaped-by (first (conditionsOfFile fil
 pub part-inside : {file : List ℕ} {f : Front} → Fronts file f → f .start + f .length ≤ length file
 part-inside {file} r = rw (r .answered) (to-inside file (r .extensions) (r .of))
 
-pub part-cut : {file : List ℕ} {f : Front} → Fronts file f → FrontPart file (take ((f .start + f .length) - f .start) (drop (f .start) file))
+pub part-cut : {file : List ℕ} {f : Front} → Fronts file f
+    → FrontPart file (take ((f .start + f .length) - f .start) (drop (f .start) file))
 unfolding partOf
 part-cut {file} {f} r =
     let n : (f .start + f .length) - f .start ≡ f .length = omega arith in
     record { front = f; fronts = r; cut = ap (λ m. take m (drop (f .start) file)) n }
 
-pub accepted-so : (file : List ℕ) (start size : ℕ) {count a b c m : ℕ} → count ≡ lengthCount file → a ≡ lengthAt file 0 → b ≡ lengthAt file 1
-    → c ≡ lengthAt file 2 → m ≡ length (withoutZeros (take size (drop start file))) → frontWith 0 count a b c start m ≡ acceptedWith file start size
+pub accepted-so : (file : List ℕ) (start size : ℕ) {count a b c m : ℕ} → count ≡ lengthCount file → a ≡ lengthAt file 0
+    → b ≡ lengthAt file 1 → c ≡ lengthAt file 2 → m ≡ length (withoutZeros (take size (drop start file)))
+    → frontWith 0 count a b c start m ≡ acceptedWith file start size
 unfolding acceptedWith
 accepted-so file start size e p q r h = rw (e, p, q, r, h)
 

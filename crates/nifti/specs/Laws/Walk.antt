@@ -82,14 +82,18 @@ module _ {file : List ℕ} {o : Order} {end start size place left : ℕ} (w : Wa
 
   pub walk-ends : left ≤ 0 → record { listed = true; start = start; length = size } ≡ takenBy 0 0 544 (cut o (slice 544 end file))
   unfolding takenBy taken
-  walk-ends h = let z : left ≡ 0 = omega arith in sym (w .same ∙ ap (takenBy start size place) (cut-none o (slice place end file) (long-slice ∙ z)))
+  walk-ends h =
+      let z : left ≡ 0 = omega arith in
+      sym (w .same ∙ ap (takenBy start size place) (cut-none o (slice place end file) (long-slice ∙ z)))
 
-  fails : 0 < left → goodSize (numberAt o 4 0 (slice place end file)) left ≡ false → notListed ≡ takenBy 0 0 544 (cut o (slice 544 end file))
+  fails : 0 < left → goodSize (numberAt o 4 0 (slice place end file)) left ≡ false
+      → notListed ≡ takenBy 0 0 544 (cut o (slice 544 end file))
   unfolding takenBy
   fails h b =
       let l = long-slice in
       sym (w .same ∙ ap (takenBy start size place)
-      (cut-bad o (slice place end file) (λ z. omega arith) (subst (λ n. goodSize (numberAt o 4 0 (slice place end file)) n ≡ false) (sym l) b)))
+      (cut-bad o (slice place end file) (λ z. omega arith)
+      (subst (λ n. goodSize (numberAt o 4 0 (slice place end file)) n ≡ false) (sym l) b)))
 
   pub walk-short : {r : Taken} → r ≡ notListed → 0 < left → left < 16 → r ≡ takenBy 0 0 544 (cut o (slice 544 end file))
   walk-short x h k = x ∙ fails h (refute _ (λ g. let f = size-fits _ _ g in let a = f .low in let b = f .inside in omega arith))
@@ -167,7 +171,18 @@ module _ {file : List ℕ} {o : Order} {end start size place left : ℕ} (w : Wa
             (take-on start size place the _ y (the-code q ∙ z)
             ∙ ap (λ k. takenBy (place + 8) k (place + sizeOf the) (cut o (slice (place + n) end file))) the-body)
 
-pub ruleset walking = (allows-inside, allows-eight, allows-less, walk-begins, walk-ends, walk-short, walk-fails, walk-past, walk-other, walk-takes)
+pub ruleset walking = (
+  allows-inside,
+  allows-eight,
+  allows-less,
+  walk-begins,
+  walk-ends,
+  walk-short,
+  walk-fails,
+  walk-past,
+  walk-other,
+  walk-takes,
+)
 
 -- ---- A good size, as code asks for it.
 
