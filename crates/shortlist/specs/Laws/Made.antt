@@ -1,0 +1,178 @@
+-- WHAT IS MADE OF THE RECORDS: the order 15, 16, 26, 17, and the list lent as it is filled. Assumes nothing.
+use mathlib.Core.Path.{_≡_, refl, sym, ap, _∙_}
+use mathlib.Core.List.{List, [], _∷_, _++_}
+use mathlib.Core.Bool.{Bool, true, false, cond, not}
+use mathlib.Core.Logic.{⊎-elim}
+use Prim.Native.Nat.{ℕ, zero, suc, _+_, _<_, _≤_}
+use native.Mathlib.Omega.{arith}
+use lib.Dec.{ltb}
+use lib.ListN.{length, getD, set, drop}
+use lib.Seq.{drop-cons, set-at, append-snoc}
+use borrow.Author.Tests.{lt-ltb, le-ltb, ne-eqb}
+use Rattle.lists.specs.Lists.{all, table, countUp}
+use Rattle.lists.specs.Refusals.{Refusal, _when_, first, NoneApplies, positive, passed}
+use Rattle.lists.specs.Laws.Refusals.{given-none, row-fails, rows-behind}
+use Rattle.lists.specs.Laws.Tables.{size-of-table}
+use Rattle.records.specs.Outcome.{unless, ends, applies, passes, gives-first}
+use Rattle.records.specs.Record.{legalRecord}
+use Rattle.records.specs.Sheet.{goodCount}
+use Rattle.records.specs.Laws.Numbers.{eq?}
+use Rattle.shortlist.specs.Runs.{runs, comesBack, laid}
+use Rattle.shortlist.specs.Making.{listRefusal, listedNumber, listedCount, Lists}
+use Rattle.shortlist.specs.Asking.{noModel}
+use Rattle.shortlist.specs.Made.{modelAt, filled, refusedBy, listedBy, RunsOf, MadeOf}
+use Rattle.shortlist.specs.Laws.Runs.{table-snoc}
+use Rattle.shortlist.specs.declared.answer.Model.{Model}
+use Rattle.shortlist.specs.declared.answer.Listed.{Listed}
+use Rattle.shortlist.specs.declared.state.Made.{Made}
+
+refused : {rs : List ℕ} {room n : ℕ} → n ≡ listRefusal rs room → (n ≡ 0 → ⊥) → MadeOf rs room (refusedBy n)
+refused e z = record { numbered = e; holding = λ q. absurd (z q); none = λ q. refl; few = omega arith; fit = omega arith }
+
+module _ (rs : List ℕ) (room : ℕ) where
+  pub bad-count : goodCount (length rs) ≡ false → MadeOf rs room (refusedBy 15)
+  unfolding listRefusal
+  bad-count h = refused (sym (gives-first (applies (ap not h)))) (λ z. omega arith)
+
+  module _ {made : Made} (good : goodCount (length rs) ≡ true) (o : RunsOf rs made) where
+    -- nothing is refused: the rows behind 15 fail
+    clear : made .number ≡ 0 → NoneApplies (16 when not (all legalRecord rs) ∷ 26 when comesBack rs ∷ [])
+    unfolding positive
+    clear z = given-none (16 when not (all legalRecord rs) ∷ 26 when comesBack rs ∷ []) refl (sym (o .numbered) ∙ z)
+
+    long : made .number ≡ 0 → length (runs rs) ≡ made .count
+    long z = sym (ap length (o .holding z)) ∙ size-of-table (modelAt made) (made .count)
+
+    accepted : made .number ≡ 0 → made .count ≤ room → listRefusal rs room ≡ 0
+    unfolding listRefusal
+    accepted z h =
+        let c = clear z in
+        let l = long z in
+        gives-first
+        (passes (ap not good)
+        (passes (row-fails c) (passes (row-fails (rows-behind c)) (passes (le-ltb room (length (runs rs)) (omega arith)) ends))))
+
+    pub too-short : room < made .count → MadeOf rs room (refusedBy 17)
+    unfolding listRefusal
+    too-short h = ⊎-elim (λ (z : made .number ≡ 0). here z) (λ (z : made .number ≡ 0 → ⊥). absurd (let e = o .none z in omega arith)) (eq? (made .number) 0)
+      where
+        here : made .number ≡ 0 → MadeOf rs room (refusedBy 17)
+        here z =
+            let c = clear z in
+            let l = long z in
+            refused (sym (gives-first
+            (passes (ap not good)
+            (passes (row-fails c) (passes (row-fails (rows-behind c)) (applies (lt-ltb room (length (runs rs)) (omega arith)))))))) (λ q. omega arith)
+
+    -- what was refused before 17 stays refused
+    kept : (made .number ≡ 0 → ⊥) → made .number ≡ listRefusal rs room
+    unfolding listRefusal first
+    kept z = go (all legalRecord rs) (comesBack rs) (o .numbered)
+      where
+        go : (a b : Bool) → made .number ≡ first (16 when not a ∷ 26 when b ∷ [])
+            → made .number ≡ first (15 when not (goodCount (length rs)) ∷ 16 when not a ∷ 26 when b ∷ 17 when ltb room (length (runs rs)) ∷ [])
+        go false b e = e ∙ sym (ap (λ t. first (15 when not t ∷ 16 when true ∷ 26 when b ∷ 17 when ltb room (length (runs rs)) ∷ [])) good)
+        go true true e = e ∙ sym (ap (λ t. first (15 when not t ∷ 16 when false ∷ 26 when true ∷ 17 when ltb room (length (runs rs)) ∷ [])) good)
+        go true false e = absurd (z e)
+
+    pub made-as-it-is : made .count ≤ room → MadeOf rs room made
+    made-as-it-is h = record {
+      numbered = ⊎-elim (λ (z : made .number ≡ 0). z ∙ sym (accepted z h)) kept (eq? (made .number) 0);
+      holding = o .holding;
+      none = o .none;
+      few = o .few;
+      fit = h;
+    }
+
+-- ---- The list lent.
+
+-- filled entry by entry is laid over its start
+pub filled-laid : (n : ℕ) (f : ℕ → Model) (l : List Model) → n ≤ length l → filled n f l ≡ table n f ++ drop n l
+unfolding table countUp
+filled-laid zero f l h = refl
+filled-laid (suc n) f l h =
+    let d = drop-cons l n noModel h in
+    let e = filled-laid n f l (omega arith) ∙ ap (λ r. table n f ++ r) d in
+    ap (λ r. set r n (f n)) e
+    ∙ set-at (table n f) (getD l n noModel) (drop (suc n) l) (f n) n (size-of-table f n)
+    ∙ sym (append-snoc (table n f) (f n) (drop (suc n) l))
+    ∙ ap (λ r. r ++ drop (suc n) l) (sym (table-snoc f n))
+
+-- ---- The answer.
+
+number-of : (rs : List ℕ) (room c : ℕ) → listedNumber (listedBy (listRefusal rs room) c) ≡ listRefusal rs room
+unfolding listRefusal first listedNumber listedBy
+number-of rs room c = go (not (goodCount (length rs))) (not (all legalRecord rs)) (comesBack rs) (ltb room (length (runs rs)))
+  where
+    go : (t u v w : Bool) → listedNumber (listedBy (first (15 when t ∷ 16 when u ∷ 26 when v ∷ 17 when w ∷ [])) c)
+        ≡ first (15 when t ∷ 16 when u ∷ 26 when v ∷ 17 when w ∷ [])
+    go true u v w = refl
+    go false true v w = refl
+    go false false true w = refl
+    go false false false true = refl
+    go false false false false = refl
+
+count-of : (rs : List ℕ) (room c : ℕ) → (listRefusal rs room ≡ 0 → ⊥) → listedCount (listedBy (listRefusal rs room) c) ≡ 0
+unfolding listRefusal first listedCount listedBy
+count-of rs room c = go (not (goodCount (length rs))) (not (all legalRecord rs)) (comesBack rs) (ltb room (length (runs rs)))
+  where
+    go : (t u v w : Bool) → (first (15 when t ∷ 16 when u ∷ 26 when v ∷ 17 when w ∷ []) ≡ 0 → ⊥)
+        → listedCount (listedBy (first (15 when t ∷ 16 when u ∷ 26 when v ∷ 17 when w ∷ [])) c) ≡ 0
+    go true u v w z = refl
+    go false true v w z = refl
+    go false false true w z = refl
+    go false false false true z = refl
+    go false false false false z = absurd (z refl)
+
+models-of : (n c : ℕ) → n ≡ 0 → listedCount (listedBy n c) ≡ c
+unfolding listedCount listedBy
+models-of n c e = rw e
+
+-- what was made, and filled into the list lent, is what is promised
+pub lists-made : (rs : List ℕ) (before after : List Model) (made : Made) (answer : Listed) → MadeOf rs (length before) made
+    → after ≡ filled (made .count) (modelAt made) before → answer ≡ listedBy (made .number) (made .count) → Lists rs before answer after
+unfolding laid
+lists-made rs before after made answer o e a = record {
+  numbered = number;
+  counted = ⊎-elim counts none (eq? (made .number) 0);
+  holds = ⊎-elim fills same (eq? (made .number) 0);
+}
+  where
+    n : ℕ
+    n = listRefusal rs (length before)
+
+    from-n : answer ≡ listedBy n (made .count)
+    from-n = a ∙ ap (λ k. listedBy k (made .count)) (o .numbered)
+
+    number : listedNumber answer ≡ n
+    number = ap listedNumber from-n ∙ number-of rs (length before) (made .count)
+
+    zero-is : made .number ≡ 0 → listedNumber answer ≡ 0
+    zero-is z = number ∙ sym (o .numbered) ∙ z
+
+    not-zero : (made .number ≡ 0 → ⊥) → listedNumber answer ≡ 0 → ⊥
+    not-zero z q = z (o .numbered ∙ sym number ∙ q)
+
+    counts : made .number ≡ 0 → listedCount answer ≡ unless (listedNumber answer) (length (runs rs)) 0
+    counts z =
+        ap listedCount a ∙ models-of (made .number) (made .count) z
+        ∙ sym (size-of-table (modelAt made) (made .count)) ∙ ap length (o .holding z)
+        ∙ sym (ap (λ k. unless k (length (runs rs)) 0) (zero-is z))
+
+    none : (made .number ≡ 0 → ⊥) → listedCount answer ≡ unless (listedNumber answer) (length (runs rs)) 0
+    none z =
+        ap listedCount from-n ∙ count-of rs (length before) (made .count) (λ q. z (o .numbered ∙ q))
+        ∙ sym (ap (λ b. cond b (length (runs rs)) 0) (ne-eqb (listedNumber answer) 0 (not-zero z)))
+
+    fills : made .number ≡ 0 → after ≡ unless (listedNumber answer) (laid (runs rs) before) before
+    fills z =
+        let t = o .holding z in
+        let c : made .count ≡ length (runs rs) = sym (size-of-table (modelAt made) (made .count)) ∙ ap length t in
+        e ∙ filled-laid (made .count) (modelAt made) before (o .fit)
+        ∙ ap (λ l. l ++ drop (made .count) before) t ∙ ap (λ k. runs rs ++ drop k before) c
+        ∙ sym (ap (λ k. unless k (laid (runs rs) before) before) (zero-is z))
+
+    same : (made .number ≡ 0 → ⊥) → after ≡ unless (listedNumber answer) (laid (runs rs) before) before
+    same z =
+        e ∙ ap (λ k. filled k (modelAt made) before) (o .none z)
+        ∙ sym (ap (λ b. cond b (laid (runs rs) before) before) (ne-eqb (listedNumber answer) 0 (not-zero z)))
