@@ -1,8 +1,10 @@
+pub mod Location
 pub mod Runs
 pub mod Named
 pub mod Walking
 pub mod Made
 pub mod Search
+pub mod Entry
 pub mod Answers
 pub mod Unique
 pub mod Theorems

@@ -88,16 +88,16 @@ folded f s (m ∷ l) = folded f (f s m) l
 unfoldable pub toldOf : Search → Told
 toldOf s = cond (s .bad) Told.BadList (cond (s .held) (Told.Is (leb 32 (s .tells)) (s .tells % 32)) Told.Nothing)
 
--- the records among which the record is looked for; that they do not all lie among the records
+-- the records among which the record is looked for; that they do not all lie among so many
 abbrev pub ownRecords : Search → List ℕ → List ℕ
 ownRecords s rs = take (s .size) (drop (s .from) rs)
 
-unfoldable pub outside : Search → List ℕ → Bool
-outside s rs = s .bad || (s .past || ltb (length rs) (s .from + s .size))
+unfoldable pub outside : Search → (records : ℕ) → Bool
+outside s n = s .bad || (s .past || ltb n (s .from + s .size))
 
 -- what `sought` promises
 pub record Finding (rs : List ℕ) (s : Search) (x : ℕ) (answer : Sought) : Type 0 where
-  pub numbered : soughtNumber answer ≡ first (26 when outside s rs ∷ 19 when not (isRecord x && any (eqb x) (ownRecords s rs)) ∷ [])
+  pub numbered : soughtNumber answer ≡ first (26 when outside s (length rs) ∷ 19 when not (isRecord x && any (eqb x) (ownRecords s rs)) ∷ [])
   pub place : ℕ
   pub found : soughtNumber answer ≡ 0 → FirstPlace (ownRecords s rs) x place
   pub index-is : soughtNumber answer ≡ 0 → soughtIndex answer ≡ s .from + place

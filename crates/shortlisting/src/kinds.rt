@@ -13,26 +13,26 @@ ghost use Rattle.shortlist.specs.Runs.{kindNumber, kindOf};
 ghost use Rattle.shortlist.specs.Asking.{isRecord};
 
 // Type and structure as one number, of a record: 32 for voxels, and the structure.
-pub(crate) fn kind_of(record: u64) -> u64
-    ensures is { λ k. ⌜ k ≡ kindOf record ⌝ }
+pub(crate) fn kind_of(number: u64) -> u64
+    ensures is { λ k. ⌜ k ≡ kindOf number ⌝ }
     ensures small { λ k. ⌜ k < 64 ⌝ }
 {
-    let structure = structure_of(record);
-    if is_voxel(record) {
+    let structure = structure_of(number);
+    if is_voxel(number) {
         return 32 + structure;
     }
     structure
 }
 
 // The record of the location that a number's bits say.
-fn made_again(record: u64) -> u64
-    ensures { λ r. ⌜ r ≡ recordOf (locationOf record) ⌝ }
+fn made_again(number: u64) -> u64
+    ensures { λ r. ⌜ r ≡ recordOf (locationOf number) ⌝ }
 {
-    let structure = structure_of(record);
-    if is_voxel(record) {
-        return voxel_record(structure, i_of(record), j_of(record), k_of(record));
+    let structure = structure_of(number);
+    if is_voxel(number) {
+        return voxel_record(structure, i_of(number), j_of(number), k_of(number));
     }
-    surface_record(structure, vertex_of(record))
+    surface_record(structure, vertex_of(number))
 }
 
 // A number of no more bits than a record has.

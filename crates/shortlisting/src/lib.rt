@@ -6,14 +6,10 @@ mod kinds;
 mod runs;
 // A list taken entry by entry, and what is answered at its end.
 mod search;
-// The lent list of models: three doors.
-mod lists;
 
-pub use lists::index_of;
-pub use lists::model_list;
-pub use lists::structure_at;
 pub use runs::made_of;
 pub use search::begin;
+pub use search::begin_record;
 pub use search::next;
 pub use search::sought;
 pub use search::told;

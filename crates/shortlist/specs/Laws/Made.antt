@@ -1,16 +1,17 @@
 -- WHAT IS MADE OF THE RECORDS: the order 15, 16, 26, 17, and the list lent as it is filled. Assumes nothing.
-use mathlib.Core.Path.{_≡_, refl, sym, ap, _∙_}
+use mathlib.Core.Path.{_≡_, refl, sym, ap, _∙_, subst}
 use mathlib.Core.List.{List, [], _∷_, _++_}
-use mathlib.Core.Bool.{Bool, true, false, cond, not}
+use mathlib.Core.Bool.{Bool, true, false, cond, not, _||_}
 use mathlib.Core.Logic.{⊎-elim}
 use Prim.Native.Nat.{ℕ, zero, suc, _+_, _<_, _≤_}
 use native.Mathlib.Omega.{arith}
-use lib.Dec.{ltb}
+use lib.Dec.{leb, ltb}
 use lib.ListN.{length, getD, set, drop}
 use lib.Seq.{drop-cons, set-at, append-snoc}
-use borrow.Author.Tests.{lt-ltb, le-ltb, ne-eqb}
+use borrow.Author.Tests.{lt-ltb, le-ltb, ne-eqb, le-leb, lt-leb, ltb-true, ltb-false}
 use Rattle.lists.specs.Lists.{all, table, countUp}
 use Rattle.lists.specs.Refusals.{Refusal, _when_, first, NoneApplies, positive, passed}
+use Rattle.lists.specs.Laws.Booleans.{or-elim, or-left, or-right, and-no, and-both}
 use Rattle.lists.specs.Laws.Refusals.{given-none, row-fails, rows-behind}
 use Rattle.lists.specs.Laws.Tables.{size-of-table}
 use Rattle.records.specs.Outcome.{unless, ends, applies, passes, gives-first}
@@ -83,6 +84,33 @@ module _ (rs : List ℕ) (room : ℕ) where
       few = o .few;
       fit = h;
     }
+
+-- ---- The same, as code meets it.
+
+count-no : (n : ℕ) → (ltb n 1 || ltb 1048576 n) ≡ true → goodCount n ≡ false
+unfolding goodCount
+count-no n h = or-elim _ (ltb n 1) (ltb 1048576 n) h
+    (λ e. rw (lt-leb 1 n (ltb-true n 1 e)))
+    (λ e. and-no (leb 1 n) (leb n 1048576) (lt-leb n 1048576 (ltb-true 1048576 n e)))
+
+count-yes : (n : ℕ) → (ltb n 1 || ltb 1048576 n) ≡ false → goodCount n ≡ true
+unfolding goodCount
+count-yes n h =
+    and-both (le-leb 1 n (ltb-false n 1 (or-left (ltb n 1) (ltb 1048576 n) h)))
+    (le-leb n 1048576 (ltb-false 1048576 n (or-right (ltb n 1) (ltb 1048576 n) h)))
+
+module _ (rs : List ℕ) (room : ℕ) where
+  pub stops-count : {r : Made} → (ltb (length rs) 1 || ltb 1048576 (length rs)) ≡ true → r ≡ refusedBy 15 → MadeOf rs room r
+  stops-count h e = subst (MadeOf rs room) (sym e) (bad-count rs room (count-no (length rs) h))
+
+  pub stops-short : {made r : Made} → (ltb (length rs) 1 || ltb 1048576 (length rs)) ≡ false → RunsOf rs made → room < made .count → r ≡ refusedBy 17
+      → MadeOf rs room r
+  stops-short h o k e = subst (MadeOf rs room) (sym e) (too-short rs room (count-yes (length rs) h) o k)
+
+  pub made-whole : {made : Made} → (ltb (length rs) 1 || ltb 1048576 (length rs)) ≡ false → RunsOf rs made → made .count ≤ room → MadeOf rs room made
+  made-whole h o k = made-as-it-is rs room (count-yes (length rs) h) o k
+
+pub ruleset making = (stops-count, stops-short, made-whole)
 
 -- ---- The list lent.
 

@@ -45,6 +45,20 @@ pub kind-small : (r : ℕ) → kindOf r < 64
 unfolding kindOf
 kind-small r = kind-below (isVoxel r) (structureOf r) (structure-small r)
 
+-- the kind of a record, as code finds it
+pub voxel-kind : (n s : ℕ) (b : Bool) → s ≡ structureOf n → b ≡ isVoxel n → b ≡ true → (32 + s ≡ kindOf n) × (32 + s < 64)
+unfolding kindOf kindNumber
+voxel-kind n s b p q e =
+    let k : 32 + s ≡ kindOf n = ap (λ t. 32 + t) p ∙ sym (ap (λ t. cond t 32 0 + structureOf n) (sym q ∙ e)) in
+    (k, omega (arith, p, structure-small n))
+
+pub surface-kind : (n s : ℕ) (b : Bool) → s ≡ structureOf n → b ≡ isVoxel n → b ≡ false → (s ≡ kindOf n) × (s < 64)
+unfolding kindOf kindNumber
+surface-kind n s b p q e =
+    let z : 0 + structureOf n ≡ structureOf n = omega arith in
+    let k : s ≡ kindOf n = p ∙ sym z ∙ sym (ap (λ t. cond t 32 0 + structureOf n) (sym q ∙ e)) in
+    (k, omega (arith, p, structure-small n))
+
 -- ---- A run by its kind.
 
 abbrev pub piece : (at count kind : ℕ) → Model

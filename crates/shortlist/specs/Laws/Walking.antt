@@ -1,5 +1,5 @@
 -- THE WALK OVER THE RECORDS, run after run: what holds at the beginning of each, and at the end. Assumes nothing.
-use mathlib.Core.Path.{_≡_, refl, sym, ap, _∙_}
+use mathlib.Core.Path.{_≡_, refl, sym, ap, _∙_, subst}
 use mathlib.Core.List.{List, [], _∷_, _++_, append-assoc, append-nil}
 use mathlib.Core.Bool.{Bool, true, false, cond, not, _&&_}
 use mathlib.Core.Logic.{⊎-elim}
@@ -9,10 +9,10 @@ use native.Mathlib.Numerals.{add-one}
 use lib.Dec.{eqb, leb}
 use lib.ListN.{length, getD, set, drop, replicate, length-set}
 use lib.Seq.{drop-cons, getD-set-same, getD-set-other}
-use borrow.Author.Tests.{eq-eqb}
+use borrow.Author.Tests.{eq-eqb, eqb-true, not-true, not-false}
 use Rattle.lists.specs.Lists.{all, twoOf, table, countUp}
 use Rattle.lists.specs.Refusals.{_when_, first}
-use Rattle.lists.specs.Laws.Booleans.{and-both, both-ways}
+use Rattle.lists.specs.Laws.Booleans.{and-left, and-right, and-both, both-ways}
 use Rattle.lists.specs.Quantifiers.{all-iff}
 use Rattle.lists.specs.Laws.Tables.{table-below}
 use Rattle.records.specs.Outcome.{Gives, ends, applies, passes, gives-first}
@@ -58,7 +58,7 @@ walked-first rs = record {
 -- ---- Its refusals.
 
 -- one record's legality
-legal-cons : (rs : List ℕ) (at : ℕ) → at < length rs
+pub legal-cons : (rs : List ℕ) (at : ℕ) → at < length rs
     → all legalRecord (drop at rs) ≡ (legalRecord (getD rs at 0) && all legalRecord (drop (suc at) rs))
 unfolding all
 legal-cons rs at h = rw (drop-cons rs at 0 h)
@@ -100,6 +100,69 @@ named-here {rs} {at} {seen} w h e k =
 pub illegal-behind : {rs : List ℕ} {at : ℕ} {seen : List Bool} {made : Made} → Walked rs at seen made
     → all legalRecord (drop at rs) ≡ false → RunsOf rs (refusedBy 16)
 illegal-behind w k = illegal (w .legal-is ∙ k)
+
+-- whether all are legal, as a loop finds it
+pub legal-no : (rs : List ℕ) (at i : ℕ) (b : Bool) → all legalRecord (drop at rs) ≡ all legalRecord (drop i rs) → i < length rs
+    → b ≡ legalRecord (getD rs i 0) → not b ≡ true → false ≡ all legalRecord (drop at rs)
+legal-no rs at i b e h p q =
+    sym (e ∙ legal-cons rs i h ∙ ap (λ t. t && all legalRecord (drop (suc i) rs)) (sym p ∙ not-true b q))
+
+pub legal-on : (rs : List ℕ) (at i : ℕ) (b : Bool) → all legalRecord (drop at rs) ≡ all legalRecord (drop i rs) → i < length rs
+    → b ≡ legalRecord (getD rs i 0) → not b ≡ false → all legalRecord (drop at rs) ≡ all legalRecord (drop (i + 1) rs)
+legal-on rs at i b e h p q =
+    e ∙ legal-cons rs i h ∙ ap (λ t. t && all legalRecord (drop (suc i) rs)) (sym p ∙ not-false b q)
+    ∙ ap (λ n. all legalRecord (drop n rs)) (sym (add-one i))
+
+pub legal-all : (rs : List ℕ) (at i : ℕ) → all legalRecord (drop at rs) ≡ all legalRecord (drop i rs) → length rs ≤ i
+    → true ≡ all legalRecord (drop at rs)
+unfolding all
+legal-all rs at i e h = sym (e ∙ ap (all legalRecord) (drop-all rs i h))
+
+pub ruleset legality = (legal-no, legal-on, legal-all)
+
+-- ---- The end of a run, as a loop finds it.
+
+-- the records from a place on are legal and of the kind so far
+pub record OfKind (rs : List ℕ) (from kind i : ℕ) : Type 0 where
+  pub behind : from ≤ i
+  pub inside : from ≤ length rs → i ≤ length rs
+  pub legal : (j : ℕ) → from ≤ j → j < i → legalRecord (getD rs j 0) ≡ true
+  pub same : (j : ℕ) → from ≤ j → j < i → kindOf (getD rs j 0) ≡ kind
+
+pub of-kind-first : (rs : List ℕ) (from kind : ℕ) → OfKind rs from kind from
+of-kind-first rs from kind = record {
+  behind = omega arith;
+  inside = λ h. h;
+  legal = λ j u v. absurd (omega arith);
+  same = λ j u v. absurd (omega arith);
+}
+
+module _ {rs : List ℕ} {from kind i : ℕ} (o : OfKind rs from kind i) where
+  pub of-kind-more : (b : Bool) (k : ℕ) → i < length rs → b ≡ legalRecord (getD rs i 0) → k ≡ kindOf (getD rs i 0)
+      → not (b && eqb k kind) ≡ false → OfKind rs from kind (i + 1)
+  of-kind-more b k h p q f = let e = not-false (b && eqb k kind) f in record {
+    behind = omega (arith, o .behind);
+    inside = λ z. omega arith;
+    legal = λ j u v. ⊎-elim (λ (z : j ≡ i). ap (λ n. legalRecord (getD rs n 0)) z ∙ sym p ∙ and-left b (eqb k kind) e)
+        (λ (z : j ≡ i → ⊥). o .legal j u (omega arith)) (eq? j i);
+    same = λ j u v. ⊎-elim (λ (z : j ≡ i). ap (λ n. kindOf (getD rs n 0)) z ∙ sym q ∙ eqb-true k kind (and-right b (eqb k kind) e))
+        (λ (z : j ≡ i → ⊥). o .same j u (omega arith)) (eq? j i);
+  }
+
+  pub of-kind-stops : (b : Bool) (k : ℕ) → i < length rs → b ≡ legalRecord (getD rs i 0) → k ≡ kindOf (getD rs i 0)
+      → not (b && eqb k kind) ≡ true → RunEnd rs from kind i
+  of-kind-stops b k h p q f = let e = not-true (b && eqb k kind) f in record {
+    behind = o .behind;
+    inside = o .inside;
+    legal = o .legal;
+    same = o .same;
+    stops = λ z. sym (ap (λ n. b && eqb n kind) q ∙ ap (λ t. t && eqb (kindOf (getD rs i 0)) kind) p) ∙ e;
+  }
+
+  pub of-kind-all : length rs ≤ i → RunEnd rs from kind i
+  of-kind-all h = record { behind = o .behind; inside = o .inside; legal = o .legal; same = o .same; stops = λ z. absurd (omega arith) }
+
+pub ruleset ending = (of-kind-more, of-kind-stops, of-kind-all)
 
 -- ---- One run more.
 
@@ -150,8 +213,8 @@ legal-through rs (suc d) i h f =
     ∙ legal-through rs d (suc i) (omega arith) (λ j u v. f j (omega arith) (omega arith)))
 
 module _ {rs : List ℕ} {at k to : ℕ} {seen : List Bool} {made : Made} (w : Walked rs at seen made) (h : at < length rs)
-  (good : legalRecord (getD rs at 0) ≡ true) (kind : k ≡ kindOf (getD rs at 0)) (fresh : getD seen k false ≡ false)
-  (run : RunEnd rs (at + 1) k to) where
+    (good : legalRecord (getD rs at 0) ≡ true) (kind : k ≡ kindOf (getD rs at 0)) (fresh : getD seen k false ≡ false)
+    (run : RunEnd rs (at + 1) k to) where
   small : k < 64
   small = let e = kind-small (getD rs at 0) in omega (arith, kind)
 
@@ -223,3 +286,32 @@ walked-last {rs} {at} {seen} {made} w h =
   where
     all-none : all legalRecord [] ≡ true
     all-none = refl
+
+-- ---- The same, as code meets it.
+
+module _ {rs : List ℕ} {made : Made} where
+  pub starts : made ≡ refusedBy 0 → Walked rs 0 (replicate 64 false) made
+  starts e = subst (λ (m : Made). Walked rs 0 (replicate 64 false) m) (sym e) (walked-first rs)
+
+module _ {rs : List ℕ} {at : ℕ} {seen : List Bool} {made r : Made} (w : Walked rs at seen made) where
+  pub stops-illegal : (b : Bool) → at < length rs → b ≡ legalRecord (getD rs at 0) → not b ≡ true → r ≡ refusedBy 16 → RunsOf rs r
+  stops-illegal b h p q e = subst (RunsOf rs) (sym e) (illegal-here w h (sym p ∙ not-true b q))
+
+  pub stops-named : (b : Bool) (k : ℕ) → at < length rs → k ≡ kindOf (getD rs at 0) → getD seen k false ≡ true
+      → b ≡ all legalRecord (drop at rs) → b ≡ true → r ≡ refusedBy 26 → RunsOf rs r
+  stops-named b k h q s p z e =
+      subst (RunsOf rs) (sym e) (named-here w h (ap (λ i. getD seen i false) (sym q) ∙ s) (sym p ∙ z))
+
+  pub stops-behind : (b : Bool) → b ≡ all legalRecord (drop at rs) → b ≡ false → r ≡ refusedBy 16 → RunsOf rs r
+  stops-behind b p z e = subst (RunsOf rs) (sym e) (illegal-behind w (sym p ∙ z))
+
+module _ {rs : List ℕ} {at : ℕ} {seen : List Bool} {made : Made} (w : Walked rs at seen made) (b : Bool) (k to : ℕ)
+    (h : at < length rs) (p : b ≡ legalRecord (getD rs at 0)) (z : not b ≡ false) (q : k ≡ kindOf (getD rs at 0))
+    (s : getD seen k false ≡ false) (e : RunEnd rs (at + 1) k to) where
+  pub goes-room : made .count < 64
+  goes-room = walked-room w h (sym p ∙ not-false b z) q s e
+
+  pub goes-on : {more : Made} → more ≡ withRun made at (to - at) k → Walked rs to (set seen k true) more
+  goes-on m = subst (Walked rs to (set seen k true)) (sym m) (walked-on w h (sym p ∙ not-false b z) q s e)
+
+pub ruleset walking = (starts, stops-illegal, stops-named, stops-behind, goes-room, goes-on, walked-last)
