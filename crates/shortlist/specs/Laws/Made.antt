@@ -204,3 +204,27 @@ lists-made rs before after made answer o e a = record {
     same z =
         e ∙ ap (λ k. filled k (modelAt made) before) (o .none z)
         ∙ sym (ap (λ b. cond b (laid (runs rs) before) before) (ne-eqb (listedNumber answer) 0 (not-zero z)))
+
+-- the answer, as code chooses it
+module _ (n c : ℕ) where
+  pub listed-15 : n ≡ 15 → Listed.BadCount ≡ listedBy n c
+  unfolding listedBy
+  listed-15 h = sym (rw h)
+
+  pub listed-16 : n ≡ 16 → Listed.BadRecord ≡ listedBy n c
+  unfolding listedBy
+  listed-16 h = sym (rw h)
+
+  pub listed-26 : n ≡ 26 → Listed.Parted ≡ listedBy n c
+  unfolding listedBy
+  listed-26 h = sym (rw h)
+
+  pub listed-17 : n ≡ 17 → Listed.TooShort ≡ listedBy n c
+  unfolding listedBy
+  listed-17 h = sym (rw h)
+
+  pub listed-0 : (n ≡ 15 → ⊥) → (n ≡ 16 → ⊥) → (n ≡ 26 → ⊥) → (n ≡ 17 → ⊥) → Listed.Models c ≡ listedBy n c
+  unfolding listedBy
+  listed-0 p q r s = sym (rw (ne-eqb n 15 p, ne-eqb n 16 q, ne-eqb n 26 r, ne-eqb n 17 s))
+
+pub ruleset listing = (listed-15, listed-16, listed-26, listed-17, listed-0)
