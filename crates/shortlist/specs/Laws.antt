@@ -8,3 +8,4 @@ pub mod Entry
 pub mod Answers
 pub mod Unique
 pub mod Theorems
+pub mod Finds

@@ -36,7 +36,7 @@ none-above : noStructure noModel ≡ false
 unfolding noStructure
 none-above = refl
 
-none-past : (n : ℕ) → pastEnd n noModel ≡ false
+pub none-past : (n : ℕ) → pastEnd n noModel ≡ false
 unfolding pastEnd
 none-past n = le-ltb n 0 (omega arith)
 

@@ -121,7 +121,7 @@ seen-bad s (m ∷ l) z g =
     by false e ih = ap (λ t. (folded nextOf t l) .bad) (next-good s m g e) ∙ ih ∙ sym (good-here s m l z e)
 
 -- the first that passes
-the-cons : (p : Model → Bool) (m : Model) (l : List Model) → the p (m ∷ l) ≡ cond (p m) m (the p l)
+pub the-cons : (p : Model → Bool) (m : Model) (l : List Model) → the p (m ∷ l) ≡ cond (p m) m (the p l)
 unfolding the those
 the-cons p m l = by (p m)
   where
