@@ -97,7 +97,8 @@ outside s n = s .bad || (s .past || ltb n (s .from + s .size))
 
 -- what `sought` promises
 pub record Finding (rs : List ℕ) (s : Search) (x : ℕ) (answer : Sought) : Type 0 where
-  pub numbered : soughtNumber answer ≡ first (26 when outside s (length rs) ∷ 19 when not (isRecord x && any (eqb x) (ownRecords s rs)) ∷ [])
+  pub numbered : soughtNumber answer ≡ first (26 when outside s (length rs) ∷ 19 when not (isRecord x && any (eqb x) (ownRecords s rs)) ∷
+      [])
   pub place : ℕ
   pub found : soughtNumber answer ≡ 0 → FirstPlace (ownRecords s rs) x place
   pub index-is : soughtNumber answer ≡ 0 → soughtIndex answer ≡ s .from + place

@@ -122,7 +122,8 @@ module _ (l : List Model) (rs : List ℕ) (x : ℕ) where
           ∙ ap (λ t. t || ltb (length rs) (seen .from + seen .size)) (seen-is 0 (kindOf x) (length rs) l e .past-is)
           ∙ past (any (pastEnd (length rs)) l) refl e
 
-  same-number : first (26 when outside seen (length rs) ∷ 19 when not (isRecord x && any (eqb x) (ownRecords seen rs)) ∷ []) ≡ seekRefusal l rs x
+  same-number : first (26 when outside seen (length rs) ∷ 19 when not (isRecord x && any (eqb x) (ownRecords seen rs)) ∷ []) ≡
+      seekRefusal l rs x
   unfolding seekRefusal first
   same-number =
       ap (λ t. first (26 when t ∷ 19 when not (isRecord x && any (eqb x) (ownRecords seen rs)) ∷ [])) same-test

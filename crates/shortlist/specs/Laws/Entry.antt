@@ -160,7 +160,8 @@ module _ (s : Search) (m : Model) where
     count = m .count;
     named = set (s .named) (pk i) true;
     held = s .held || ph i;
-    tells = (pt ∙ ap (λ x. cond (s .held) (s .tells) (cond x k 0)) ph ∙ ap (λ x. cond (s .held) (s .tells) (cond (holdsIndex (s .index) m) x 0)) pk) i;
+    tells = (pt ∙ ap (λ x. cond (s .held) (s .tells) (cond x k 0)) ph ∙ ap (λ x. cond (s .held) (s .tells) (cond (holdsIndex (s .index)
+        m) x 0)) pk) i;
     from = (pf ∙ ap (λ x. cond (ltb 0 (s .size)) (s .from) (cond (eqb x (s .kind)) (m .first .0) 0)) pk) i;
     size = (pz ∙ ap (λ x. cond (ltb 0 (s .size)) (s .size) (cond (eqb x (s .kind)) (m .count) 0)) pk) i;
   }
@@ -227,7 +228,8 @@ module _ (rs : List ℕ) (s : Search) (x : ℕ) where
     refused = λ z. refl;
   }
 
-  pub sought-no-record : (a b : Bool) → a ≡ outside s (length rs) → a ≡ false → b ≡ isRecord x → not b ≡ true → Finding rs s x Sought.Nowhere
+  pub sought-no-record : (a b : Bool) → a ≡ outside s (length rs) → a ≡ false → b ≡ isRecord x → not b ≡ true
+      → Finding rs s x Sought.Nowhere
   sought-no-record a b p q u v =
       nowhere (sym p ∙ q) (ap (λ t. t && any (eqb x) (ownRecords s rs)) (sym u ∙ not-true b v))
 

@@ -13,7 +13,8 @@ use borrow.Author.Tests.{eqb-true, eq-eqb, ltb-true, ltb-false, leb-true}
 use Rattle.lists.specs.Lists.{all, any, twoOf}
 use Rattle.lists.specs.Quantifiers.{any-iff, all-iff}
 use Rattle.lists.specs.Refusals.{_when_, first}
-use Rattle.lists.specs.Laws.Booleans.{or-left, or-right, or-first, or-second, or-neither, and-both, and-left, and-right, both-ways, refute}
+use Rattle.lists.specs.Laws.Booleans.{or-left, or-right, or-first, or-second, or-neither, and-both, and-left, and-right, both-ways}
+use Rattle.lists.specs.Laws.Booleans.{refute}
 use Rattle.records.specs.Record.{isVoxel, structureOf, legalRecord}
 use Rattle.records.specs.Find.{FirstPlace, Finds, findRefusal}
 use Rattle.records.specs.Laws.Numbers.{eq?}
@@ -103,8 +104,10 @@ module _ (rs : List ℕ) (made : WasMade rs) (x : ℕ) where
         ltb-true p (own .first .0 + own .count) (and-right (leb (own .first .0) p) (ltb p (own .first .0 + own .count)) t),
       )
     where
-      kinds : HeldAs p (isVoxel (getD rs p 0)) (structureOf (getD rs p 0)) (runs rs) → kindIn (the (holdsIndex p) (runs rs)) ≡ kindOf (getD rs p 0)
-      kinds k = ap (λ v. kindNumber v ((the (holdsIndex p) (runs rs)) .structure)) (k .voxels) ∙ ap (kindNumber (isVoxel (getD rs p 0))) (k .structure)
+      kinds : HeldAs p (isVoxel (getD rs p 0)) (structureOf (getD rs p 0)) (runs rs) → kindIn (the (holdsIndex p) (runs rs)) ≡ kindOf
+          (getD rs p 0)
+      kinds k = ap (λ v. kindNumber v ((the (holdsIndex p) (runs rs)) .structure)) (k .voxels) ∙ ap (kindNumber (isVoxel (getD rs p 0)))
+          (k .structure)
 
   -- the first place among the records is the first place in the stretch
   first-in : (p : ℕ) → FirstPlace rs x p → FirstPlace (ownStretch (runs rs) rs x) x (p - own .first .0)
@@ -121,7 +124,8 @@ module _ (rs : List ℕ) (made : WasMade rs) (x : ℕ) where
   among : any (eqb x) (ownStretch (runs rs) rs x) ≡ true → any (eqb x) rs ≡ true
   among h = from (any-iff 0 (eqb x) (ownStretch (runs rs) rs x) .0 h)
     where
-      from : (i : ℕ) × (i < length (ownStretch (runs rs) rs x)) × (eqb x (getD (ownStretch (runs rs) rs x) i 0) ≡ true) → any (eqb x) rs ≡ true
+      from : (i : ℕ) × (i < length (ownStretch (runs rs) rs x)) × (eqb x (getD (ownStretch (runs rs) rs x) i 0) ≡ true)
+          → any (eqb x) rs ≡ true
       from (i, u, v) =
           any-iff 0 (eqb x) rs .1 (own .first .0 + i, omega (arith, long, own-inside), ap (eqb x) (sym (at i (omega (arith, long)))) ∙ v)
 
@@ -148,10 +152,12 @@ module _ (rs : List ℕ) (made : WasMade rs) (x : ℕ) where
   unfolding seekRefusal findRefusal first
   finds-number =
       let g = list-good rs made in
-      ap (λ b. first (26 when b ∷ 19 when not (isRecord x && any (eqb x) (ownStretch (runs rs) rs x)) ∷ [])) (or-neither (g .not-bad) (g .not-past))
+      ap (λ b. first (26 when b ∷ 19 when not (isRecord x && any (eqb x) (ownStretch (runs rs) rs x)) ∷ [])) (or-neither (g .not-bad) (g
+      .not-past))
       ∙ ap (λ b. first (19 when not b ∷ [])) same-test
 
-  place-is : (answer : Sought) (p : ℕ) → Seeks (runs rs) rs x answer → FirstPlace rs x p → soughtNumber answer ≡ 0 → soughtIndex answer ≡ p
+  place-is : (answer : Sought) (p : ℕ) → Seeks (runs rs) rs x answer → FirstPlace rs x p → soughtNumber answer ≡ 0
+      → soughtIndex answer ≡ p
   unfolding own
   place-is answer p s f z =
       let w = s .found z in

@@ -55,7 +55,8 @@ module _ (rs : List ℕ) (room : ℕ) where
 
     pub too-short : room < made .count → MadeOf rs room (refusedBy 17)
     unfolding listRefusal
-    too-short h = ⊎-elim (λ (z : made .number ≡ 0). here z) (λ (z : made .number ≡ 0 → ⊥). absurd (let e = o .none z in omega arith)) (eq? (made .number) 0)
+    too-short h = ⊎-elim (λ (z : made .number ≡ 0). here z) (λ (z : made .number ≡ 0 → ⊥). absurd (let e = o .none z in omega arith))
+        (eq? (made .number) 0)
       where
         here : made .number ≡ 0 → MadeOf rs room (refusedBy 17)
         here z =
@@ -63,7 +64,8 @@ module _ (rs : List ℕ) (room : ℕ) where
             let l = long z in
             refused (sym (gives-first
             (passes (ap not good)
-            (passes (row-fails c) (passes (row-fails (rows-behind c)) (applies (lt-ltb room (length (runs rs)) (omega arith)))))))) (λ q. omega arith)
+            (passes (row-fails c) (passes (row-fails (rows-behind c)) (applies (lt-ltb room (length (runs rs)) (omega arith)))))))) (λ q.
+            omega arith)
 
     -- what was refused before 17 stays refused
     kept : (made .number ≡ 0 → ⊥) → made .number ≡ listRefusal rs room
@@ -71,9 +73,12 @@ module _ (rs : List ℕ) (room : ℕ) where
     kept z = go (all legalRecord rs) (comesBack rs) (o .numbered)
       where
         go : (a b : Bool) → made .number ≡ first (16 when not a ∷ 26 when b ∷ [])
-            → made .number ≡ first (15 when not (goodCount (length rs)) ∷ 16 when not a ∷ 26 when b ∷ 17 when ltb room (length (runs rs)) ∷ [])
-        go false b e = e ∙ sym (ap (λ t. first (15 when not t ∷ 16 when true ∷ 26 when b ∷ 17 when ltb room (length (runs rs)) ∷ [])) good)
-        go true true e = e ∙ sym (ap (λ t. first (15 when not t ∷ 16 when false ∷ 26 when true ∷ 17 when ltb room (length (runs rs)) ∷ [])) good)
+            → made .number ≡ first (15 when not (goodCount (length rs)) ∷ 16 when not a ∷ 26 when b ∷ 17 when ltb room (length (runs rs))
+            ∷ [])
+        go false b e = e ∙ sym (ap (λ t. first (15 when not t ∷ 16 when true ∷ 26 when b ∷ 17 when ltb room (length (runs rs)) ∷ []))
+            good)
+        go true true e = e ∙ sym (ap (λ t. first (15 when not t ∷ 16 when false ∷ 26 when true ∷ 17 when ltb room (length (runs rs)) ∷
+            [])) good)
         go true false e = absurd (z e)
 
     pub made-as-it-is : made .count ≤ room → MadeOf rs room made
@@ -103,11 +108,13 @@ module _ (rs : List ℕ) (room : ℕ) where
   pub stops-count : {r : Made} → (ltb (length rs) 1 || ltb 1048576 (length rs)) ≡ true → r ≡ refusedBy 15 → MadeOf rs room r
   stops-count h e = subst (MadeOf rs room) (sym e) (bad-count rs room (count-no (length rs) h))
 
-  pub stops-short : {made r : Made} → (ltb (length rs) 1 || ltb 1048576 (length rs)) ≡ false → RunsOf rs made → room < made .count → r ≡ refusedBy 17
+  pub stops-short : {made r : Made} → (ltb (length rs) 1 || ltb 1048576 (length rs)) ≡ false → RunsOf rs made → room < made .count
+      → r ≡ refusedBy 17
       → MadeOf rs room r
   stops-short h o k e = subst (MadeOf rs room) (sym e) (too-short rs room (count-yes (length rs) h) o k)
 
-  pub made-whole : {made : Made} → (ltb (length rs) 1 || ltb 1048576 (length rs)) ≡ false → RunsOf rs made → made .count ≤ room → MadeOf rs room made
+  pub made-whole : {made : Made} → (ltb (length rs) 1 || ltb 1048576 (length rs)) ≡ false → RunsOf rs made → made .count ≤ room
+      → MadeOf rs room made
   made-whole h o k = made-as-it-is rs room (count-yes (length rs) h) o k
 
 pub ruleset making = (stops-count, stops-short, made-whole)

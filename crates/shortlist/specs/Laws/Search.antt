@@ -30,7 +30,8 @@ follows-is s m = go (m .first .0) (s .first) (s .count)
     less a b c false e = let u = ltb-false a b e in same (eqb (a - b) c) refl
       where
         same : (t : Bool) → eqb (a - b) c ≡ t → t ≡ eqb a (b + c)
-        same true q = let v = eqb-true (a - b) c q in let z : a ≡ b + c = (let w = ltb-false a b e in omega arith) in sym (eq-eqb a (b + c) z)
+        same true q = let v = eqb-true (a - b) c q in let z : a ≡ b + c = (let w = ltb-false a b e in omega arith) in sym (eq-eqb a (b +
+            c) z)
         same false q = sym (ne-eqb a (b + c) (λ z. eqb-false (a - b) c q (omega arith)))
 
     go : (a b c : ℕ) → (not (ltb a b) && eqb (a - b) c) ≡ eqb a (b + c)
@@ -67,9 +68,18 @@ module _ (s : Search) (m : Model) (l : List Model) (sized : length (s .named) �
       by a true c d p q u v h = rw q
       by a false false d p q u v h = rw (q, u) (or-true (any empty l))
       by a false true true p q u v h =
-          rw (again-old (s .named) m l v, or-true (not (eqb (m .first .0) (s .first + s .count) && runsOnFrom (s .first + s .count + m .count) l))) (or-true (empty m || any empty l))
+          rw (
+            again-old (s .named) m l v,
+            or-true (not (eqb (m .first .0) (s .first + s .count) && runsOnFrom (s .first + s .count + m
+                .count) l)),
+          ) (or-true (empty m || any empty l))
       by true false true false p q u v h =
-          rw (p, or-true (again (s .named) (m ∷ l)), or-true (not (eqb (m .first .0) (s .first + s .count) && runsOnFrom (s .first + s .count + m .count) l))) (or-true (empty m || any empty l))
+          rw (
+            p,
+            or-true (again (s .named) (m ∷ l)),
+            or-true (not (eqb (m .first .0) (s .first + s .count) && runsOnFrom (s .first + s
+                .count + m .count) l)),
+          ) (or-true (empty m || any empty l))
       by false false true false p q u v h = both-ways h refl
 
   good-here : badEntry s m ≡ false
@@ -208,7 +218,11 @@ record Fit (s : Search) : Type 0 where
 
 fit-more : (s : Search) (m : Model) → empty m ≡ false → Fit s → Fit (taken s m)
 unfolding taken empty
-fit-more s m counts f = record { unheld = tells (s .held) refl (holdsIndex (s .index) m); unfound = from (ltb 0 (s .size)) refl (ofKind (s .kind) m) }
+fit-more s m counts f = record {
+  unheld = tells (s .held) refl (holdsIndex (s .index) m);
+  unfound = from (ltb 0 (s .size)) refl (ofKind
+      (s .kind) m);
+}
   where
     tells : (a : Bool) → s .held ≡ a → (b : Bool) → (a || b) ≡ false → cond a (s .tells) (cond b (kindIn m) 0) ≡ 0
     tells true e b h = both-ways refl h

@@ -35,7 +35,8 @@ pub was-made : (rs : List ℕ) (room : ℕ) → listRefusal rs room ≡ 0 → Wa
 unfolding listRefusal positive goodCount
 was-made rs room h =
     let n = given-none
-    (15 when not (goodCount (length rs)) ∷ 16 when not (all legalRecord rs) ∷ 26 when comesBack rs ∷ 17 when ltb room (length (runs rs)) ∷ [])
+    (15 when not (goodCount (length rs)) ∷ 16 when not (all legalRecord rs) ∷ 26 when comesBack rs ∷ 17 when ltb room (length (runs rs))
+    ∷ [])
     refl h in
     let c = not-false (goodCount (length rs)) (row-fails n) in
     record {
@@ -132,7 +133,8 @@ held-here n m l h =
 held-behind : (n : ℕ) (v : Bool) (s : ℕ) (m : Model) (l : List Model) → holdsIndex n m ≡ false → HeldAs n v s l → HeldAs n v s (m ∷ l)
 unfolding any
 held-behind n v s m l h k =
-    let t : the (holdsIndex n) (m ∷ l) ≡ the (holdsIndex n) l = the-cons (holdsIndex n) m l ∙ ap (λ b. cond b m (the (holdsIndex n) l)) h in
+    let t : the (holdsIndex n) (m ∷ l) ≡ the (holdsIndex n) l = the-cons (holdsIndex n) m l ∙ ap (λ b. cond b m (the (holdsIndex n) l)) h
+    in
     record {
       there = or-second (holdsIndex n m) (k .there);
       voxels = ap (λ k. k .voxels) t ∙ k .voxels;
@@ -149,7 +151,8 @@ unfolding holdsIndex
 behind-it n m h = and-no (leb (m .first .0) n) (ltb n (m .first .0 + m .count)) (le-ltb n (m .first .0 + m .count) h)
 
 -- the index lies in the run m
-held-in : (rs : List ℕ) (m : Model) (n : ℕ) → m .first .0 ≤ n → n < m .first .0 + m .count → HeldAs n (m .voxels) (m .structure) (runsOn m rs)
+held-in : (rs : List ℕ) (m : Model) (n : ℕ) → m .first .0 ≤ n → n < m .first .0 + m .count → HeldAs n (m .voxels) (m .structure) (runsOn
+    m rs)
 unfolding runsOn
 held-in [] m n h k = held-here n m [] (in-range n m h k)
 held-in (r ∷ rs) m n h k =
@@ -157,7 +160,8 @@ held-in (r ∷ rs) m n h k =
     (held-here n m (runsOn (alone (m .first .0 + m .count) r) rs) (in-range n m h k))
 
 -- a record of the run's kind has its type and structure
-same-parts : (r : ℕ) (m : Model) → m .structure ≤ mostStructure → kindOf r ≡ kindIn m → (m .voxels ≡ isVoxel r) × (m .structure ≡ structureOf r)
+same-parts : (r : ℕ) (m : Model) → m .structure ≤ mostStructure → kindOf r ≡ kindIn m → (m .voxels ≡ isVoxel r) × (m .structure ≡
+    structureOf r)
 unfolding kindOf kindIn
 same-parts r m h e =
     let (a, b) = kind-parts (isVoxel r) (structureOf r) (structure-small r) in
@@ -176,7 +180,8 @@ held-at (r ∷ rs) m j s h =
         → ((j : ℕ) → m .structure ≤ mostStructure → j < length rs
         → HeldAs (m .first .0 + (m .count + 1) + j) (isVoxel (getD rs j 0)) (structureOf (getD rs j 0)) (runsOn (longer m) rs))
         → ((j : ℕ) → structureOf r ≤ mostStructure → j < length rs
-        → HeldAs (m .first .0 + m .count + 1 + j) (isVoxel (getD rs j 0)) (structureOf (getD rs j 0)) (runsOn (alone (m .first .0 + m .count) r) rs))
+        → HeldAs (m .first .0 + m .count + 1 + j) (isVoxel (getD rs j 0)) (structureOf (getD rs j 0)) (runsOn (alone (m .first .0 + m
+        .count) r) rs))
         → HeldAs (m .first .0 + m .count + j) (isVoxel (getD (r ∷ rs) j 0)) (structureOf (getD (r ∷ rs) j 0))
         (cond b (runsOn (longer m) rs) (m ∷ runsOn (alone (m .first .0 + m .count) r) rs))
     by true q zero u f g =

@@ -20,7 +20,8 @@ use Rattle.records.specs.Record.{legalRecord}
 use Rattle.records.specs.Laws.Numbers.{eq?}
 use Rattle.shortlist.specs.Runs.{kindOf, kindIn, alike, alone, longer, runsOn, runsFrom, runs, comesBack}
 use Rattle.shortlist.specs.Made.{modelAt, refusedBy, withRun, Sized, RunEnd, RunsOf}
-use Rattle.shortlist.specs.Laws.Named.{again, again-new, again-old, again-done, again-first, flags, flags-more, flags-left, flags-none, flags-most}
+use Rattle.shortlist.specs.Laws.Named.{again, again-new, again-old, again-done, again-first, flags, flags-more, flags-left}
+use Rattle.shortlist.specs.Laws.Named.{flags-none, flags-most}
 use Rattle.shortlist.specs.Laws.Runs.{kind-small, piece, piece-kind, run-through, drop-all, table-snoc}
 use Rattle.shortlist.specs.declared.answer.Model.{Model}
 use Rattle.shortlist.specs.declared.state.Made.{Made}
@@ -63,7 +64,8 @@ pub legal-cons : (rs : List ℕ) (at : ℕ) → at < length rs
 unfolding all
 legal-cons rs at h = rw (drop-cons rs at 0 h)
 
-refused : {rs : List ℕ} {n : ℕ} → n ≡ first (16 when not (all legalRecord rs) ∷ 26 when comesBack rs ∷ []) → (n ≡ 0 → ⊥) → RunsOf rs (refusedBy n)
+refused : {rs : List ℕ} {n : ℕ} → n ≡ first (16 when not (all legalRecord rs) ∷ 26 when comesBack rs ∷ []) → (n ≡ 0 → ⊥)
+    → RunsOf rs (refusedBy n)
 refused e z = record { numbered = e; holding = λ q. absurd (z q); none = λ q. refl; few = omega arith }
 
 pub illegal : {rs : List ℕ} → all legalRecord rs ≡ false → RunsOf rs (refusedBy 16)
@@ -275,7 +277,8 @@ walked-last {rs} {at} {seen} {made} w h =
     let none : drop at rs ≡ [] = drop-all rs at h in
     let good : all legalRecord rs ≡ true = w .legal-is ∙ ap (all legalRecord) none ∙ all-none in
     let runs-are : runs rs ≡ table (made .count) (modelAt made) =
-    w .runs-are good ∙ ap (λ l. table (made .count) (modelAt made) ++ runsFrom at l) none ∙ append-nil (table (made .count) (modelAt made)) in
+    w .runs-are good ∙ ap (λ l. table (made .count) (modelAt made) ++ runsFrom at l) none ∙ append-nil (table (made .count) (modelAt
+    made)) in
     let back-is : comesBack rs ≡ false = w .back-is good ∙ ap (λ l. again seen (runsFrom at l)) none ∙ again-done seen in
     record {
       numbered = w .not-refused ∙ sym (gives-first (passes (ap not good) (passes back-is ends)));

@@ -135,7 +135,7 @@ module _ {M : Type 1} (𝓤 : URA M) (H : Heap 𝓤) (A : Atoms 𝓤) (W : Given
       (to-seen r u))
   goes-seen r u g =
       qed W (‵ Own ∷ (‵ (flft κ q) ⊛ ‵ ftrue) ∷ []) ∵ nothing ! $ owned ! K (Is K) (LL.makes U.the-type U′.the-plain 𝓤 H A) r _ g $
-          fjoin ! $
+      fjoin ! $
       move ! (1 ∷ 0 ∷ []) $ fjoin ! $ move ! (1 ∷ 0 ∷ []) $ join ! $ frame ! $ done !
 
   seen-said : (r t : Search) → ent 𝓤 (ensured 𝓤 H A seen.ended (seen.clauses 𝓤 H A mem run) (κ, tt) (x, (r, tt)) tt t) (fact 𝓤 (t ≡
@@ -159,9 +159,9 @@ module _ {M : Type 1} (𝓤 : URA M) (H : Heap 𝓤) (A : Atoms 𝓤) (W : Given
   exits z u e g =
       qed W (‵ (S.the-row .own z (u ∷ [])) ∷ (‵ (flft κ q) ⊛ ‵ ftrue) ∷ ‵ Own ∷ []) ∵
       suffices ! _ (ends-at 𝓤 H A structure-at.ended stayed (structure-at.clauses 𝓤 H A mem run) W (((κ, tt), (q, tt), tt, a, vals), tt)
-          u z (tt, (tt, tt)) (tt, (tt, tt))) $ says ! e $
+      u z (tt, (tt, tt)) (tt, (tt, tt))) $ says ! e $
       move ! (1 ∷ []) $ frame ! $ nothing ! $ owned ! N (Is N) (LL.makes I.the-type I′.the-plain 𝓤 H A) d _ g $ fjoin ! $
-          move ! (2 ∷ 0 ∷ []) $ fjoin ! $ frame ! $ done !
+      move ! (2 ∷ 0 ∷ []) $ fjoin ! $ frame ! $ done !
 
   module _ (C : Calls 𝓤 H) (Λ : Loops 𝓤 H) (fm : FmC 𝓤 H (W .laws) C) (known-begin : Triple 𝓤 (C #begin) (Begin 𝓤 H A mem run))
       (known-seen : Triple 𝓤 (C #seen) (Seen 𝓤 H A mem run)) (known-told : Triple 𝓤 (C #told) (Tell 𝓤 H A mem run)) where
@@ -169,50 +169,50 @@ module _ {M : Type 1} (𝓤 : URA M) (H : Heap 𝓤) (A : Atoms 𝓤) (W : Given
         (WpFn 𝓤 H C Λ code.function (v ∷ w ∷ []) Post)
     walk p g =
         qed W ((‵ (flft κ q) ⊛ ‵ ftrue) ∷ ‵ (owns (ShrSlice (named 0) κ R ∷ N ∷ []) a vals) ∷ []) ∵ enter ! C Λ code.function (v ∷ w ∷
-            []) _ $
+        []) _ $
         alloc1 ! (λ l₀. alloc1 ! (λ l₁. alloc1 ! (λ l₂. alloc1 ! (λ l₃. alloc1 ! (λ l₄. alloc0 ! $ params1 ! $
         pass1 ! (init ! 6 refl (shr-slice-lawful 𝓤 H A W (named 0) κ R .typed x (v ∷ []) p .0)) $
-            pass1 ! (init ! 4 refl (LL.lawful I.the-type I′.the-laws 𝓤 H A W .typed d _ g .0)) $ pass0 ! $
+        pass1 ! (init ! 4 refl (LL.lawful I.the-type I′.the-laws 𝓤 H A W .typed d _ g .0)) $ pass0 ! $
         -- [_4; …; _3; …; _2; …; _1; …; room for _0; …; the token; what models and index own]: one copy of what the slice owns is kept
         move ! (11 ∷ []) $ fsplit ! $ use1 W (‵ Own ⊛ ‵ Own) (shr-slice-copy 𝓤 H A W (named 0) κ R .twice x (v ∷ [])) $ split ! $
-            move ! (2 ∷ []) $ lose ! $
+        move ! (2 ∷ []) $ lose ! $
         -- [Own; Own; _4; …; _3; …; _2; …; _1; …; room for _0; …; the token]
         nothing ! $ use1 W (raw (Begin 𝓤 H A mem run .pre to-begin)) (goes-begin g) $
         calls-at ! fm (Begin 𝓤 H A mem run) known-begin to-begin (and-then ! (load ! (from ! (stop !)) (look ! 7 refl)) (no-more !)) (λ u.
         use1 W (later (some (λ (r : Search). (‵ ftrue ⊛ ‵ (K .own r (u ∷ []))) ⊛ raw (ensured 𝓤 H A begin.ended (begin.clauses 𝓤 H A mem
-            run) tt (d, tt) tt r)))) (id⊢ 𝓤 _) $ await ! tt $ pick ! (λ r.
+        run) tt (d, tt) tt r)))) (id⊢ 𝓤 _) $ await ! tt $ pick ! (λ r.
         split ! $ move ! (1 ∷ []) $ use1 W (raw (fact 𝓤 (r ≡ begun (d .0) 0 0))) (begin-said r) $
-            heard ! (r ≡ begun (d .0) 0 0) (λ e. split ! $ lose ! $
+        heard ! (r ≡ begun (d .0) 0 0) (λ e. split ! $ lose ! $
         peeks ! K (Is K) (shows 𝓤 H A K) r (u ∷ []) (λ is.
         land ! (from ! (stop !)) (init ! 3 refl (LL.lawful U.the-type U′.the-laws 𝓤 H A W .typed r _ is .0)) $ lose ! $
         -- the entries in turn
         move ! (0 ∷ 12 ∷ []) $ use2 W (raw (Seen 𝓤 H A mem run .pre (to-seen r u))) (goes-seen r u is) $
         -- [what it asks; Own; _4; …; _3; …; _2; …; _1; …; room for _0; …]
         calls-at ! fm (Seen 𝓤 H A mem run) known-seen (to-seen r u) (and-then ! (load ! (from ! (stop !)) (look ! 8 refl)) (and-then !
-            (load ! (from ! (stop !)) (look ! 2 refl)) (no-more !))) (λ u₂.
+        (load ! (from ! (stop !)) (look ! 2 refl)) (no-more !))) (λ u₂.
         use1 W (later (some (λ (t : Search). ((‵ (flft κ q) ⊛ ‵ ftrue) ⊛ ‵ (K .own t (u₂ ∷ []))) ⊛ raw (ensured 𝓤 H A seen.ended
-            (seen.clauses 𝓤 H A mem run) (κ, tt) (x, (r, tt)) tt t)))) (id⊢ 𝓤 _) $ await ! tt $ pick ! (λ t.
+        (seen.clauses 𝓤 H A mem run) (κ, tt) (x, (r, tt)) tt t)))) (id⊢ 𝓤 _) $ await ! tt $ pick ! (λ t.
         split ! $ move ! (1 ∷ []) $ use1 W (raw (fact 𝓤 (t ≡ folded nextOf r (x .now)))) (seen-said r t) $
-            heard ! (t ≡ folded nextOf r (x .now)) (λ e₂. split ! $ move ! (1 ∷ []) $
+        heard ! (t ≡ folded nextOf r (x .now)) (λ e₂. split ! $ move ! (1 ∷ []) $
         -- [the state; the token; Own; _4; …; _3; …; _2; …; _1; …; room for _0; …]
         peeks ! K (Is K) (shows 𝓤 H A K) t (u₂ ∷ []) (λ is₂.
         land ! (from ! (stop !)) (init ! 5 refl (LL.lawful U.the-type U′.the-laws 𝓤 H A W .typed t _ is₂ .0)) $ lose ! $
         -- what is told
         nothing ! $ use1 W (raw (Tell 𝓤 H A mem run .pre (to-told t u₂))) (goes-told t u₂ is₂) $
         calls-at ! fm (Tell 𝓤 H A mem run) known-told (to-told t u₂) (and-then ! (load ! (from ! (stop !)) (look ! 5 refl)) (no-more !))
-            (λ u₃.
+        (λ u₃.
         use1 W (later (some (λ (z : Told). (‵ ftrue ⊛ ‵ (S.the-row .own z (u₃ ∷ []))) ⊛ raw (ensured 𝓤 H A told.ended (told.clauses 𝓤 H A
-            mem run) tt (t, tt) tt z)))) (id⊢ 𝓤 _) $ await ! tt $ pick ! (λ z.
+        mem run) tt (t, tt) tt z)))) (id⊢ 𝓤 _) $ await ! tt $ pick ! (λ z.
         split ! $ move ! (1 ∷ []) $ use1 W (raw (fact 𝓤 (z ≡ toldOf t))) (told-said t z) $ heard ! (z ≡ toldOf t) (λ e₃. split ! $
-            lose ! $
+        lose ! $
         -- [the answer; the token; Own; _4; …; _3; …; _2; …; _1; …; room for _0; …]
         peeks ! S.the-row (Is S.the-row) (shows 𝓤 H A S.the-row) z (u₃ ∷ []) (λ is₃.
         land ! (from ! (stop !)) (init ! 11 refl (EL.lawful S.the-type S′.the-laws 𝓤 H A W tt .typed z _ is₃ .0)) $
         returns ! (look ! 11 refl) $ forget ! 3 refl $ forget ! 5 refl $ forget ! 7 refl $ forget ! 9 refl $ forget ! 11 refl $
         move ! (11 ∷ 12 ∷ []) $ free1 ! $ move ! (9 ∷ 10 ∷ []) $ free1 ! $ move ! (7 ∷ 8 ∷ []) $ free1 ! $ move ! (5 ∷ 6 ∷ []) $
-            free1 ! $ move ! (3 ∷ 4 ∷ []) $ free1 ! $ free0 ! $
+        free1 ! $ move ! (3 ∷ 4 ∷ []) $ free1 ! $ free0 ! $
         by ! (exits z u₃ (tells-seen (x .now) (d .0) 0 0 z (e₃ ∙ ap toldOf (e₂ ∙ ap (λ (y : Search). folded nextOf y (x .now)) e)))
-            g))))))))))))))))))
+        g))))))))))))))))))
 
 module _ {M : Type 1} (𝓤 : URA M) (H : Heap 𝓤) (A : Atoms 𝓤) (W : Given 𝓤 H A) (mem : Memory → SProp 𝓤) (run : Routine → Fun 𝓤) where
   structure-at-walks : (C : Calls 𝓤 H) (Λ : Loops 𝓤 H) → FmC 𝓤 H (W .laws) C → Triple 𝓤 (C #begin) (Begin 𝓤 H A mem run)
@@ -220,21 +220,33 @@ module _ {M : Type 1} (𝓤 : URA M) (H : Heap 𝓤) (A : Atoms 𝓤) (W : Given
       → Walks 𝓤 H A structure-at.ended stayed (WpFn 𝓤 H C Λ code.function) (structure-at.clauses 𝓤 H A mem run)
   structure-at-walks C Λ fm kb ks kt = walked 𝓤 H A structure-at.ended stayed (structure-at.clauses 𝓤 H A mem run) (WpFn 𝓤 H C Λ
       code.function)
-      (λ κs. (slice-vals, (LL.vals I.the-type I′.the-laws, tt))) (λ κs. (shr-slice-tells (named 0) (κs .0) R, (LL.tells I.the-type
-          I′.the-laws, tt)))
+      (λ κs. (slice-vals, (LL.vals I.the-type I′.the-laws, tt))) (λ κs. (
+        shr-slice-tells (named 0) (κs .0) R,
+        (
+          LL.tells I.the-type
+              I′.the-laws,
+          tt,
+        ),
+      ))
       (λ κs qs bounds a g are. via 𝓤 _ (fst∗ 𝓤 _ (emp 𝓤)) (walk 𝓤 H A W mem run (κs .0) (qs .0) (a .0) (a .1 .0) C Λ fm kb ks kt (are .0)
-          (are .1 .0)))
+      (are .1 .0)))
 
 structure-at-meets : {M : Type 1} (𝓤 : URA M) (H : Heap 𝓤) (A : Atoms 𝓤) (W : Given 𝓤 H A) (mem : Memory → SProp 𝓤) (run : Routine
     → Fun 𝓤) (𝓣 : Tables 𝓤 H)
     → Triple 𝓤 (𝓣 .C #begin) (Begin 𝓤 H A mem run) → Triple 𝓤 (𝓣 .C #seen) (Seen 𝓤 H A mem run)
-        → Triple 𝓤 (𝓣 .C #told) (Tell 𝓤 H A mem run)
+    → Triple 𝓤 (𝓣 .C #told) (Tell 𝓤 H A mem run)
     → Meets 𝓤 H A structure-at.signature (WpFn 𝓤 H (𝓣 .C) (𝓣 .Λ) code.function) (structure-at.spec 𝓤 H A mem run)
 structure-at-meets 𝓤 H A W mem run 𝓣 kb ks kt =
-    walk-meets 𝓤 H A structure-at.ended stayed W (goes-none-slice 𝓤 H A W 1 (0 ∷ []) tt (plain (λ _. R)) yes, (goes-none 𝓤 H A W 1 (λ _.
-        N) yes (λ κs x f. refl), tt)) (structure-at.clauses 𝓤 H A mem run)
+    walk-meets 𝓤 H A structure-at.ended stayed W (
+      goes-none-slice 𝓤 H A W 1 (0 ∷ []) tt (plain (λ _. R)) yes,
+      (
+        goes-none 𝓤 H A W 1 (λ _.
+            N) yes (λ κs x f. refl),
+        tt,
+      ),
+    ) (structure-at.clauses 𝓤 H A mem run)
     (WpFn 𝓤 H (𝓣 .C) (𝓣 .Λ) code.function) (WpFn-mono 𝓤 H (W .laws) 𝓣 code.function) (structure-at-walks 𝓤 H A W mem run (𝓣 .C) (𝓣 .Λ)
-        (fmOf 𝓤 H (W .laws) 𝓣) kb ks kt)
+    (fmOf 𝓤 H (W .laws) 𝓣) kb ks kt)
 
 pub structure-at-spec : {M : Type 1} → stated.statement M
 unfolding code.routine tablesOf
@@ -243,8 +255,8 @@ structure-at-spec 𝓤 H 𝓜 𝓖 𝓡 =
     (tables 𝓤 H 𝓜 𝓡 code.env .C) (tables 𝓤 H 𝓜 𝓡 code.env .Λ) #structure-at code.function (code.unfolded 𝓤 H 𝓜 𝓡)
     (structure-at-meets 𝓤 H (𝓖 .A) (givenOf 𝓤 H 𝓜 𝓖) (𝓜 .mem) (𝓡 .run) (tablesOf 𝓤 H 𝓜 (tables 𝓤 H 𝓜 𝓡 code.env))
     (cited 𝓤 H (Begin 𝓤 H (𝓖 .A) (𝓜 .mem) (𝓡 .run)) 𝓜 𝓡 code.env #begin begin-def.routine code.calls-model-lists·doors·begin-index
-        (begin-thm.met 𝓤 H 𝓜 𝓖 𝓡))
+    (begin-thm.met 𝓤 H 𝓜 𝓖 𝓡))
     (cited 𝓤 H (Seen 𝓤 H (𝓖 .A) (𝓜 .mem) (𝓡 .run)) 𝓜 𝓡 code.env #seen seen-def.routine code.calls-model-lists·entries·seen (seen-thm.met
-        𝓤 H 𝓜 𝓖 𝓡))
+    𝓤 H 𝓜 𝓖 𝓡))
     (cited 𝓤 H (Tell 𝓤 H (𝓖 .A) (𝓜 .mem) (𝓡 .run)) 𝓜 𝓡 code.env #told told-def.routine code.calls-shortlisting·told (told-thm.met 𝓤 H 𝓜 𝓖
-        𝓡)))
+    𝓡)))

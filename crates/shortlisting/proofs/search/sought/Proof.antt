@@ -29,11 +29,19 @@ returns-2 c = search seeking
 
 -- src/search.rt:199:15
 add-end : tie.Need-add-end
-add-end c = omega (arith, inside (c .before .before .before .before .before .args .seen) (length (c .before .before .before .before .before .args .records .now)) _ (c .before .before .before .is-outside .ensures) (c .before .before .if1 .left))
+add-end c = omega (
+  arith,
+  inside (c .before .before .before .before .before .args .seen) (length (c .before .before .before .before
+      .before .args .records .now)) _ (c .before .before .before .is-outside .ensures) (c .before .before .if1 .left),
+)
 
 -- src/search.rt:200:21
 mul-find : tie.Need-mul-find
-mul-find c = omega (arith, inside (c .before .before .before .before .before .args .seen) (length (c .before .before .before .before .before .args .records .now)) _ (c .before .before .before .is-outside .ensures) (c .before .before .if1 .left))
+mul-find c = omega (
+  arith,
+  inside (c .before .before .before .before .before .args .seen) (length (c .before .before .before .before
+      .before .args .records .now)) _ (c .before .before .before .is-outside .ensures) (c .before .before .if1 .left),
+)
 
 -- src/search.rt:200:21
 sub-find : tie.Need-sub-find
@@ -45,7 +53,11 @@ part-find-start c = search needs
 
 -- src/search.rt:200:21
 part-find-end : tie.Need-part-find-end
-part-find-end c = omega (arith, inside (c .before .before .before .before .before .args .seen) (length (c .before .before .before .before .before .args .records .now)) _ (c .before .before .before .is-outside .ensures) (c .before .before .if1 .left))
+part-find-end c = omega (
+  arith,
+  inside (c .before .before .before .before .before .args .seen) (length (c .before .before .before .before
+      .before .args .records .now)) _ (c .before .before .before .is-outside .ensures) (c .before .before .if1 .left),
+)
 
 -- src/search.rt:200:9
 find-requires : tie.Need-find-requires
@@ -54,7 +66,13 @@ find-requires c κs = search needs
 -- src/search.rt:203:33
 add-t17 : tie.Need-add-t17
 add-t17 c =
-    omega (arith, found-inside _ _ _ _ _ _ (c .before .before .before .before .before .before .before .before .before .is-outside .ensures) (c .before .before .before .before .before .before .before .before .if1 .left) (c .before .before .before .before .before .before .before .is-record .ensures) (c .before .before .before .before .before .before .if2 .left) (c .before .before .before .before .find .ensures) (c .before .if3 .taken))
+    omega (
+      arith,
+      found-inside _ _ _ _ _ _ (c .before .before .before .before .before .before .before .before .before .is-outside
+          .ensures) (c .before .before .before .before .before .before .before .before .if1 .left) (c .before .before .before .before
+          .before .before .before .is-record .ensures) (c .before .before .before .before .before .before .if2 .left) (c .before .before
+          .before .before .find .ensures) (c .before .if3 .taken),
+    )
 
 -- src/search.rt:203:9
 returns-3 : tie.Need-returns-3
