@@ -25,11 +25,12 @@
     16  an illegal record
     17  the slice to be written is too short
     18  map name: no such dimension, it is not scalars, or the index is not below its length
-    19  find: no such record
+    19  find: no such record; asking a list: no such index or record
     20  a file under 544 bytes; its size field or magic is not NIfTI-2's single file; a data offset below 544
     21  a file's dim[0] is not 6 or 7, one of dim[1] to dim[4] is not 1, or one of dim[5] to dim[dim[0]] is below 1
     22  the extensions up to a file's data offset are no list, or the data offset lies past its bytes
     23  a file has no extension of code 32
+    26  making a list: a type and structure comes back after another; asking: a bad list
    In a call on a file 20 to 23 come first, in this order, and then those of the read.
 
    The slices `answer`, `part`, `place` and `count` take the rest of an answer. They are written on every
@@ -157,6 +158,34 @@ uint64_t dz_read_file(const uint8_t *file, size_t file_len,
 uint64_t dz_file_map_name(const uint8_t *file, size_t file_len,
                           uint64_t dimension, uint64_t index,
                           uint64_t *part, size_t part_len);
+
+/* The short list of the models of one brain map's records: four numbers a model, first index, count, type
+   (0 surface, 1 voxels) and structure. Refusals 15, 16, 26, 17 in that order.
+
+   list            accepted: four numbers for each model from its start, the rest is left as it was. Refused: all left
+                   as it was. Room for 64 models is always enough; of a length that is no multiple of four the whole
+                   models that fit count.
+   count           [0] = how many models there are. Refused: 0. */
+uint64_t dz_model_list(const uint64_t *records, size_t records_len,
+                       uint64_t *list, size_t list_len,
+                       uint64_t *count, size_t count_len);
+
+/* The type and structure at an index, from a list alone. Refusals 26 (a bad list, a type above 1, or a length that is
+   no multiple of four), then 19.
+
+   answer          [0], [1] = type and structure. Refused: 0, 0. */
+uint64_t dz_structure_at(const uint64_t *list, size_t list_len,
+                         uint64_t index,
+                         uint64_t *answer, size_t answer_len);
+
+/* The index of a record, looked for in the stretch of its own type and structure. Refusals 26 (also a list that reaches
+   past the records), then 19.
+
+   place           [0] = the index. Refused: 0. */
+uint64_t dz_index_of(const uint64_t *list, size_t list_len,
+                     const uint64_t *records, size_t records_len,
+                     uint64_t number,
+                     uint64_t *place, size_t place_len);
 
 #ifdef __cplusplus
 }

@@ -59,6 +59,9 @@ _SLICE = (ctypes.c_void_p, ctypes.c_size_t)
 _FUNCTIONS = {"dz_read": _SLICE * 5, "dz_map_name": _SLICE * 2 + (ctypes.c_uint64,) * 2 + _SLICE,
               "dz_find": _SLICE + (ctypes.c_uint64,) + _SLICE, "dz_pack": _SLICE * 3, "dz_unpack": _SLICE * 3,
               "dz_front": _SLICE * 2, "dz_read_file": _SLICE * 4, "dz_file_map_name": _SLICE + (ctypes.c_uint64,) * 2 + _SLICE}
+# the short list
+_FUNCTIONS.update({"dz_model_list": _SLICE * 3, "dz_structure_at": _SLICE + (ctypes.c_uint64,) + _SLICE,
+                   "dz_index_of": _SLICE * 2 + (ctypes.c_uint64,) + _SLICE})
 
 
 # ----------------------------------------------------------- library and slices
@@ -270,6 +273,38 @@ def unfold(record):
     if record >> 53:
         return "V", structure, payload >> 32, payload >> 16 & 65535, payload & 65535
     return "S", structure, payload
+
+
+# --------------------------------------------------------------- the short list
+
+# A model of a short list: type is 'S' or 'V'.
+Model = collections.namedtuple("Model", "first count type structure")
+
+
+def _list_numbers(models):
+    return _numbers([n for m in models for n in (m[0], m[1], {"S": 0, "V": 1}.get(m[2], m[2]), m[3])])
+
+
+def model_list(records, room=64):
+    """(0, the models of the records of one brain map, in order) or (number, [])."""
+    records, count = _numbers(records), (ctypes.c_uint64 * 1)()
+    lent = (ctypes.c_uint64 * (4 * room))()
+    number = _library().dz_model_list(records, len(records), lent, len(lent), count, 1)
+    rows = [lent[4 * i:4 * i + 4] for i in range(count[0])]
+    return number, [Model(first, size, "SV"[kind], structure) for first, size, kind, structure in rows]
+
+
+def structure_at(models, index):
+    """(0, 'S' or 'V', the structure) at an index, or (number, None, 0)."""
+    lent, answer = _list_numbers(models), (ctypes.c_uint64 * 2)()
+    number = _library().dz_structure_at(lent, len(lent), _number(index), answer, 2)
+    return (number, None, 0) if number else (0, "SV"[answer[0]], answer[1])
+
+
+def index_of(models, records, record):
+    """(0, the index of the record) or (number, 0)."""
+    lent, records, place = _list_numbers(models), _numbers(records), (ctypes.c_uint64 * 1)()
+    return _library().dz_index_of(lent, len(lent), records, len(records), _number(record), place, 1), place[0]
 
 
 # ------------------------------------------------------------- the command line

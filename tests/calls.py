@@ -128,3 +128,20 @@ def read_file(file, records, work, beginnings=None):
         raise ValueError("the work space is not zero")
     return {"number": answer.number, "lengths": [d.length for d in answer.dimensions],
             "kinds": [d.kind for d in answer.dimensions], "records": list(lent)}
+
+
+# ---- the short list
+
+def model_list(records, room):
+    number, models = dzwonolin.model_list([fold(r) for r in records], room)
+    return {"number": number, "models": [[m.first, m.count, "SV".index(m.type), m.structure] for m in models]}
+
+
+def structure_at(models, index):
+    number, kind, structure = dzwonolin.structure_at(models, index)
+    return {"number": number, "type": "SV".index(kind) if kind else 0, "structure": structure}
+
+
+def index_of(models, records, record):
+    number, index = dzwonolin.index_of(models, [fold(r) for r in records], fold(record))
+    return {"number": number, "index": index}

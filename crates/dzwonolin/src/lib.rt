@@ -7,6 +7,7 @@ use reader::map_name_place;
 use records::Index;
 ghost use Rattle.dzwonolin.specs.Promises.{ReadsFlat, NamesFlat, FindsFlat, PacksFlat, UnpacksFlat};
 ghost use Rattle.dzwonolin.specs.Promises.{FrontsFlat, ReadsFileFlat, FileNamesFlat};
+ghost use Rattle.dzwonolin.specs.Lists.{ListsFlat, TellsFlat, SeeksFlat};
 
 #[no_mangle]
 pub extern "C" fn dz_read(
@@ -107,4 +108,38 @@ pub extern "C" fn dz_file_map_name(file: &[u8], dimension: u64, index: u64, part
     let name = file_reader::file_map_name_place(file, dimension, Index(index));
     tell_two(part, name.start as u64, name.length as u64);
     name.number
+}
+
+// ---- The short list: four numbers a model.
+
+#[no_mangle]
+pub extern "C" fn dz_model_list(records: &[u64], list: &mut [u64], count: &mut [u64]) -> u64
+    ensures { λ r. ⌜ ListsFlat (now (records .entry)) (now (list .entry)) (now (count .entry)) r (now (list .exit))
+        (now (count .exit)) ⌝ }
+{
+    let said = flat_lists::list_numbers(records, list);
+    tell_one(count, said.value);
+    said.number
+}
+
+#[no_mangle]
+pub extern "C" fn dz_structure_at(list: &[u64], index: u64, answer: &mut [u64]) -> u64
+    ensures { λ r. ⌜ TellsFlat (now (list .entry)) index (now (answer .entry)) r (now (answer .exit)) ⌝ }
+{
+    let said = flat_lists::structure_in(list, index);
+    tell_two(
+        answer,
+        flat_lists::told_type(said),
+        flat_lists::told_structure(said),
+    );
+    flat_lists::told_number(said)
+}
+
+#[no_mangle]
+pub extern "C" fn dz_index_of(list: &[u64], records: &[u64], number: u64, place: &mut [u64]) -> u64
+    ensures { λ r. ⌜ SeeksFlat (now (list .entry)) (now (records .entry)) number (now (place .entry)) r (now (place .exit)) ⌝ }
+{
+    let said = flat_lists::index_in(list, records, number);
+    tell_one(place, flat_lists::sought_index(said));
+    flat_lists::sought_number(said)
 }

@@ -68,7 +68,8 @@ fn dimension_numbers(dimension: Dimension) -> [u64; 16]
     row
 }
 
-fn put(slice: &mut [u64], at: usize, row: &[u64])
+// Numbers from a place on.
+pub fn put(slice: &mut [u64], at: usize, row: &[u64])
     requires { ⌜ at + length (now row) ≤ length (now slice) ⌝ }
     ensures { λ _. ⌜ now (slice .exit) ≡ wrote at (now (row .entry)) (now (slice .entry)) ⌝ }
 {
