@@ -1,0 +1,5 @@
+pub mod ByOffset
+pub mod Kinds
+pub mod Chain
+pub mod Stretches
+pub mod Theorems

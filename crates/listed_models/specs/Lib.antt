@@ -1,0 +1,2 @@
+pub mod ByOffset
+pub mod Laws
