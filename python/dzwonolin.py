@@ -328,14 +328,10 @@ def card(answer):
 
 
 def models(answer):
-    """A line for each model of each brain map, in order of first index."""
+    """A line for each model of each brain map, in order of first index: its short list, which an accepted stretch always makes."""
     for start, length in _stretches(answer):
-        found = {}
-        for index, record in enumerate(answer.records[start:start + length]):
-            found.setdefault(record >> 48, [0, index])[0] += 1
-        for front, (count, first) in found.items():
-            kind, structure = "SV"[front >> 5], front & 31
-            yield f"model {start} {kind} {structure} {STRUCTURES[structure]} {count} {first}"
+        for one in model_list(answer.records[start:start + length])[1]:
+            yield f"model {start} {one.type} {one.structure} {STRUCTURES[one.structure]} {one.count} {one.first}"
 
 
 def main(arguments):

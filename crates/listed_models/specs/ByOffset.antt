@@ -11,7 +11,8 @@ use Rattle.grammar.specs.Document.{Element}
 use Rattle.grammar.specs.Grammar.{Writes}
 use Rattle.cifti.specs.Maps.{Listed, vertices, voxels, Model, Map, mapsOf}
 use Rattle.cifti.specs.declared.answer.Dimension.{Dimension}
-use Rattle.demand.specs.Located.{mapLists}
+use Rattle.cifti.specs.declared.answer.Answer.{Answer}
+use Rattle.demand.specs.Located.{Entry, mapLists}
 use Rattle.shortlist.specs.Runs.{runs}
 use Rattle.shortlist.specs.Making.{listRefusal}
 use Rattle.shortlist.specs.declared.answer.Model as short
@@ -46,3 +47,11 @@ pub record ListsModels (text records : List ℕ) (dimension : ℕ) (told : Dimen
   pub one-map : those (mapLists dimension) (mapsOf document) ≡ map ∷ []
   pub listed : runs (stretchOf told records) ≡ each entryOf (byOffset (map .models))
   pub made : (room : ℕ) → listRefusal (stretchOf told records) room ≡ first (17 when ltb room (length (map .models)) ∷ [])
+
+-- the stretch of a dimension that the answer tells lists the models of the map
+pub record MapListed (text records : List ℕ) (answer : Answer) (m : Map) : Type 0 where
+  pub dimension : ℕ
+  pub told : Dimension
+  pub is-told : Entry (answer .dimensions) dimension told
+  pub lists : ListsModels text records dimension told
+  pub its-map : lists .map ≡ m

@@ -3,3 +3,4 @@ pub mod Kinds
 pub mod Chain
 pub mod Stretches
 pub mod Theorems
+pub mod Maps

@@ -35,7 +35,7 @@ use Rattle.demand.specs.Laws.Located.{is-described, length-is, index-loc
 
 -- ---- A listed dimension exists.
 
-listed-exists : {lengths : List ℕ} {e : Element} → Passed lengths e → (d : ℕ) → any (mapLists d) (mapsOf e) ≡ true
+pub listed-exists : {lengths : List ℕ} {e : Element} → Passed lengths e → (d : ℕ) → any (mapLists d) (mapsOf e) ≡ true
     → d < length lengths
 unfolding listedDimensions
 listed-exists {lengths} {e} p d h =
@@ -71,7 +71,7 @@ module _ {x : Element} (g : GoodMap x) (f : FineMap (mapOf x)) (n : ℕ) (some-m
 
 -- ---- The dimensions of the answer.
 
-three : (l : List Map) → length ((acceptedWith l) .dimensions) ≡ 3
+pub three : (l : List Map) → length ((acceptedWith l) .dimensions) ≡ 3
 unfolding acceptedWith
 three l = refl
 

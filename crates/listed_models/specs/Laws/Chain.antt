@@ -136,7 +136,8 @@ module _ (rs : List ℕ) where
 
     begins-next : all (from end) l ≡ true
     unfolding from
-    begins-next = all-iff nobody (from end) l .1 (λ j u. le-leb end (getD l j nobody .offset) (at-least j u (decLt (getD l j nobody .offset) end)))
+    begins-next = all-iff nobody (from end) l .1
+        (λ j u. le-leb end (getD l j nobody .offset) (at-least j u (decLt (getD l j nobody .offset) end)))
       where
         at-least : (j : ℕ) → j < length l → Dec (getD l j nobody .offset < end) → end ≤ getD l j nobody .offset
         at-least j u (no f) = omega arith

@@ -187,7 +187,8 @@ module _ {x : Element} (g : GoodMap x) (f : FineMap (mapOf x)) (brain : isBrain 
       let z = indexed g f brain i u in
       let e = stretch-at (mapOf x) i u ∙ z .recorded in
       let k = record-kind (z .model) (getD rs i 0) (ap locationOf e ∙ lawful-back (z .fits)) (z .listed) in (
-        one-those (covers i) (λ m. eqb (short.kindOf (getD rs i 0)) (short.kindIn (entryOf m))) (z .model) (eq-eqb _ _ k) models (z .one-model),
+        one-those (covers i) (λ m. eqb (short.kindOf (getD rs i 0)) (short.kindIn (entryOf m))) (z .model) (eq-eqb _ _ k) models
+            (z .one-model),
         ap legalRecord e ∙ lawful-legal (z .fits),
       )
 
