@@ -22,6 +22,9 @@ CALLS = {
     "dz_find": [paper.RECORDS_A, (paper.RECORDS_A[1],), 1],
     "dz_pack": [paper.RECORDS_A, bytearray(len(paper.SHEET_A)), 1],
     "dz_unpack": [paper.SHEET_A, 3, 1],
+    "dz_model_list": [paper.RECORDS_A, 8, 1],
+    "dz_structure_at": [paper.LIST_A, (2,), 2],
+    "dz_index_of": [paper.LIST_A, paper.RECORDS_A, (paper.RECORDS_A[1],), 1],
 }
 # The number where the slices named by their places are empty.
 NUMBERS = {
@@ -30,6 +33,9 @@ NUMBERS = {
     ("dz_find", (0,)): 19, ("dz_find", (2,)): 0,
     ("dz_pack", (0,)): 15, ("dz_pack", (1,)): 17, ("dz_pack", (2,)): 0,
     ("dz_unpack", (0,)): 15, ("dz_unpack", (1,)): 17, ("dz_unpack", (2,)): 0,
+    ("dz_model_list", (0,)): 15, ("dz_model_list", (1,)): 17, ("dz_model_list", (2,)): 0,
+    ("dz_structure_at", (0,)): 19, ("dz_structure_at", (2,)): 0,
+    ("dz_index_of", (0,)): 19, ("dz_index_of", (1,)): 26, ("dz_index_of", (3,)): 0,
 }
 
 

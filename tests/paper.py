@@ -28,6 +28,8 @@ MODELS_A = b"model 0 S 18 CORTEX_RIGHT 2 0\nmodel 0 V 6 BRAIN_STEM 1 2\n"
 CARD_A = b"ok\n0 scalars 2\n1 brain 3 0\n0 S 18 4\n1 S 18 1\n2 V 6 2 3 5\n"
 SHEET_A = bytes.fromhex("07 00 00 03 48 00 00 00 00 00 10 48 00 00 00 00 00 04 98 00 08 00 0c 00 14")
 SHEET_OF_FIVE = bytes.fromhex("05 00 00 03 48 00 00 00 04 48 00 00 00 01 98 01 00 30 05")
+# the short list of A, four numbers a model
+LIST_A = [0, 2, 0, 18, 2, 1, 1, 6]
 RECORDS_A = [18 << 48 | 4, 18 << 48 | 1, 1 << 53 | 6 << 48 | 2 << 32 | 3 << 16 | 5]
 
 

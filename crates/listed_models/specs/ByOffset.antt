@@ -25,10 +25,14 @@ ofVoxels (voxels l) = true
 abbrev pub entryOf : Model → short.Model
 entryOf m = record { first = record { 0 = m .offset }; count = m .count; voxels = ofVoxels (m .listed); structure = m .structure }
 
+-- one begins no later than the other
+unfoldable pub noLater : Model → Model → Bool
+noLater m n = leb (m .offset) (n .offset)
+
 -- a model in its place among models by offset, and all models in theirs
 unfoldable pub placed : Model → List Model → List Model
 placed m [] = m ∷ []
-placed m (n ∷ l) = cond (leb (m .offset) (n .offset)) (m ∷ n ∷ l) (n ∷ placed m l)
+placed m (n ∷ l) = cond (noLater m n) (m ∷ n ∷ l) (n ∷ placed m l)
 
 unfoldable pub byOffset : List Model → List Model
 byOffset [] = []

@@ -71,9 +71,16 @@ module _ {x : Element} (g : GoodMap x) (f : FineMap (mapOf x)) (n : ℕ) (some-m
 
 -- ---- The dimensions of the answer.
 
-pub three : (l : List Map) → length ((acceptedWith l) .dimensions) ≡ 3
+three : (l : List Map) → length ((acceptedWith l) .dimensions) ≡ 3
 unfolding acceptedWith
 three l = refl
+
+-- of each dimension that exists there is an entry
+pub told-entry : {text lengths records : List ℕ} {a : Answer} {after : List ℕ} → AcceptedText text lengths records a after
+    → {d : ℕ} → d < length lengths → Entry (a .dimensions) d (getD (a .dimensions) d unused)
+told-entry {a = a} x {d} u =
+    let of-three : length (a .dimensions) ≡ 3 = ap (λ (t : Answer). length (t .dimensions)) (x .answered) ∙ three _ in
+    entry-at (a .dimensions) d unused (omega (arith, u, at-most-three (x .passes), of-three))
 
 told-at : (l : List Map) {d : ℕ} {told : Dimension} → Entry ((acceptedWith l) .dimensions) d told → told ≡ dimensionAt 0 l d
 unfolding acceptedWith
@@ -134,15 +141,12 @@ module _ {text lengths records work : List ℕ} {a : Answer} {after cleared : Li
   unfolding size
   is-size = entry-at lengths d 0 exists
 
-  of-three : length (a .dimensions) ≡ 3
-  of-three = ap (λ (t : Answer). length (t .dimensions)) (accepted .answered) ∙ three _
-
   told : Dimension
   told = getD (a .dimensions) d unused
 
   is-told : Entry (a .dimensions) d told
   unfolding told
-  is-told = entry-at (a .dimensions) d unused (omega (arith, exists, at-most-three (accepted .passes), of-three))
+  is-told = told-entry accepted exists
 
   brain : told .kind ≡ Brain
   unfolding described

@@ -7,15 +7,15 @@ use native.Mathlib.Omega.{arith}
 use lib.Dec.{leb}
 use borrow.Author.Tests.{leb-true, leb-false, le-leb}
 use Rattle.lists.specs.Lists.{all}
-use Rattle.lists.specs.Permuted.{Permuted, none, same, swap, then, permuted-refl, all-permuted, permuted-turned}
+use Rattle.lists.specs.Permuted.{Permuted, none, same, swap, then, permuted-refl, all-permuted}
 use Rattle.lists.specs.Laws.Booleans.{and-left, and-right, and-both}
 use Rattle.cifti.specs.Maps.{Model}
-use Rattle.listed_models.specs.ByOffset.{placed, byOffset}
+use Rattle.listed_models.specs.ByOffset.{noLater, placed, byOffset}
 
 placed-permuted : (m : Model) (l : List Model) → Permuted (m ∷ l) (placed m l)
 unfolding placed
 placed-permuted m [] = permuted-refl _
-placed-permuted m (n ∷ l) = go (leb (m .offset) (n .offset)) (placed-permuted m l)
+placed-permuted m (n ∷ l) = go (noLater m n) (placed-permuted m l)
   where
     go : (b : Bool) → Permuted (m ∷ l) (placed m l) → Permuted (m ∷ n ∷ l) (cond b (m ∷ n ∷ l) (n ∷ placed m l))
     go true h = permuted-refl _
@@ -43,9 +43,9 @@ from-less a b u (m ∷ l) h =
     and-both (le-leb a (m .offset) (omega arith)) (from-less a b u l (and-right (leb b (m .offset)) _ h))
 
 placed-order : (m : Model) (l : List Model) → inOrder l ≡ true → inOrder (placed m l) ≡ true
-unfolding placed inOrder all from
+unfolding placed noLater inOrder all from
 placed-order m [] h = refl
-placed-order m (n ∷ l) h = go (leb (m .offset) (n .offset)) refl (placed-order m l rest)
+placed-order m (n ∷ l) h = go (noLater m n) refl (placed-order m l rest)
   where
     behind : all (from (n .offset)) l ≡ true
     behind = and-left (all (from (n .offset)) l) (inOrder l) h
@@ -53,7 +53,7 @@ placed-order m (n ∷ l) h = go (leb (m .offset) (n .offset)) refl (placed-order
     rest : inOrder l ≡ true
     rest = and-right (all (from (n .offset)) l) (inOrder l) h
 
-    go : (b : Bool) → leb (m .offset) (n .offset) ≡ b → inOrder (placed m l) ≡ true
+    go : (b : Bool) → noLater m n ≡ b → inOrder (placed m l) ≡ true
         → inOrder (cond b (m ∷ n ∷ l) (n ∷ placed m l)) ≡ true
     go true e f = and-both (and-both e (from-less (m .offset) (n .offset) (leb-true (m .offset) (n .offset) e) l behind)) h
     go false e f =

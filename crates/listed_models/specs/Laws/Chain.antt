@@ -1,6 +1,6 @@
 -- MODELS IN ORDER, AND THE RUNS OF RECORDS: where each index from one on lies in exactly one range, and each record is of the kind of the
 -- model whose range its index is in, the runs from there on are the models.
-use mathlib.Core.Path.{_≡_, refl, sym, ap, _∙_}
+use mathlib.Core.Path.{_≡_, sym, ap, _∙_}
 use mathlib.Core.List.{List, [], _∷_}
 use mathlib.Core.Bool.{Bool, true, false, cond, not, _&&_, _||_}
 use Prim.Native.Nat.{ℕ, zero, suc, _+_, _-_, _<_, _≤_}

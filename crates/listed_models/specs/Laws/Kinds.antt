@@ -1,9 +1,8 @@
 -- THE KIND OF A RECORD IS THAT OF ITS LOCATION, and so that of the model that lists the location.
 use mathlib.Core.Path.{_≡_, refl, ap, _∙_}
-use mathlib.Core.List.{List, [], _∷_}
+use mathlib.Core.List.{List, _∷_}
 use mathlib.Core.Bool.{Bool, true, false, cond}
-use Prim.Native.Nat.{ℕ, _+_, _<_}
-use native.Mathlib.Omega.{arith}
+use Prim.Native.Nat.{ℕ, _+_}
 use Rattle.lists.specs.Lists.{each}
 use Rattle.records.specs.Record.{Location, onSurface, inVolume, locationOf, locationIn, isVoxel, structureOf, payloadOf, iOf, jOf, kOf}
 use Rattle.cifti.specs.Maps.{Listed, vertices, voxels, Model, voxelAt, locationsBy, locations}

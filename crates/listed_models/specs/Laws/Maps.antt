@@ -1,9 +1,8 @@
 -- EVERY BRAIN MAP of an accepted text applies to a dimension, so that its models are listed.
 use mathlib.Core.Path.{_≡_, refl, sym, ap, _∙_}
 use mathlib.Core.List.{List, [], _∷_, _++_}
-use mathlib.Core.Bool.{Bool, true, false, cond, _||_}
+use mathlib.Core.Bool.{Bool, true, false, cond}
 use Prim.Native.Nat.{ℕ, _<_, _≤_}
-use native.Mathlib.Omega.{arith}
 use lib.Dec.{eqb}
 use lib.ListN.{length, getD}
 use borrow.Author.Tests.{eq-eqb}
@@ -23,10 +22,10 @@ use Rattle.maps.specs.Laws.Dimensions.{values-some}
 use Rattle.maps.specs.Laws.MapKind.{GoodMap, map-dimensions, brain-kind}
 use Rattle.demand.specs.Located.{Entry, mapLists}
 use Rattle.demand.specs.Laws.Alone.{Alone, alone-those, entry-at}
-use Rattle.demand.specs.Laws.Passed.{Passed, AcceptedText, accepted-text, at-most-three, one-lists, GoodOf, map-good}
+use Rattle.demand.specs.Laws.Passed.{AcceptedText, accepted-text, one-lists, GoodOf, map-good}
 use Rattle.demand.specs.Laws.Located.{is-described}
-use Rattle.demand.specs.Laws.Given.{listed-exists, three}
-use Rattle.listed_models.specs.ByOffset.{ListsModels, MapListed}
+use Rattle.demand.specs.Laws.Given.{listed-exists, told-entry}
+use Rattle.listed_models.specs.ByOffset.{MapListed}
 use Rattle.listed_models.specs.Laws.Theorems.{table-lists}
 
 -- ---- The one of a list that passes.
@@ -86,15 +85,12 @@ module _ {text lengths records work : List ℕ} {a : Answer} {after cleared : Li
   is-size : Entry lengths d (getD lengths d 0)
   is-size = entry-at lengths d 0 exists
 
-  of-three : length (a .dimensions) ≡ 3
-  of-three = ap (λ (t : Answer). length (t .dimensions)) (x .answered) ∙ three _
-
   told : Dimension
   told = getD (a .dimensions) d unused
 
   is-told : Entry (a .dimensions) d told
   unfolding told
-  is-told = entry-at (a .dimensions) d unused (omega (arith, exists, at-most-three (x .passes), of-three))
+  is-told = told-entry x exists
 
   lister : Alone (mapLists d) (mapsOf (x .document))
   lister = one-lists (x .passes) d exists

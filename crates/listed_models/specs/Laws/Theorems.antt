@@ -2,9 +2,9 @@
 use mathlib.Core.Path.{_≡_, refl, sym, ap, _∙_}
 use mathlib.Core.List.{List, [], _∷_}
 use mathlib.Core.Bool.{Bool, true, false, cond, not, _&&_, _||_}
-use Prim.Native.Nat.{ℕ, zero, suc, _+_, _<_, _≤_}
+use Prim.Native.Nat.{ℕ, zero, suc, _<_, _≤_}
 use native.Mathlib.Omega.{arith}
-use lib.Dec.{eqb, leb, ltb}
+use lib.Dec.{eqb, ltb}
 use lib.ListN.{length, getD, take, drop}
 use borrow.Author.Tests.{le-leb, lt-ltb, eqb-true, eqb-false, eq-eqb, ltb-true, ltb-false}
 use Rattle.lists.specs.Lists.{all, any, those, count, twoOf, total, each}
@@ -36,8 +36,8 @@ use Rattle.models.specs.Fine.{FineMap}
 use Rattle.models.specs.Kind.{typeAndStructure, alike-number, structure-small}
 use Rattle.table.specs.Ready.{nobody}
 use Rattle.demand.specs.Located.{Entry, here, further, mapLists}
-use Rattle.demand.specs.Laws.Alone.{Alone, alone-those, entry-below, entry-is}
-use Rattle.demand.specs.Laws.Passed.{Passed, AcceptedText, accepted-text, one-lists, GoodOf, map-good, map-fine}
+use Rattle.demand.specs.Laws.Alone.{Alone, alone-those, entry-below}
+use Rattle.demand.specs.Laws.Passed.{AcceptedText, accepted-text, one-lists, GoodOf, map-good, map-fine}
 use Rattle.demand.specs.Laws.Indexed.{indexed, lawful-back, lawful-legal}
 use Rattle.demand.specs.Laws.Located.{is-described, length-is}
 use Rattle.shortlist.specs.Runs as short
@@ -45,7 +45,7 @@ use Rattle.shortlist.specs.Making.{listRefusal}
 use Rattle.listed_models.specs.ByOffset.{entryOf, byOffset, stretchOf, ListsModels}
 use Rattle.listed_models.specs.Laws.ByOffset.{from, offset-permuted, offset-order}
 use Rattle.listed_models.specs.Laws.Kinds.{kind-entry, record-kind}
-use Rattle.listed_models.specs.Laws.Chain.{whole, Whole, whole-is, says, Ahead, chain}
+use Rattle.listed_models.specs.Laws.Chain.{whole, whole-is, says, Ahead, chain}
 use Rattle.listed_models.specs.Laws.Stretches.{stretch-taken}
 
 -- ---- Models of a good map.
