@@ -5,15 +5,13 @@ use mathlib.Core.Bool.{Bool, true, false, cond, not, _&&_, _||_}
 use mathlib.Core.List.{List, [], _∷_}
 use Prim.Native.Nat.{ℕ, zero, suc, _+_, _≤_, _<_}
 use native.Mathlib.Omega.{arith}
+use native.Mathlib.Numerals.{add-one}
 use lib.Dec.{eqb, ltb}
 use lib.ListN.{length, getD}
 use borrow.Author.Tests.{eqb-true, eqb-false, eq-eqb, ne-eqb, ltb-true}
 use Rattle.lists.specs.Lists.{any, count, twoOf}
 use Rattle.lists.specs.Laws.Booleans.{and-left, and-right, or-left, or-right, or-second, both-ways}
 use Rattle.comparison.specs.Compare.{countBelow, hasAt, has, sameAt, movedAt, onlyAt, same, moved, firstOnly, secondOnly}
-
-one : Bool → ℕ
-one b = cond b 1 0
 
 -- ---- Counting over numbers below n.
 
@@ -29,11 +27,11 @@ below-most (suc n) p = go (p n) (below-most n p)
 -- one more number
 pub below-yes : (i : ℕ) (p : ℕ → Bool) (n : ℕ) → n ≡ countBelow i p → p i ≡ true → n + 1 ≡ countBelow (i + 1) p
 unfolding countBelow
-below-yes i p n e h = let s : countBelow (suc i) p ≡ 1 + countBelow i p = rw h refl in let z : countBelow (i + 1) p ≡ countBelow (suc i) p = ap (λ (k : ℕ). countBelow k p) (omega arith) in omega arith
+below-yes i p n e h = let s : countBelow (suc i) p ≡ 1 + countBelow i p = rw h refl in let z : countBelow (i + 1) p ≡ countBelow (suc i) p = ap (λ (k : ℕ). countBelow k p) (add-one i) in omega arith
 
 pub below-no : (i : ℕ) (p : ℕ → Bool) (n : ℕ) → n ≡ countBelow i p → p i ≡ false → n ≡ countBelow (i + 1) p
 unfolding countBelow
-below-no i p n e h = let s : countBelow (suc i) p ≡ 0 + countBelow i p = rw h refl in let z : countBelow (i + 1) p ≡ countBelow (suc i) p = ap (λ (k : ℕ). countBelow k p) (omega arith) in omega arith
+below-no i p n e h = let s : countBelow (suc i) p ≡ 0 + countBelow i p = rw h refl in let z : countBelow (i + 1) p ≡ countBelow (suc i) p = ap (λ (k : ℕ). countBelow k p) (add-one i) in omega arith
 
 -- two tests that share out a third
 shared : (n : ℕ) (p q r : ℕ → Bool) → ((i : ℕ) → cond (p i) 1 0 + cond (q i) 1 0 ≡ cond (r i) 1 0)
@@ -62,34 +60,35 @@ indexed p (x ∷ a) = front (length a) (λ i. p (getD (x ∷ a) i 0)) ∙ ap (λ
 -- ---- The three tests of an index.
 
 pub has-at : (b : List ℕ) (i x : ℕ) → hasAt b i x ≡ true → has b x ≡ true
-unfolding hasAt has
+unfolding hasAt has any
 has-at b i x h = go b i (ltb-true i (length b) (and-left (ltb i (length b)) (eqb x (getD b i 0)) h)) (and-right (ltb i (length b)) (eqb x (getD b i 0)) h)
   where
     go : (b : List ℕ) (i : ℕ) → i < length b → eqb x (getD b i 0) ≡ true → any (eqb x) b ≡ true
-    unfolding any
     go [] i h e = absurd (omega arith)
     go (y ∷ b) zero h e = rw e refl
     go (y ∷ b) (suc i) h e = or-second (eqb x y) (go b i (omega arith) e)
 
 module _ (a b : List ℕ) where
-  inBoth : ℕ → Bool
+  abbrev inBoth : ℕ → Bool
   inBoth i = has b (getD a i 0)
+
+  sameHas : (i : ℕ) → sameAt a b i ≡ true → inBoth i ≡ true
+  unfolding sameAt
+  sameHas i h = has-at b i (getD a i 0) h
 
   -- in both is same or moved
   pub both-is : same a b + moved a b ≡ count (has b) a
+  unfolding movedAt
   both-is = shared (length a) (sameAt a b) (movedAt a b) inBoth (λ i. go i (sameAt a b i) refl (inBoth i) refl) ∙ indexed (has b) a
     where
       go : (i : ℕ) (t : Bool) → sameAt a b i ≡ t → (u : Bool) → inBoth i ≡ u → cond (sameAt a b i) 1 0 + cond (movedAt a b i) 1 0 ≡ cond (inBoth i) 1 0
-      unfolding movedAt
       go i true e true f = rw (e, f) refl
       go i true e false f = both-ways (sameHas i e) f
-        where
-          sameHas : (i : ℕ) → sameAt a b i ≡ true → inBoth i ≡ true
-          unfolding sameAt
-          sameHas i h = has-at b i (getD a i 0) h
-      go i false e u f = rw (e, f) refl
+      go i false e true f = rw (e, f) refl
+      go i false e false f = rw (e, f) refl
 
   pub only-is : count (has b) a + firstOnly a b ≡ length a
+  unfolding onlyAt
   only-is = ap (λ (n : ℕ). n + firstOnly a b) (sym (indexed (has b) a)) ∙ shared (length a) inBoth (onlyAt a b) (λ i. true) (λ i. go (inBoth i)) ∙ every (length a)
     where
       go : (t : Bool) → cond t 1 0 + cond (not t) 1 0 ≡ 1
@@ -111,14 +110,14 @@ none p (y ∷ b) h = rw (or-left (p y) (any p b) h) (let e = none p b (or-right 
 once : (x : ℕ) (b : List ℕ) → twoOf eqb b ≡ false → count (eqb x) b ≡ cond (has b x) 1 0
 unfolding twoOf has count any
 once x [] h = refl
-once x (y ∷ b) h = go (eqb x y) refl
+once x (y ∷ b) h = go (eqb x y) refl (once x b (or-right (any (eqb y) b) (twoOf eqb b) h))
   where
-    go : (t : Bool) → eqb x y ≡ t → cond (eqb x y) 1 0 + count (eqb x) b ≡ cond (eqb x y || any (eqb x) b) 1 0
-    go true e =
+    go : (t : Bool) → eqb x y ≡ t → count (eqb x) b ≡ cond (any (eqb x) b) 1 0 → cond (eqb x y) 1 0 + count (eqb x) b ≡ cond (eqb x y || any (eqb x) b) 1 0
+    go true e r =
         let same : x ≡ y = eqb-true x y e in
         let z : count (eqb x) b ≡ 0 = none (eqb x) b (ap (λ (n : ℕ). any (eqb n) b) same ∙ or-left (any (eqb y) b) (twoOf eqb b) h) in
         rw e (omega arith)
-    go false e = rw e (let r = once x b (or-right (any (eqb y) b) (twoOf eqb b) h) in omega arith)
+    go false e r = rw e (omega arith)
 
 eqb-turned : (x y : ℕ) → eqb x y ≡ eqb y x
 eqb-turned x y = go (eqb x y) refl
@@ -131,32 +130,32 @@ eqb-turned x y = go (eqb x y) refl
 more : (x : ℕ) (a b : List ℕ) → has a x ≡ false → count (has (x ∷ a)) b ≡ count (eqb x) b + count (has a) b
 unfolding has count any
 more x a [] h = refl
-more x a (y ∷ b) h = go (eqb x y) refl (any (eqb y) a) refl
+more x a (y ∷ b) h = go (eqb x y) refl (any (eqb y) a) refl (more x a b h)
   where
-    go : (t : Bool) → eqb x y ≡ t → (u : Bool) → any (eqb y) a ≡ u
+    go : (t : Bool) → eqb x y ≡ t → (u : Bool) → any (eqb y) a ≡ u → count (has (x ∷ a)) b ≡ count (eqb x) b + count (has a) b
         → cond (eqb y x || any (eqb y) a) 1 0 + count (has (x ∷ a)) b ≡ cond (eqb x y) 1 0 + count (eqb x) b + (cond (any (eqb y) a) 1 0 + count (has a) b)
-    go true e true f = both-ways f (ap (λ (n : ℕ). any (eqb n) a) (sym (eqb-true x y e)) ∙ h)
-    go true e false f = rw (sym (eqb-turned x y), e, f) (let r = more x a b h in omega arith)
-    go false e true f = rw (sym (eqb-turned x y), e, f) (let r = more x a b h in omega arith)
-    go false e false f = rw (sym (eqb-turned x y), e, f) (let r = more x a b h in omega arith)
+    go true e true f r = both-ways f (ap (λ (n : ℕ). any (eqb n) a) (sym (eqb-true x y e)) ∙ h)
+    go true e false f r = rw (sym (eqb-turned x y), e, f) (omega arith)
+    go false e true f r = rw (sym (eqb-turned x y), e, f) (omega arith)
+    go false e false f r = rw (sym (eqb-turned x y), e, f) (omega arith)
 
 nothing : (b : List ℕ) → count (has []) b ≡ 0
 unfolding has count any
 nothing [] = refl
 nothing (y ∷ b) = let e = nothing b in omega arith
 
+alone : (x : ℕ) (a : List ℕ) → any (eqb x) a ≡ false → has a x ≡ false
+unfolding has
+alone x a e = e
+
 pub both-turned : (a b : List ℕ) → twoOf eqb a ≡ false → twoOf eqb b ≡ false → count (has b) a ≡ count (has a) b
-both-turned [] b g h = sym (nothing b)
 unfolding twoOf count
+both-turned [] b g h = sym (nothing b)
 both-turned (x ∷ a) b g h =
     let r = both-turned a b (or-right (any (eqb x) a) (twoOf eqb a) g) h in
     let o = once x b h in
-    let m = more x a b (alone (or-left (any (eqb x) a) (twoOf eqb a) g)) in
+    let m = more x a b (alone x a (or-left (any (eqb x) a) (twoOf eqb a) g)) in
     omega arith
-  where
-    alone : any (eqb x) a ≡ false → has a x ≡ false
-    unfolding has
-    alone e = e
 
 -- the second's count, where neither has a repeat
 pub adds-up-second : (a b : List ℕ) → twoOf eqb a ≡ false → twoOf eqb b ≡ false → same a b + moved a b + secondOnly a b ≡ length b

@@ -1,0 +1,61 @@
+// The two questions on two sheets.
+use super::counting::counted;
+use super::counting::lay;
+use super::refusal::count_in;
+use super::refusal::refusal;
+use comparison::Compared;
+use repeats::clear;
+ghost use mathlib.Core.Path.{_≡_};
+ghost use mathlib.Core.Bool.{true};
+ghost use Prim.Native.Nat.{_+_, _*_, _≤_};
+ghost use lib.ListN.{length};
+ghost use Rattle.records.specs.Sheet.{countOf, widthOf};
+ghost use Rattle.comparison.specs.Compare.{wellFormed, Compares, Tails};
+
+// Where the sheet's record of the index begins.
+fn record_start(sheet: &[u8], i: usize) -> usize
+    requires { ⌜ (wellFormed (now sheet) ≡ true) × (i ≤ countOf (now sheet)) ⌝ }
+    ensures { λ r. ⌜ (r ≡ 4 + (widthOf (now (sheet .entry))) .bytes * i) × (r ≤ length (now (sheet .entry))) ⌝ }
+{
+    if sheet[0] == 5 { 4 + 5 * i } else { 4 + 7 * i }
+}
+
+// How many locations are at the same index in both sheets, in both but moved, in the first only and in the second only.
+pub fn compare(first: &[u8], second: &[u8], work: &mut [u64]) -> Compared
+    ensures { λ r. ⌜ Compares (now (first .entry)) (now (second .entry)) (now (work .entry)) r (now (work .exit)) ⌝ }
+{
+    let number = refusal(first, second, work);
+    if number != 0 {
+        clear(work);
+        return Compared {
+            number,
+            same: 0,
+            moved: 0,
+            first: 0,
+            second: 0,
+        };
+    }
+    let n = count_in(first);
+    let m = count_in(second);
+    lay(first, second, work, n);
+    let answer = counted(&mut work[..n + m], n);
+    clear(work);
+    answer
+}
+
+// The records of the longer sheet that the shorter has no place for, in the longer's width.
+pub fn tail<'a>(first: &'a [u8], second: &'a [u8], work: &mut [u64]) -> &'a [u8]
+    ensures { λ r. ⌜ Tails (now (first .entry)) (now (second .entry)) (now (work .entry)) (now r) (now (work .exit)) ⌝ }
+{
+    let number = refusal(first, second, work);
+    clear(work);
+    if number != 0 {
+        return &first[0..0];
+    }
+    let n = count_in(first);
+    let m = count_in(second);
+    if n < m {
+        return &second[record_start(second, n)..];
+    }
+    &first[record_start(first, m)..]
+}

@@ -1,0 +1,11 @@
+// Two sheets side by side.
+
+// The paper's number of two sheets.
+mod refusal;
+// How many locations are the same, moved, in the first only and in the second only.
+mod counting;
+// The two questions.
+mod answer;
+
+pub use answer::compare;
+pub use answer::tail;
