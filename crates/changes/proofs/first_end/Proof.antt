@@ -1,0 +1,27 @@
+-- `changes::first_end` meets its contract. Assumes nothing.
+use native.Mathlib.Omega.{arith}
+use borrow.Author.Needs.{needs}
+use Rattle.changes.specs.Laws.Change.{end-short, end-past, end-there}
+use Rattle.changes.proofs.first_end.Statement.{statement}
+use Rattle.changes.proofs.first_end.Tie as tie
+
+returns : tie.Need-returns
+returns c = end-short _ (c .if1 .taken)
+
+end-said-requires : tie.Need-end-said-requires
+end-said-requires c κs = omega arith
+
+returns-2 : tie.Need-returns-2
+returns-2 c = end-past _ _ (omega arith) (c .before .end-said .ensures) (c .if2 .taken)
+
+returns-3 : tie.Need-returns-3
+returns-3 c = end-there _ _ (omega arith) (c .before .end-said .ensures) (c .if2 .left)
+
+pub first-end-spec : {M : Type 1} → statement M
+first-end-spec =
+    tie.close
+    (tie.spec
+    returns
+    end-said-requires
+    returns-2
+    returns-3)
