@@ -69,7 +69,7 @@ fn end_said(input: &[u8]) -> usize
 
 // Where the first of two sheets end to end ends, as its own head says, or all of them.
 pub fn first_end(input: &[u8]) -> usize
-    ensures { λ r. ⌜ r ≡ firstEnd (now (input .entry)) ⌝ }
+    ensures { λ r. ⌜ (r ≡ firstEnd (now (input .entry))) × (r ≤ length (now (input .entry))) ⌝ }
 {
     if input.len() < 4 {
         return input.len();

@@ -24,7 +24,11 @@ pub(crate) fn count_in(sheet: &[u8]) -> usize
     requires { ⌜ wellFormed (now sheet) ≡ true ⌝ }
     ensures { λ r. ⌜ r ≡ countOf (now (sheet .entry)) ⌝ }
 {
-    if sheet[0] == 5 { (sheet.len() - 4) / 5 } else { (sheet.len() - 4) / 7 }
+    if sheet[0] == 5 {
+        (sheet.len() - 4) / 5
+    } else {
+        (sheet.len() - 4) / 7
+    }
 }
 
 // The sheet has a location twice.

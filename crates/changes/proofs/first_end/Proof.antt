@@ -6,16 +6,16 @@ use Rattle.changes.proofs.first_end.Statement.{statement}
 use Rattle.changes.proofs.first_end.Tie as tie
 
 returns : tie.Need-returns
-returns c = end-short _ (c .if1 .taken)
+returns c = (end-short _ (c .if1 .taken), omega arith)
 
 end-said-requires : tie.Need-end-said-requires
 end-said-requires c κs = omega arith
 
 returns-2 : tie.Need-returns-2
-returns-2 c = end-past _ _ (omega arith) (c .before .end-said .ensures) (c .if2 .taken)
+returns-2 c = (end-past _ _ (omega arith) (c .before .end-said .ensures) (c .if2 .taken), omega arith)
 
 returns-3 : tie.Need-returns-3
-returns-3 c = end-there _ _ (omega arith) (c .before .end-said .ensures) (c .if2 .left)
+returns-3 c = (end-there _ _ (omega arith) (c .before .end-said .ensures) (c .if2 .left), omega arith)
 
 pub first-end-spec : {M : Type 1} → statement M
 first-end-spec =

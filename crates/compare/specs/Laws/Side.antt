@@ -50,12 +50,18 @@ pub record Walked (w : List ℕ) (n m i : ℕ) : Type 0 where
 
 module _ {w : List ℕ} {n m i : ℕ} (go : Walked w n m i) (h : i < n) {b : Bool} (is : b ≡ hasAt w (n + i) (getD w i 0)) where
   pub walked-yes : b ≡ true → Walked w n (m + 1) (i + 1)
-  walked-yes e = record { inside = go .inside; within = omega arith;
-    sum = below-yes i (sameAt (take n w) (drop n w)) m (go .sum) (sym (here-is w n (go .inside) i h) ∙ sym is ∙ e) }
+  walked-yes e = record {
+    inside = go .inside;
+    within = omega arith;
+    sum = below-yes i (sameAt (take n w) (drop n w)) m (go .sum) (sym (here-is w n (go .inside) i h) ∙ sym is ∙ e);
+  }
 
   pub walked-no : b ≡ false → Walked w n m (i + 1)
-  walked-no e = record { inside = go .inside; within = omega arith;
-    sum = below-no i (sameAt (take n w) (drop n w)) m (go .sum) (sym (here-is w n (go .inside) i h) ∙ sym is ∙ e) }
+  walked-no e = record {
+    inside = go .inside;
+    within = omega arith;
+    sum = below-no i (sameAt (take n w) (drop n w)) m (go .sum) (sym (here-is w n (go .inside) i h) ∙ sym is ∙ e);
+  }
 
 pub walked-start : (w : List ℕ) (n : ℕ) → n ≤ length w → Walked w n 0 0
 unfolding countBelow

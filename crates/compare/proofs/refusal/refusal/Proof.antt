@@ -45,7 +45,7 @@ count-in-requires-2 c κs = formed _ (c .before .before .before .before .sheet-r
 
 -- src/refusal.rt:53:21
 add-if3 : tie.Need-add-if3
-add-if3 c = 
+add-if3 c =
     let s = c .before .before .before .before .before .before .before .before .before .before .before .before .before .before .before .args .first .now in
     let t = c .before .before .before .before .before .before .before .before .before .before .before .before .before .before .before .args .second .now in
     let a = formed-most s (formed s (c .before .before .before .before .before .before .before .before .before .before .sheet-refusal .ensures) (c .before .before .before .before .before .before .before .if1 .left)) in
@@ -58,7 +58,7 @@ same-length-3 c = search needs
 
 -- src/refusal.rt:54:9
 returns-3 : tie.Need-returns-3
-returns-3 c = 
+returns-3 c =
     no-room _ _ _ (c .before .before .before .before .before .before .before .before .before .before .before .sheet-refusal .ensures) (c .before .before .before .before .before .before .before .before .if1 .left) (c .before .before .before .before .before .before .sheet-refusal2 .ensures) (c .before .before .before .if2 .left)
     (c .before .before .count-in .ensures) (c .before .count-in2 .ensures)
     (omega (arith, c .before .before .before .before .before .before .before .before .before .before .before .sheet-refusal .kept .1 .0, c .before .before .before .before .before .before .sheet-refusal2 .kept .1 .0))
@@ -73,7 +73,7 @@ same-length-4 c = search needs
 
 -- src/refusal.rt:57:9
 returns-4 : tie.Need-returns-4
-returns-4 c = 
+returns-4 c =
     first-twice _ _ _ (c .before .before .before .before .before .before .before .before .before .before .before .before .before .before .before .before .sheet-refusal .ensures) (c .before .before .before .before .before .before .before .before .before .before .before .before .before .if1 .left) (c .before .before .before .before .before .before .before .before .before .before .before .sheet-refusal2 .ensures) (c .before .before .before .before .before .before .before .before .if2 .left)
     (c .before .before .before .before .before .before .before .count-in .ensures) (c .before .before .before .before .before .before .count-in2 .ensures)
     (omega (arith, c .before .before .before .before .before .before .before .before .before .before .before .before .before .before .before .before .sheet-refusal .kept .1 .0, c .before .before .before .before .before .before .before .before .before .before .before .sheet-refusal2 .kept .1 .0))
@@ -89,7 +89,7 @@ same-length-5 c = search needs
 
 -- src/refusal.rt:60:9
 returns-5 : tie.Need-returns-5
-returns-5 c = 
+returns-5 c =
     second-twice _ _ _ (c .before .before .before .before .before .before .before .before .before .before .before .before .before .before .before .before .before .before .before .before .before .sheet-refusal .ensures) (c .before .before .before .before .before .before .before .before .before .before .before .before .before .before .before .before .before .before .if1 .left) (c .before .before .before .before .before .before .before .before .before .before .before .before .before .before .before .before .sheet-refusal2 .ensures) (c .before .before .before .before .before .before .before .before .before .before .before .before .before .if2 .left)
     (c .before .before .before .before .before .before .before .before .before .before .before .before .count-in .ensures) (c .before .before .before .before .before .before .before .before .before .before .before .count-in2 .ensures)
     (omega (arith, c .before .before .before .before .before .before .before .before .before .before .before .before .before .before .before .before .before .before .before .before .before .sheet-refusal .kept .1 .0, c .before .before .before .before .before .before .before .before .before .before .before .before .before .before .before .before .sheet-refusal2 .kept .1 .0))
@@ -101,7 +101,7 @@ same-length-6 c = search needs
 
 -- src/refusal.rt:40:1
 returns-6 : tie.Need-returns-6
-returns-6 c = 
+returns-6 c =
     none-refused _ _ _ (c .before .before .before .before .before .before .before .before .before .before .before .before .before .before .before .before .before .before .before .before .before .sheet-refusal .ensures) (c .before .before .before .before .before .before .before .before .before .before .before .before .before .before .before .before .before .before .if1 .left) (c .before .before .before .before .before .before .before .before .before .before .before .before .before .before .before .before .sheet-refusal2 .ensures) (c .before .before .before .before .before .before .before .before .before .before .before .before .before .if2 .left)
     (c .before .before .before .before .before .before .before .before .before .before .before .before .count-in .ensures) (c .before .before .before .before .before .before .before .before .before .before .before .count-in2 .ensures)
     (omega (arith, c .before .before .before .before .before .before .before .before .before .before .before .before .before .before .before .before .before .before .before .before .before .sheet-refusal .kept .1 .0, c .before .before .before .before .before .before .before .before .before .before .before .before .before .before .before .before .sheet-refusal2 .kept .1 .0))

@@ -1,0 +1,71 @@
+-- THEOREMS ON TWO SHEETS: one answer, and the sheets exchanged. Assumes nothing.
+use mathlib.Core.Path.{_≡_, refl, sym, ap, _∙_}
+use mathlib.Core.Bool.{Bool, true, false, cond}
+use mathlib.Core.List.{List, [], _∷_}
+use Prim.Native.Nat.{ℕ, zero, suc, _+_, _<_}
+use native.Mathlib.Omega.{arith}
+use lib.Dec.{eqb}
+use lib.ListN.{length, getD}
+use borrow.Author.Tests.{eqb-true, eqb-false, eq-eqb, ne-eqb}
+use Rattle.lists.specs.Lists.{twoOf}
+use Rattle.comparison.specs.Compare.{countBelow, hasAt, sameAt, same, moved, firstOnly, secondOnly, Compares, Tails}
+use Rattle.comparison.specs.declared.Compared.{Compared}
+use Rattle.comparison.specs.Laws.Sums.{both-is, both-turned}
+
+pub compare-unique : (s t before : List ℕ) (a b : Compared) (x y : List ℕ) → Compares s t before a x → Compares s t before b y → (a ≡ b) × (x ≡ y)
+compare-unique s t before a b x y p q = (p .answers ∙ sym (q .answers), p .zero ∙ sym (q .zero))
+
+pub tail-unique : (s t before a b x y : List ℕ) → Tails s t before a x → Tails s t before b y → (a ≡ b) × (x ≡ y)
+tail-unique s t before a b x y p q = (p .answers ∙ sym (q .answers), p .zero ∙ sym (q .zero))
+
+-- ---- The sheets exchanged.
+
+front : (n : ℕ) (p : ℕ → Bool) → countBelow (suc n) p ≡ cond (p 0) 1 0 + countBelow n (λ i. p (suc i))
+unfolding countBelow
+front zero p = refl
+front (suc n) p = let e = front n p in omega arith
+
+alike : (n : ℕ) (p q : ℕ → Bool) → ((i : ℕ) → p i ≡ q i) → countBelow n p ≡ countBelow n q
+unfolding countBelow
+alike zero p q h = refl
+alike (suc n) p q h = let e = alike n p q h in let f = ap (λ (b : Bool). cond b 1 0) (h n) in omega arith
+
+none-there : (n : ℕ) (a : List ℕ) → countBelow n (sameAt a []) ≡ 0
+unfolding countBelow sameAt hasAt
+none-there zero a = refl
+none-there (suc n) a = let e = none-there n a in omega arith
+
+eqb-turned : (x y : ℕ) → eqb x y ≡ eqb y x
+eqb-turned x y = go (eqb x y) refl
+  where
+    go : (t : Bool) → eqb x y ≡ t → eqb x y ≡ eqb y x
+    go true e = e ∙ sym (eq-eqb y x (sym (eqb-true x y e)))
+    go false e = e ∙ sym (ne-eqb y x (λ h. eqb-false x y e (sym h)))
+
+next : (x y : ℕ) (a b : List ℕ) → same (x ∷ a) (y ∷ b) ≡ cond (eqb x y) 1 0 + same a b
+unfolding sameAt hasAt
+next x y a b = front (length a) (sameAt (x ∷ a) (y ∷ b))
+
+same-turned : (a b : List ℕ) → same a b ≡ same b a
+unfolding countBelow
+same-turned [] [] = refl
+same-turned [] (y ∷ b) = sym (none-there (suc (length b)) (y ∷ b))
+same-turned (x ∷ a) [] = none-there (suc (length a)) (x ∷ a)
+same-turned (x ∷ a) (y ∷ b) =
+    next x y a b ∙ ap (λ (n : ℕ). cond (eqb x y) 1 0 + n) (same-turned a b) ∙ ap (λ (t : Bool). cond t 1 0 + same b a) (eqb-turned x y)
+    ∙ sym (next y x b a)
+
+-- same and moved stay, first and second are exchanged
+pub record Turned (a b : List ℕ) : Type 0 where
+  pub same-stays : same a b ≡ same b a
+  pub moved-stays : moved a b ≡ moved b a
+  pub first-is : firstOnly a b ≡ secondOnly b a
+  pub second-is : secondOnly a b ≡ firstOnly b a
+
+pub turned-round : (a b : List ℕ) → twoOf eqb a ≡ false → twoOf eqb b ≡ false → Turned a b
+turned-round a b g h =
+    let s = same-turned a b in
+    let p = both-is a b in
+    let q = both-is b a in
+    let t = both-turned a b g h in
+    record { same-stays = s; moved-stays = omega arith; first-is = refl; second-is = refl }

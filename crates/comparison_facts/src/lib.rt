@@ -1,0 +1,1 @@
+// Theorems on two sheets side by side. No functions.
