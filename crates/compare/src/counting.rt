@@ -76,7 +76,8 @@ pub(crate) fn counted(work: &mut [u64], n: usize) -> Compared
 // The records of both sheets, one behind the other; n is the first's count.
 pub(crate) fn lay(first: &[u8], second: &[u8], work: &mut [u64], n: usize)
     requires { ⌜ Accepted (now first) (now second) (length (now work)) × (n ≡ countOf (now first)) ⌝ }
-    ensures { λ _. ⌜ take (n + countOf (now (second .entry))) (now (work .exit)) ≡ recordsOf (now (first .entry)) ++ recordsOf (now (second .entry)) ⌝ }
+    ensures { λ _. ⌜ take (n + countOf (now (second .entry))) (now (work .exit))
+        ≡ recordsOf (now (first .entry)) ++ recordsOf (now (second .entry)) ⌝ }
 {
     unpack(first, work);
     unpack(second, &mut work[n..]);

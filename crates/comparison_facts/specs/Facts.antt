@@ -2,17 +2,20 @@
 use mathlib.Core.Path.{_≡_, refl, sym, ap, _∙_}
 use mathlib.Core.Bool.{Bool, true, false, cond}
 use mathlib.Core.List.{List, [], _∷_}
-use Prim.Native.Nat.{ℕ, zero, suc, _+_, _<_}
+use Prim.Native.Nat.{ℕ, zero, suc, _+_, _≤_, _<_}
 use native.Mathlib.Omega.{arith}
-use lib.Dec.{eqb}
+use lib.Dec.{eqb, ltb}
 use lib.ListN.{length, getD}
-use borrow.Author.Tests.{eqb-true, eqb-false, eq-eqb, ne-eqb}
+use mathlib.Core.Logic.{_⊎_, ⊎-elim}
+use borrow.Author.Tests.{eqb-true, eqb-false, eq-eqb, ne-eqb, lt-ltb, le-ltb}
+use Rattle.records.specs.Laws.Numbers.{lt?}
 use Rattle.lists.specs.Lists.{twoOf}
 use Rattle.comparison.specs.Compare.{countBelow, hasAt, sameAt, same, moved, firstOnly, secondOnly, Compares, Tails}
 use Rattle.comparison.specs.declared.Compared.{Compared}
 use Rattle.comparison.specs.Laws.Sums.{both-is, both-turned}
 
-pub compare-unique : (s t before : List ℕ) (a b : Compared) (x y : List ℕ) → Compares s t before a x → Compares s t before b y → (a ≡ b) × (x ≡ y)
+pub compare-unique : (s t before : List ℕ) (a b : Compared) (x y : List ℕ) → Compares s t before a x → Compares s t before b y →
+    (a ≡ b) × (x ≡ y)
 compare-unique s t before a b x y p q = (p .answers ∙ sym (q .answers), p .zero ∙ sym (q .zero))
 
 pub tail-unique : (s t before a b x y : List ℕ) → Tails s t before a x → Tails s t before b y → (a ≡ b) × (x ≡ y)
@@ -28,12 +31,19 @@ front (suc n) p = let e = front n p in omega arith
 alike : (n : ℕ) (p q : ℕ → Bool) → ((i : ℕ) → p i ≡ q i) → countBelow n p ≡ countBelow n q
 unfolding countBelow
 alike zero p q h = refl
-alike (suc n) p q h = let e = alike n p q h in let f = ap (λ (b : Bool). cond b 1 0) (h n) in omega arith
+alike (suc n) p q h =
+    let e = alike n p q h in
+    let f : cond {A = ℕ} (p n) 1 0 ≡ cond {A = ℕ} (q n) 1 0 = ap (λ (b : Bool). cond {A = ℕ} b 1 0) (h n) in
+    omega arith
+
+not-there : (a : List ℕ) (i : ℕ) → sameAt a [] i ≡ false
+unfolding sameAt hasAt
+not-there a i = rw (le-ltb i 0 (omega arith)) refl
 
 none-there : (n : ℕ) (a : List ℕ) → countBelow n (sameAt a []) ≡ 0
-unfolding countBelow sameAt hasAt
+unfolding countBelow
 none-there zero a = refl
-none-there (suc n) a = let e = none-there n a in omega arith
+none-there (suc n) a = rw (not-there a n) (let e = none-there n a in omega arith)
 
 eqb-turned : (x y : ℕ) → eqb x y ≡ eqb y x
 eqb-turned x y = go (eqb x y) refl
@@ -42,9 +52,27 @@ eqb-turned x y = go (eqb x y) refl
     go true e = e ∙ sym (eq-eqb y x (sym (eqb-true x y e)))
     go false e = e ∙ sym (ne-eqb y x (λ h. eqb-false x y e (sym h)))
 
-next : (x y : ℕ) (a b : List ℕ) → same (x ∷ a) (y ∷ b) ≡ cond (eqb x y) 1 0 + same a b
-unfolding sameAt hasAt
-next x y a b = front (length a) (sameAt (x ∷ a) (y ∷ b))
+module _ (x y : ℕ) (a b : List ℕ) where
+  less : (i : ℕ) → ltb (suc i) (suc (length b)) ≡ ltb i (length b)
+  less i =
+      ⊎-elim
+      (λ (h : i < length b). lt-ltb (suc i) (suc (length b)) (omega arith) ∙ sym (lt-ltb i (length b) h))
+      (λ (h : length b ≤ i). le-ltb (suc i) (suc (length b)) (omega arith) ∙ sym (le-ltb i (length b) h))
+      (lt? i (length b))
+
+  later : (i : ℕ) → sameAt (x ∷ a) (y ∷ b) (suc i) ≡ sameAt a b i
+  unfolding sameAt hasAt
+  later i = rw (less i) refl
+
+  here : sameAt (x ∷ a) (y ∷ b) 0 ≡ eqb x y
+  unfolding sameAt hasAt
+  here = rw (lt-ltb 0 (suc (length b)) (omega arith)) refl
+
+  next : same (x ∷ a) (y ∷ b) ≡ cond (eqb x y) 1 0 + same a b
+  next =
+      front (length a) (sameAt (x ∷ a) (y ∷ b)) ∙ ap (λ (t : Bool). cond t 1 0 + countBelow (length a) (λ i. sameAt (x ∷ a) (y ∷ b)
+      (suc i))) here
+      ∙ ap (λ (n : ℕ). cond (eqb x y) 1 0 + n) (alike (length a) (λ i. sameAt (x ∷ a) (y ∷ b) (suc i)) (sameAt a b) later)
 
 same-turned : (a b : List ℕ) → same a b ≡ same b a
 unfolding countBelow

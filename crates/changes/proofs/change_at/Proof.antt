@@ -5,71 +5,47 @@ use Rattle.changes.specs.Laws.Change.{says-same, says-moved, says-first,
 use Rattle.changes.proofs.change_at.Statement.{statement}
 use Rattle.changes.proofs.change_at.Tie as tie
 
-mul-stands-at : tie.Need-mul-stands-at
-mul-stands-at c = search needs
-
-shared-slice-read-stands-at : tie.Need-shared-slice-read-stands-at
-shared-slice-read-stands-at c = search needs
-
-stands-at-requires : tie.Need-stands-at-requires
-stands-at-requires c κs = search needs
-
 returns : tie.Need-returns
 returns c = says-same _ _ _ (c .before .before .before .if1 .taken) (c .before .stands-at .ensures) (c .if2 .taken)
 
-mul-stands : tie.Need-mul-stands
-mul-stands c = search needs
-
-shared-slice-read-stands : tie.Need-shared-slice-read-stands
-shared-slice-read-stands c = search needs
-
-stands-requires : tie.Need-stands-requires
-stands-requires c κs = search needs
-
 returns-2 : tie.Need-returns-2
-returns-2 c = says-moved _ _ _ (c .before .before .before .before .before .before .if1 .taken) (c .before .before .before .before .stands-at .ensures) (c .before .before .before .if2 .left) (c .before .stands .ensures) (c .if3 .taken)
+returns-2 c = says-moved _ _ _ (c .before .before .before .before .before .before .if1 .taken)
+    (c .before .before .before .before .stands-at .ensures) (c .before .before .before .if2 .left) (c .before .stands .ensures)
+    (c .if3 .taken)
 
 returns-3 : tie.Need-returns-3
-returns-3 c = says-first _ _ _ (c .before .before .before .before .before .before .if1 .taken) (c .before .before .before .before .stands-at .ensures) (c .before .before .before .if2 .left) (c .before .stands .ensures) (c .if3 .left)
-
-sub-j : tie.Need-sub-j
-sub-j c = search needs
+returns-3 c = says-first _ _ _ (c .before .before .before .before .before .before .if1 .taken)
+    (c .before .before .before .before .stands-at .ensures) (c .before .before .before .if2 .left) (c .before .stands .ensures)
+    (c .if3 .left)
 
 returns-4 : tie.Need-returns-4
 returns-4 c = says-none _ _ _ (c .before .if1 .left) (c .if4 .taken)
 
-mul-stands-2 : tie.Need-mul-stands-2
-mul-stands-2 c = search needs
-
-shared-slice-read-stands-2 : tie.Need-shared-slice-read-stands-2
-shared-slice-read-stands-2 c = search needs
-
-stands-requires-2 : tie.Need-stands-requires-2
-stands-requires-2 c κs = search needs
-
 returns-5 : tie.Need-returns-5
-returns-5 c = says-both _ _ _ (c .before .before .before .before .if1 .left) (c .before .before .before .if4 .left) (c .before .stands2 .ensures) (c .if5 .taken)
+returns-5 c = says-both _ _ _ (c .before .before .before .before .if1 .left) (c .before .before .before .if4 .left)
+    (c .before .stands2 .ensures) (c .if5 .taken)
 
 returns-6 : tie.Need-returns-6
-returns-6 c = says-second _ _ _ (c .before .before .before .before .if1 .left) (c .before .before .before .if4 .left) (c .before .stands2 .ensures) (c .if5 .left)
+returns-6 c = says-second _ _ _ (c .before .before .before .before .if1 .left) (c .before .before .before .if4 .left)
+    (c .before .stands2 .ensures) (c .if5 .left)
 
 pub change-at-spec : {M : Type 1} → statement M
 change-at-spec =
     tie.close
     (tie.spec
-    mul-stands-at
-    shared-slice-read-stands-at
-    stands-at-requires
+    (λ c. search needs)
+    (λ c. search needs)
+    (λ c κs. search needs)
     returns
-    mul-stands
-    shared-slice-read-stands
-    stands-requires
+    (λ c. search needs)
+    (λ c. search needs)
+    (λ c κs. search needs)
     returns-2
     returns-3
-    sub-j
+    (λ c. search needs)
     returns-4
-    mul-stands-2
-    shared-slice-read-stands-2
-    stands-requires-2
+    (λ c. search needs)
+    (λ c. search needs)
+    (λ c κs. search needs)
     returns-5
     returns-6)

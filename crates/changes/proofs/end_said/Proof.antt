@@ -9,17 +9,11 @@ use Rattle.changes.proofs.end_said.Tie as tie
 shared-slice-read-wide : tie.Need-shared-slice-read-wide
 shared-slice-read-wide c = omega (arith, c .before .before .pre)
 
-wide-requires : tie.Need-wide-requires
-wide-requires c κs = search needs
-
 mul-n : tie.Need-mul-n
 mul-n c = omega (arith, c .wide .ensures .1)
 
 shared-slice-read-wide-2 : tie.Need-shared-slice-read-wide-2
 shared-slice-read-wide-2 c = omega (arith, c .before .before .before .before .pre)
-
-wide-requires-2 : tie.Need-wide-requires-2
-wide-requires-2 c κs = search needs
 
 mul-n-2 : tie.Need-mul-n-2
 mul-n-2 c = omega (arith, c .wide2 .ensures .1)
@@ -30,9 +24,6 @@ add-n c = omega (arith, c .wide2 .ensures .1, c .before .before .wide .ensures .
 shared-slice-read-wide-3 : tie.Need-shared-slice-read-wide-3
 shared-slice-read-wide-3 c = omega (arith, c .before .before .before .before .before .before .pre)
 
-wide-requires-3 : tie.Need-wide-requires-3
-wide-requires-3 c κs = search needs
-
 add-n-2 : tie.Need-add-n-2
 add-n-2 c = omega (arith, c .wide3 .ensures .1, c .before .before .wide2 .ensures .1, c .before .before .before .before .wide .ensures .1)
 
@@ -40,36 +31,72 @@ shared-slice-read-if1 : tie.Need-shared-slice-read-if1
 shared-slice-read-if1 c = omega (arith, c .before .before .before .before .before .before .before .before .pre)
 
 mul-result : tie.Need-mul-result
-mul-result c = omega (arith, c .before .before .wide3 .ensures .1, c .before .before .before .before .wide2 .ensures .1, c .before .before .before .before .before .before .wide .ensures .1)
+mul-result c = omega (
+  arith,
+  c .before .before .wide3 .ensures .1,
+  c .before .before .before .before .wide2 .ensures .1,
+  c
+      .before .before .before .before .before .before .wide .ensures .1,
+)
 
 add-result : tie.Need-add-result
-add-result c = omega (arith, c .before .before .wide3 .ensures .1, c .before .before .before .before .wide2 .ensures .1, c .before .before .before .before .before .before .wide .ensures .1)
+add-result c = omega (
+  arith,
+  c .before .before .wide3 .ensures .1,
+  c .before .before .before .before .wide2 .ensures .1,
+  c
+      .before .before .before .before .before .before .wide .ensures .1,
+)
 
 returns : tie.Need-returns
-returns c = end-five _ _ _ (c .before .before .before .before .before .before .before .before .before .pre) (omega (arith, c .before .before .wide3 .ensures .0, c .before .before .before .before .wide2 .ensures .0, c .before .before .before .before .before .before .wide .ensures .0)) refl (c .if1 .taken)
+returns c = end-five _ _ _ (c .before .before .before .before .before .before .before .before .before .pre) (omega (
+  arith,
+  c .before .before .wide3 .ensures .0,
+  c .before .before .before .before .wide2 .ensures .0,
+  c .before .before
+      .before .before .before .before .wide .ensures .0,
+)) refl (c .if1 .taken)
 
 mul-result-2 : tie.Need-mul-result-2
-mul-result-2 c = omega (arith, c .before .before .wide3 .ensures .1, c .before .before .before .before .wide2 .ensures .1, c .before .before .before .before .before .before .wide .ensures .1)
+mul-result-2 c = omega (
+  arith,
+  c .before .before .wide3 .ensures .1,
+  c .before .before .before .before .wide2 .ensures .1,
+  c
+      .before .before .before .before .before .before .wide .ensures .1,
+)
 
 add-result-2 : tie.Need-add-result-2
-add-result-2 c = omega (arith, c .before .before .wide3 .ensures .1, c .before .before .before .before .wide2 .ensures .1, c .before .before .before .before .before .before .wide .ensures .1)
+add-result-2 c = omega (
+  arith,
+  c .before .before .wide3 .ensures .1,
+  c .before .before .before .before .wide2 .ensures .1,
+  c
+      .before .before .before .before .before .before .wide .ensures .1,
+)
 
 returns-2 : tie.Need-returns-2
-returns-2 c = end-seven _ _ _ (c .before .before .before .before .before .before .before .before .before .pre) (omega (arith, c .before .before .wide3 .ensures .0, c .before .before .before .before .wide2 .ensures .0, c .before .before .before .before .before .before .wide .ensures .0)) refl (c .if1 .left)
+returns-2 c = end-seven _ _ _ (c .before .before .before .before .before .before .before .before .before .pre) (omega (
+  arith,
+  c .before .before .wide3 .ensures .0,
+  c .before .before .before .before .wide2 .ensures .0,
+  c .before .before
+      .before .before .before .before .wide .ensures .0,
+)) refl (c .if1 .left)
 
 pub end-said-spec : {M : Type 1} → statement M
 end-said-spec =
     tie.close
     (tie.spec
     shared-slice-read-wide
-    wide-requires
+    (λ c κs. search needs)
     mul-n
     shared-slice-read-wide-2
-    wide-requires-2
+    (λ c κs. search needs)
     mul-n-2
     add-n
     shared-slice-read-wide-3
-    wide-requires-3
+    (λ c κs. search needs)
     add-n-2
     shared-slice-read-if1
     mul-result

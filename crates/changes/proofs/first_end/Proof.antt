@@ -8,9 +8,6 @@ use Rattle.changes.proofs.first_end.Tie as tie
 returns : tie.Need-returns
 returns c = (end-short _ (c .if1 .taken), omega arith)
 
-end-said-requires : tie.Need-end-said-requires
-end-said-requires c κs = omega arith
-
 returns-2 : tie.Need-returns-2
 returns-2 c = (end-past _ _ (omega arith) (c .before .end-said .ensures) (c .if2 .taken), omega arith)
 
@@ -22,6 +19,6 @@ first-end-spec =
     tie.close
     (tie.spec
     returns
-    end-said-requires
+    (λ c κs. omega arith)
     returns-2
     returns-3)

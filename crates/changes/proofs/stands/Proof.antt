@@ -5,9 +5,6 @@ use Rattle.changes.specs.Laws.Change.{found-has}
 use Rattle.changes.proofs.stands.Statement.{statement}
 use Rattle.changes.proofs.stands.Tie as tie
 
-find-requires : tie.Need-find-requires
-find-requires c κs = search needs
-
 returns : tie.Need-returns
 returns c = found-has _ _ _ (c .before .find .ensures)
 
@@ -15,5 +12,5 @@ pub stands-spec : {M : Type 1} → statement M
 stands-spec =
     tie.close
     (tie.spec
-    find-requires
+    (λ c κs. search needs)
     returns)

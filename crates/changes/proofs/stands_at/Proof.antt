@@ -5,12 +5,6 @@ use Rattle.changes.specs.Laws.Change.{at-inside, at-outside}
 use Rattle.changes.proofs.stands_at.Statement.{statement}
 use Rattle.changes.proofs.stands_at.Tie as tie
 
-mul-result : tie.Need-mul-result
-mul-result c = search needs
-
-shared-slice-read-result : tie.Need-shared-slice-read-result
-shared-slice-read-result c = search needs
-
 returns : tie.Need-returns
 returns c = at-inside _ _ _ (c .before .if1 .taken)
 
@@ -21,7 +15,7 @@ pub stands-at-spec : {M : Type 1} → statement M
 stands-at-spec =
     tie.close
     (tie.spec
-    mul-result
-    shared-slice-read-result
+    (λ c. search needs)
+    (λ c. search needs)
     returns
     returns-2)

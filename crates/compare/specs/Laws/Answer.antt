@@ -35,7 +35,8 @@ unfolding compareRefusal sheetRefusal
 accepted s t room e z =
     let two = twoOf eqb (recordsOf s) in
     let too = twoOf eqb (recordsOf t) in
-    let g = none (wellFormed s) (wellFilled s) (wellFormed t) (wellFilled t) (ltb room (countOf s + countOf t)) (two || too) (sym e ∙ z) in
+    let g = none (wellFormed s) (wellFilled s) (wellFormed t) (wellFilled t) (ltb room (countOf s + countOf t)) (two || too) (sym e
+    ∙ z) in
     record {
       one = g .0;
       two = g .1 .0;
@@ -57,7 +58,8 @@ small-both [] b c ha hb k = hb k
 small-both (x ∷ a) b c ha hb zero = ha 0
 small-both (x ∷ a) b c ha hb (suc k) = small-both a b c (λ j. ha (suc j)) hb k
 
-module _ (s t w : List ℕ) (room n m : ℕ) (ok : Accepted s t room) (ns : n ≡ countOf s) (ms : m ≡ countOf t) (laid : take (n + countOf t) w ≡ recordsOf s ++ recordsOf t) where
+module _ (s t w : List ℕ) (room n m : ℕ) (ok : Accepted s t room) (ns : n ≡ countOf s) (ms : m ≡ countOf t) (laid : take
+    (n + countOf t) w ≡ recordsOf s ++ recordsOf t) where
   whole : take (n + m) w ≡ recordsOf s ++ recordsOf t
   whole = ap (λ (k : ℕ). take (n + k) w) ms ∙ laid
 
@@ -73,7 +75,8 @@ module _ (s t w : List ℕ) (room n m : ℕ) (ok : Accepted s t room) (ns : n �
   pub laid-made : Laid n (take (n + m) w)
   laid-made =
       let l = long in
-      let sum : length (take (n + m) w) ≡ length (recordsOf s) + length (recordsOf t) = ap length whole ∙ length-append (recordsOf s) (recordsOf t) in
+      let sum : length (take (n + m) w) ≡ length (recordsOf s) + length (recordsOf t) = ap length whole ∙ length-append (recordsOf s)
+      (recordsOf t) in
       record {
         inside = omega arith;
         small = λ k. subst (λ (v : List ℕ). getD v k 0 < 18014398509481984) (sym whole)
@@ -82,10 +85,12 @@ module _ (s t w : List ℕ) (room n m : ℕ) (ok : Accepted s t room) (ns : n �
         second-once = ap (twoOf eqb) rear ∙ ok .second-once;
       }
 
-  counted-both : {r : Compared} → r ≡ compared 0 (take n (take (n + m) w)) (drop n (take (n + m) w)) → r ≡ compared 0 (recordsOf s) (recordsOf t)
+  counted-both : {r : Compared} → r ≡ compared 0 (take n (take (n + m) w)) (drop n (take (n + m) w)) → r ≡ compared 0 (recordsOf s)
+      (recordsOf t)
   counted-both e = e ∙ ap (λ (v : List ℕ). compared 0 v (drop n (take (n + m) w))) front ∙ ap (compared 0 (recordsOf s)) rear
 
-pub counted-is : (s t w : List ℕ) (room n m : ℕ) {number : ℕ} {r : Compared} → number ≡ compareRefusal s t room → number ≡ 0 → n ≡ countOf s → m ≡ countOf t
+pub counted-is : (s t w : List ℕ) (room n m : ℕ) {number : ℕ} {r : Compared} → number ≡ compareRefusal s t room → number ≡ 0
+    → n ≡ countOf s → m ≡ countOf t
     → take (n + countOf t) w ≡ recordsOf s ++ recordsOf t → r ≡ compared 0 (take n (take (n + m) w)) (drop n (take (n + m) w))
     → r ≡ compared (compareRefusal s t room) (recordsOf s) (recordsOf t)
 counted-is s t w room n m {number} {r} e z ns ms laid is =
@@ -93,24 +98,30 @@ counted-is s t w room n m {number} {r} e z ns ms laid is =
 
 -- ---- The part.
 
-pub tail-refused : (s t : List ℕ) (room : ℕ) {n : ℕ} → n ≡ compareRefusal s t room → (n ≡ 0 → ⊥) → [] ≡ unless (compareRefusal s t room) (partOf s t) []
+pub tail-refused : (s t : List ℕ) (room : ℕ) {n : ℕ} → n ≡ compareRefusal s t room → (n ≡ 0 → ⊥) → [] ≡ unless
+    (compareRefusal s t room) (partOf s t) []
 tail-refused s t room {n} e h = rw (ne-eqb (compareRefusal s t room) 0 (λ z. h (e ∙ z))) refl
 
-module _ (s t : List ℕ) (room : ℕ) {number n m : ℕ} (start : ℕ) (e : number ≡ compareRefusal s t room) (z : number ≡ 0) (ns : n ≡ countOf s) (ms : m ≡ countOf t) where
+module _ (s t : List ℕ) (room : ℕ) {number n m : ℕ} (start : ℕ) (e : number ≡ compareRefusal s t room) (z : number ≡ 0)
+    (ns : n ≡ countOf s) (ms : m ≡ countOf t) where
   kept : partOf s t ≡ unless (compareRefusal s t room) (partOf s t) []
   kept = ap (λ (k : ℕ). unless k (partOf s t) []) (sym z ∙ e)
 
   rest : (l : List ℕ) (a b : ℕ) → a ≡ b → take (length l - a) (drop a l) ≡ drop b l
   rest l a b q = take-all (length l - a) (drop a l) (omega (arith, length-drop a l)) ∙ ap (λ (k : ℕ). drop k l) q
 
-  pub tail-second : n < m → start ≡ 4 + (widthOf t) .bytes * n → take (length t - start) (drop start t) ≡ unless (compareRefusal s t room) (partOf s t) []
+  pub tail-second : n < m → start ≡ 4 + (widthOf t) .bytes * n → take (length t - start) (drop start t) ≡ unless
+      (compareRefusal s t room) (partOf s t) []
   unfolding partOf behind
   tail-second h q =
       rest t start (4 + (widthOf t) .bytes * countOf s) (q ∙ ap (λ (k : ℕ). 4 + (widthOf t) .bytes * k) ns)
-      ∙ sym (ap (λ (b : Bool). cond b (behind (countOf s) t) (behind (countOf t) s)) (lt-ltb (countOf s) (countOf t) (omega arith))) ∙ kept
+      ∙ sym (ap (λ (b : Bool). cond b (behind (countOf s) t) (behind (countOf t) s)) (lt-ltb (countOf s) (countOf t) (omega arith)))
+      ∙ kept
 
-  pub tail-first : m ≤ n → start ≡ 4 + (widthOf s) .bytes * m → take (length s - start) (drop start s) ≡ unless (compareRefusal s t room) (partOf s t) []
+  pub tail-first : m ≤ n → start ≡ 4 + (widthOf s) .bytes * m → take (length s - start) (drop start s) ≡ unless
+      (compareRefusal s t room) (partOf s t) []
   unfolding partOf behind
   tail-first h q =
       rest s start (4 + (widthOf s) .bytes * countOf t) (q ∙ ap (λ (k : ℕ). 4 + (widthOf s) .bytes * k) ms)
-      ∙ sym (ap (λ (b : Bool). cond b (behind (countOf s) t) (behind (countOf t) s)) (le-ltb (countOf s) (countOf t) (omega arith))) ∙ kept
+      ∙ sym (ap (λ (b : Bool). cond b (behind (countOf s) t) (behind (countOf t) s)) (le-ltb (countOf s) (countOf t) (omega arith)))
+      ∙ kept

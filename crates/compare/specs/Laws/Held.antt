@@ -45,10 +45,12 @@ held-small s k = go (wordsIn ((widthOf s) .bytes) s) k
     go (x ∷ l) (suc k) = go l k
 
 -- what unpacking a sheet that is not refused does, where there is room
-module _ {s before : List ℕ} {o : Outcome} {after : List ℕ} (u : Unpacks s before o after) (ok : sheetRefusal s ≡ 0) (room : countOf s ≤ length before) where
+module _ {s before : List ℕ} {o : Outcome} {after : List ℕ} (u : Unpacks s before o after) (ok : sheetRefusal s ≡ 0)
+    (room : countOf s ≤ length before) where
   none : unpackRefusal (widthOf s) s (length before) ≡ 0
   unfolding unpackRefusal
-  none = let f = fine s ok in gives-first (passes (ap not (f .0)) (passes (ap not (f .1)) (passes (le-ltb (length before) (countOf s) room) ends)))
+  none = let f = fine s ok in gives-first (passes (ap not (f .0)) (passes (ap not (f .1)) (passes (le-ltb (length before)
+      (countOf s) room) ends)))
 
   pub unpacked-value : o .value ≡ countOf s
   unpacked-value = ap (λ (a : Outcome). a .value) (u .answers ∙ ap (λ (n : ℕ). outcome n (countOf s)) none)
@@ -72,7 +74,8 @@ twice-told {s} {before} {o} {after} {last} {r} u ok room checked =
     ap (λ (x : ℕ). eqb x 14) (checked .answers) ∙ repeat-told n (length after) (take n after) (omega arith) ∙ ap (twoOf eqb) front
 
 -- both sheets' records, one behind the other
-pub laid-both : {s t before rest after : List ℕ} {o p : Outcome} (n : ℕ) → n ≡ countOf s → Accepted s t (length before) → Unpacks s before o rest
+pub laid-both : {s t before rest after : List ℕ} {o p : Outcome} (n : ℕ) → n ≡ countOf s → Accepted s t (length before)
+    → Unpacks s before o rest
     → Unpacks t (take (length rest - n) (drop n rest)) p after
     → take (n + countOf t) (putMid n (length rest - n) rest after) ≡ recordsOf s ++ recordsOf t
 laid-both {s} {t} {before} {rest} {after} {o} {p} n count ok u v =

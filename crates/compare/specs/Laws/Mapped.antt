@@ -36,9 +36,11 @@ unfolding mappedTo
 mapped-none f l = refl
 
 -- one number of the walk, and its end
-pub mapped-step : (f : ℕ → ℕ) (i : ℕ) (l now : List ℕ) → i < length l → now ≡ mappedTo f i l → set now i (f (getD now i 0)) ≡ mappedTo f (i + 1) l
+pub mapped-step : (f : ℕ → ℕ) (i : ℕ) (l now : List ℕ) → i < length l → now ≡ mappedTo f i l → set now i (f
+    (getD now i 0)) ≡ mappedTo f (i + 1) l
 mapped-step f i l now h e =
-    ap (λ (m : List ℕ). set m i (f (getD m i 0))) e ∙ ap (λ (x : ℕ). set (mappedTo f i l) i (f x)) (mapped-ahead f i l) ∙ mapped-next f i l h
+    ap (λ (m : List ℕ). set m i (f (getD m i 0))) e ∙ ap (λ (x : ℕ). set (mappedTo f i l) i (f x)) (mapped-ahead f i l)
+    ∙ mapped-next f i l h
     ∙ ap (λ (n : ℕ). mappedTo f n l) (sym (add-one i))
 
 pub mapped-end : (f : ℕ → ℕ) (i : ℕ) (l now : List ℕ) → length l ≤ i → i ≤ length l → now ≡ mappedTo f i l → now ≡ map f l

@@ -17,7 +17,8 @@ use lib.ListN.{length}
 use Rattle.comparison.specs.Compare.{recordsOf, wellFormed, wellFilled, compareRefusal}
 use Rattle.compare.specs.Laid.{sheetRefusal}
 
-kept : (a b : Bool) (l : List Refusal) → (first (15 when a ∷ 16 when b ∷ []) ≡ 0 → ⊥) → first (15 when a ∷ 16 when b ∷ []) ≡ first (15 when a ∷ 16 when b ∷ l)
+kept : (a b : Bool) (l : List Refusal) → (first (15 when a ∷ 16 when b ∷ []) ≡ 0 → ⊥) → first (15 when a ∷ 16 when b ∷ []) ≡ first
+    (15 when a ∷ 16 when b ∷ l)
 unfolding first
 kept true b l h = refl
 kept false true l h = refl
@@ -82,7 +83,8 @@ module _ (s t : List ℕ) (room : ℕ) {a : ℕ} (one : a ≡ sheetRefusal s) wh
       rest : compareRefusal s t room
           ≡ first (13 when ltb room (countOf s + countOf t) ∷ 14 when (twoOf eqb (recordsOf s) || twoOf eqb (recordsOf t)) ∷ [])
       unfolding sheetRefusal compareRefusal
-      rest = past (not (wellFormed s)) (not (wellFilled s)) _ (sym one ∙ none) ∙ past (not (wellFormed t)) (not (wellFilled t)) _ (sym two ∙ neither)
+      rest = past (not (wellFormed s)) (not (wellFilled s)) _ (sym one ∙ none) ∙ past (not (wellFormed t)) (not (wellFilled t)) _
+          (sym two ∙ neither)
 
       module _ {n m : ℕ} (counts : n ≡ countOf s) (countt : m ≡ countOf t) where
         pub no-room : room < n + m → 13 ≡ compareRefusal s t room

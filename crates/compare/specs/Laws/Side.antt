@@ -113,7 +113,8 @@ module _ {w : List ℕ} {n : ℕ} (laid : Laid n w) where
     pub both-fits : m ≤ length w - n
     both-fits = let e = only-is b a in let l = long-b in let t = both-turned a b (laid .first-once) (laid .second-once) in omega arith
 
-    pub compared-is : {l : ℕ} → l ≡ length w → record { number = 0; same = k; moved = m - k; first = n - m; second = l - n - m } ≡ compared 0 a b
+    pub compared-is : {l : ℕ} → l ≡ length w → record { number = 0; same = k; moved = m - k; first = n - m; second = l - n - m }
+        ≡ compared 0 a b
     unfolding compared
     compared-is {l} ls =
         let e = both-is a b in

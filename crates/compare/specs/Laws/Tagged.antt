@@ -25,7 +25,8 @@ none-odd x [] = refl
 none-odd x (y ∷ a) = rw (ne-eqb (tagged 0 y) (tagged 0 x + 1) (λ h. omega arith)) (let e = none-odd x a in omega arith)
 
 -- found among the odd, as often as in the list
-found : (x : ℕ) → x < 18014398509481984 → (b : List ℕ) → Small b → leb 1 (count (λ y. eqb y (tagged 0 x + 1)) (map (tagged 1) b)) ≡ any (eqb x) b
+found : (x : ℕ) → x < 18014398509481984 → (b : List ℕ) → Small b → leb 1 (count (λ y. eqb y (tagged 0 x + 1)) (map
+    (tagged 1) b)) ≡ any (eqb x) b
 unfolding count any
 found x h [] s = refl
 found x h (y ∷ b) s = go (eqb x y) refl (found x h b (λ k. s (suc k)))
@@ -33,7 +34,8 @@ found x h (y ∷ b) s = go (eqb x y) refl (found x h b (λ k. s (suc k)))
     n : ℕ
     n = count (λ z. eqb z (tagged 0 x + 1)) (map (tagged 1) b)
 
-    go : (t : Bool) → eqb x y ≡ t → leb 1 n ≡ any (eqb x) b → leb 1 (cond (eqb (tagged 1 y) (tagged 0 x + 1)) 1 0 + n) ≡ (eqb x y || any (eqb x) b)
+    go : (t : Bool) → eqb x y ≡ t → leb 1 n ≡ any (eqb x) b → leb 1 (cond (eqb (tagged 1 y) (tagged 0 x + 1)) 1 0 + n) ≡
+        (eqb x y || any (eqb x) b)
     go true e r =
         let xy : x ≡ y = eqb-true x y e in
         let same : x % 18014398509481984 ≡ y % 18014398509481984 = ap (λ (n : ℕ). n % 18014398509481984) xy in

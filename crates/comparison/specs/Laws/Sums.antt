@@ -27,11 +27,13 @@ below-most (suc n) p = go (p n) (below-most n p)
 -- one more number
 pub below-yes : (i : ℕ) (p : ℕ → Bool) (n : ℕ) → n ≡ countBelow i p → p i ≡ true → n + 1 ≡ countBelow (i + 1) p
 unfolding countBelow
-below-yes i p n e h = let s : countBelow (suc i) p ≡ 1 + countBelow i p = rw h refl in let z : countBelow (i + 1) p ≡ countBelow (suc i) p = ap (λ (k : ℕ). countBelow k p) (add-one i) in omega arith
+below-yes i p n e h = let s : countBelow (suc i) p ≡ 1 + countBelow i p = rw h refl in let z : countBelow (i + 1) p ≡ countBelow
+    (suc i) p = ap (λ (k : ℕ). countBelow k p) (add-one i) in omega arith
 
 pub below-no : (i : ℕ) (p : ℕ → Bool) (n : ℕ) → n ≡ countBelow i p → p i ≡ false → n ≡ countBelow (i + 1) p
 unfolding countBelow
-below-no i p n e h = let s : countBelow (suc i) p ≡ 0 + countBelow i p = rw h refl in let z : countBelow (i + 1) p ≡ countBelow (suc i) p = ap (λ (k : ℕ). countBelow k p) (add-one i) in omega arith
+below-no i p n e h = let s : countBelow (suc i) p ≡ 0 + countBelow i p = rw h refl in let z : countBelow (i + 1) p ≡ countBelow
+    (suc i) p = ap (λ (k : ℕ). countBelow k p) (add-one i) in omega arith
 
 -- two tests that share out a third
 shared : (n : ℕ) (p q r : ℕ → Bool) → ((i : ℕ) → cond (p i) 1 0 + cond (q i) 1 0 ≡ cond (r i) 1 0)
@@ -61,7 +63,8 @@ indexed p (x ∷ a) = front (length a) (λ i. p (getD (x ∷ a) i 0)) ∙ ap (λ
 
 pub has-at : (b : List ℕ) (i x : ℕ) → hasAt b i x ≡ true → has b x ≡ true
 unfolding hasAt has any
-has-at b i x h = go b i (ltb-true i (length b) (and-left (ltb i (length b)) (eqb x (getD b i 0)) h)) (and-right (ltb i (length b)) (eqb x (getD b i 0)) h)
+has-at b i x h = go b i (ltb-true i (length b) (and-left (ltb i (length b)) (eqb x (getD b i 0)) h)) (and-right (ltb i (length b))
+    (eqb x (getD b i 0)) h)
   where
     go : (b : List ℕ) (i : ℕ) → i < length b → eqb x (getD b i 0) ≡ true → any (eqb x) b ≡ true
     go [] i h e = absurd (omega arith)
@@ -81,7 +84,8 @@ module _ (a b : List ℕ) where
   unfolding movedAt
   both-is = shared (length a) (sameAt a b) (movedAt a b) inBoth (λ i. go i (sameAt a b i) refl (inBoth i) refl) ∙ indexed (has b) a
     where
-      go : (i : ℕ) (t : Bool) → sameAt a b i ≡ t → (u : Bool) → inBoth i ≡ u → cond (sameAt a b i) 1 0 + cond (movedAt a b i) 1 0 ≡ cond (inBoth i) 1 0
+      go : (i : ℕ) (t : Bool) → sameAt a b i ≡ t → (u : Bool) → inBoth i ≡ u → cond (sameAt a b i) 1 0 + cond
+          (movedAt a b i) 1 0 ≡ cond (inBoth i) 1 0
       go i true e true f = rw (e, f) refl
       go i true e false f = both-ways (sameHas i e) f
       go i false e true f = rw (e, f) refl
@@ -89,7 +93,8 @@ module _ (a b : List ℕ) where
 
   pub only-is : count (has b) a + firstOnly a b ≡ length a
   unfolding onlyAt
-  only-is = ap (λ (n : ℕ). n + firstOnly a b) (sym (indexed (has b) a)) ∙ shared (length a) inBoth (onlyAt a b) (λ i. true) (λ i. go (inBoth i)) ∙ every (length a)
+  only-is = ap (λ (n : ℕ). n + firstOnly a b) (sym (indexed (has b) a)) ∙ shared (length a) inBoth (onlyAt a b) (λ i. true) (λ i. go
+      (inBoth i)) ∙ every (length a)
     where
       go : (t : Bool) → cond t 1 0 + cond (not t) 1 0 ≡ 1
       go true = refl
@@ -112,7 +117,8 @@ unfolding twoOf has count any
 once x [] h = refl
 once x (y ∷ b) h = go (eqb x y) refl (once x b (or-right (any (eqb y) b) (twoOf eqb b) h))
   where
-    go : (t : Bool) → eqb x y ≡ t → count (eqb x) b ≡ cond (any (eqb x) b) 1 0 → cond (eqb x y) 1 0 + count (eqb x) b ≡ cond (eqb x y || any (eqb x) b) 1 0
+    go : (t : Bool) → eqb x y ≡ t → count (eqb x) b ≡ cond (any (eqb x) b) 1 0 → cond (eqb x y) 1 0 + count (eqb x) b ≡ cond
+        (eqb x y || any (eqb x) b) 1 0
     go true e r =
         let same : x ≡ y = eqb-true x y e in
         let z : count (eqb x) b ≡ 0 = none (eqb x) b (ap (λ (n : ℕ). any (eqb n) b) same ∙ or-left (any (eqb y) b) (twoOf eqb b) h) in
@@ -133,7 +139,8 @@ more x a [] h = refl
 more x a (y ∷ b) h = go (eqb x y) refl (any (eqb y) a) refl (more x a b h)
   where
     go : (t : Bool) → eqb x y ≡ t → (u : Bool) → any (eqb y) a ≡ u → count (has (x ∷ a)) b ≡ count (eqb x) b + count (has a) b
-        → cond (eqb y x || any (eqb y) a) 1 0 + count (has (x ∷ a)) b ≡ cond (eqb x y) 1 0 + count (eqb x) b + (cond (any (eqb y) a) 1 0 + count (has a) b)
+        → cond (eqb y x || any (eqb y) a) 1 0 + count (has (x ∷ a)) b ≡ cond (eqb x y) 1 0 + count (eqb x) b + (cond (any
+        (eqb y) a) 1 0 + count (has a) b)
     go true e true f r = both-ways f (ap (λ (n : ℕ). any (eqb n) a) (sym (eqb-true x y e)) ∙ h)
     go true e false f r = rw (sym (eqb-turned x y), e, f) (omega arith)
     go false e true f r = rw (sym (eqb-turned x y), e, f) (omega arith)

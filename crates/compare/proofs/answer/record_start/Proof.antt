@@ -9,9 +9,13 @@ record-start-spec =
     tie.close
     (tie.spec
     (λ c. let l = formed-long (c .before .args .sheet .now) (c .before .pre .0) in omega (arith, l))
-    (λ c. let m = formed-most (c .before .before .args .sheet .now) (c .before .before .pre .0) in let h = c .before .before .pre .1 in omega (arith, m, h))
-    (λ c. let m = formed-most (c .before .before .args .sheet .now) (c .before .before .pre .0) in let h = c .before .before .pre .1 in omega (arith, m, h))
-    (λ c. let m = formed-most (c .before .before .args .sheet .now) (c .before .before .pre .0) in let h = c .before .before .pre .1 in omega (arith, m, h))
-    (λ c. let m = formed-most (c .before .before .args .sheet .now) (c .before .before .pre .0) in let h = c .before .before .pre .1 in omega (arith, m, h))
+    (λ c. let m = formed-most (c .before .before .args .sheet .now)
+    (c .before .before .pre .0) in let h = c .before .before .pre .1 in omega (arith, m, h))
+    (λ c. let m = formed-most (c .before .before .args .sheet .now)
+    (c .before .before .pre .0) in let h = c .before .before .pre .1 in omega (arith, m, h))
+    (λ c. let m = formed-most (c .before .before .args .sheet .now)
+    (c .before .before .pre .0) in let h = c .before .before .pre .1 in omega (arith, m, h))
+    (λ c. let m = formed-most (c .before .before .args .sheet .now)
+    (c .before .before .pre .0) in let h = c .before .before .pre .1 in omega (arith, m, h))
     (λ c. start-five _ (c .before .before .pre .0) _ (c .before .before .pre .1) (c .if1 .taken))
     (λ c. start-seven _ (c .before .before .pre .0) _ (c .before .before .pre .1) (c .if1 .left)))

@@ -8,96 +8,102 @@ use Rattle.compare.specs.Laws.Rows.{fine}
 use Rattle.compare.specs.Laws.Answer.{accepted, tail-refused, tail-first, tail-second}
 use Rattle.compare.proofs.answer.tail.Statement.{statement}
 use Rattle.compare.proofs.answer.tail.Tie as tie
-use Rattle.compare.proofs.answer.tail.Reads as reads
-use Rattle.compare.proofs.answer.tail.Lts as lts
-use Rattle.compare.proofs.answer.record_start.Reads as record-start-reads
-use Rattle.compare.proofs.refusal.count_in.Reads as count-in-reads
-use Rattle.compare.proofs.refusal.refusal.Reads as refusal-reads
-use Rattle.repeats.proofs.clear.Reads as clear-reads
 
--- src/answer.rt:50:9
 refusal-requires : tie.Need-refusal-requires
 refusal-requires c κs = search needs
 
--- src/answer.rt:51:5
 clear-requires : tie.Need-clear-requires
 clear-requires c κs = search needs
 
--- src/answer.rt:53:16
 sub-result : tie.Need-sub-result
 sub-result c = search needs
 
--- src/answer.rt:53:16
 part-result-start : tie.Need-part-result-start
 part-result-start c = search needs
 
--- src/answer.rt:53:16
 part-result-end : tie.Need-part-result-end
 part-result-end c = search needs
 
--- src/answer.rt:53:9
 same-length : tie.Need-same-length
 same-length c = search needs
 
--- src/answer.rt:53:9
 returns : tie.Need-returns
-returns c = record { answers = tail-refused _ _ _ (c .before .before .before .before .before .before .before .before .refusal .ensures) (c .before .if1 .taken); zero = c .before .before .before .before .clear .ensures ∙ ap (λ (n : ℕ). replicate n 0) (sym (c .before .before .before .before .clear .kept .0) ∙ same-length c) }
+returns c = record {
+  answers = tail-refused _ _ _ (c .before .before .before .before .before .before .before
+      .before .refusal .ensures) (c .before .if1 .taken);
+  zero = c .before .before .before .before .clear .ensures ∙ ap (λ
+      (n : ℕ). replicate n 0) (sym (c .before .before .before .before .clear .kept .0) ∙ same-length c);
+}
 
--- src/answer.rt:55:9
 count-in-requires : tie.Need-count-in-requires
-count-in-requires c κs = fine _ ((accepted _ _ _ (c .before .before .before .before .before .before .before .refusal .ensures) (c .if1 .left)) .one) .0
+count-in-requires c κs = fine _ ((accepted _ _ _ (c .before .before .before .before .before .before .before .refusal .ensures)
+    (c .if1 .left)) .one) .0
 
--- src/answer.rt:56:9
 count-in-requires-2 : tie.Need-count-in-requires-2
-count-in-requires-2 c κs = fine _ ((accepted _ _ _ (c .before .before .before .before .before .before .before .before .refusal .ensures) (c .before .if1 .left)) .two) .0
+count-in-requires-2 c κs = fine _ ((accepted _ _ _ (c .before .before .before .before .before .before .before
+    .before .refusal .ensures) (c .before .if1 .left)) .two) .0
 
--- src/answer.rt:58:24
 record-start-requires : tie.Need-record-start-requires
-record-start-requires c κs = (fine _ ((accepted _ _ _ (c .before .before .before .before .before .before .before .before .before .before .refusal .ensures) (c .before .before .before .if1 .left)) .two) .0, omega (arith, c .before .before .count-in .ensures, c .before .count-in2 .ensures))
+record-start-requires c κs = (
+  fine _ ((accepted _ _ _ (c .before .before .before .before .before .before .before .before .before
+      .before .refusal .ensures) (c .before .before .before .if1 .left)) .two) .0,
+  omega
+      (arith, c .before .before .count-in .ensures, c .before .count-in2 .ensures),
+)
 
--- src/answer.rt:58:16
 sub-result-2 : tie.Need-sub-result-2
 sub-result-2 c = search needs
 
--- src/answer.rt:58:16
 part-result-start-2 : tie.Need-part-result-start-2
 part-result-start-2 c = search needs
 
--- src/answer.rt:58:16
 part-result-end-2 : tie.Need-part-result-end-2
 part-result-end-2 c = search needs
 
--- src/answer.rt:58:9
 same-length-2 : tie.Need-same-length-2
 same-length-2 c = search needs
 
--- src/answer.rt:58:9
 returns-2 : tie.Need-returns-2
-returns-2 c = record { answers = tail-second _ _ _ _ (c .before .before .before .before .before .before .before .before .before .before .before .before .refusal .ensures) (c .before .before .before .before .before .if1 .left) (c .before .before .before .before .count-in .ensures) (c .before .before .before .count-in2 .ensures) (c .before .before .if2 .taken) (c .before .record-start .ensures .0); zero = c .before .before .before .before .before .before .before .before .clear .ensures ∙ ap (λ (n : ℕ). replicate n 0) (sym (c .before .before .before .before .before .before .before .before .clear .kept .0) ∙ same-length-2 c) }
+returns-2 c = record {
+  answers = tail-second _ _ _ _ (c .before .before .before .before .before .before .before .before .before
+      .before .before .before .refusal .ensures) (c .before .before .before .before .before .if1 .left)
+      (c .before .before .before .before .count-in .ensures) (c .before .before .before .count-in2 .ensures)
+      (c .before .before .if2 .taken) (c .before .record-start .ensures .0);
+  zero = c .before .before .before .before .before
+      .before .before .before .clear .ensures ∙ ap (λ (n : ℕ). replicate n 0) (sym
+      (c .before .before .before .before .before .before .before .before .clear .kept .0) ∙ same-length-2 c);
+}
 
--- src/answer.rt:60:12
 record-start-requires-2 : tie.Need-record-start-requires-2
-record-start-requires-2 c κs = (fine _ ((accepted _ _ _ (c .before .before .before .before .before .before .before .before .before .before .refusal .ensures) (c .before .before .before .if1 .left)) .one) .0, omega (arith, c .before .before .count-in .ensures, c .before .count-in2 .ensures))
+record-start-requires-2 c κs = (
+  fine _ ((accepted _ _ _ (c .before .before .before .before .before .before .before .before
+      .before .before .refusal .ensures) (c .before .before .before .if1 .left)) .one) .0,
+  omega
+      (arith, c .before .before .count-in .ensures, c .before .count-in2 .ensures),
+)
 
--- src/answer.rt:60:5
 sub-result-3 : tie.Need-sub-result-3
 sub-result-3 c = search needs
 
--- src/answer.rt:60:5
 part-result-start-3 : tie.Need-part-result-start-3
 part-result-start-3 c = search needs
 
--- src/answer.rt:60:5
 part-result-end-3 : tie.Need-part-result-end-3
 part-result-end-3 c = search needs
 
--- src/answer.rt:47:1
 same-length-3 : tie.Need-same-length-3
 same-length-3 c = search needs
 
--- src/answer.rt:47:1
 returns-3 : tie.Need-returns-3
-returns-3 c = record { answers = tail-first _ _ _ _ (c .before .before .before .before .before .before .before .before .before .before .before .before .refusal .ensures) (c .before .before .before .before .before .if1 .left) (c .before .before .before .before .count-in .ensures) (c .before .before .before .count-in2 .ensures) (c .before .before .if2 .left) (c .before .record-start2 .ensures .0); zero = c .before .before .before .before .before .before .before .before .clear .ensures ∙ ap (λ (n : ℕ). replicate n 0) (sym (c .before .before .before .before .before .before .before .before .clear .kept .0) ∙ same-length-3 c) }
+returns-3 c = record {
+  answers = tail-first _ _ _ _ (c .before .before .before .before .before .before .before .before .before
+      .before .before .before .refusal .ensures) (c .before .before .before .before .before .if1 .left)
+      (c .before .before .before .before .count-in .ensures) (c .before .before .before .count-in2 .ensures)
+      (c .before .before .if2 .left) (c .before .record-start2 .ensures .0);
+  zero = c .before .before .before .before .before
+      .before .before .before .clear .ensures ∙ ap (λ (n : ℕ). replicate n 0) (sym
+      (c .before .before .before .before .before .before .before .before .clear .kept .0) ∙ same-length-3 c);
+}
 
 pub tail-spec : {M : Type 1} → statement M
 tail-spec =
