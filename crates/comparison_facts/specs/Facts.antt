@@ -1,5 +1,5 @@
--- THEOREMS ON TWO SHEETS: one answer, and the sheets exchanged. Assumes nothing.
-use mathlib.Core.Path.{_≡_, refl, sym, ap, _∙_}
+-- THEOREMS ON TWO SHEETS: one answer, the sheets exchanged, sheets alike. Assumes nothing.
+use mathlib.Core.Path.{_≡_, refl, sym, ap, _∙_, subst}
 use mathlib.Core.Bool.{Bool, true, false, cond}
 use mathlib.Core.List.{List, [], _∷_}
 use Prim.Native.Nat.{ℕ, zero, suc, _+_, _≤_, _<_}
@@ -12,7 +12,7 @@ use Rattle.records.specs.Laws.Numbers.{lt?}
 use Rattle.lists.specs.Lists.{twoOf}
 use Rattle.comparison.specs.Compare.{countBelow, hasAt, sameAt, same, moved, firstOnly, secondOnly, Compares, Tails}
 use Rattle.comparison.specs.declared.Compared.{Compared}
-use Rattle.comparison.specs.Laws.Sums.{both-is, both-turned}
+use Rattle.comparison.specs.Laws.Sums.{below-most, both-is, both-turned, adds-up, adds-up-second}
 
 pub compare-unique : (s t before : List ℕ) (a b : Compared) (x y : List ℕ) → Compares s t before a x → Compares s t before b y →
     (a ≡ b) × (x ≡ y)
@@ -97,3 +97,47 @@ turned-round a b g h =
     let q = both-is b a in
     let t = both-turned a b g h in
     record { same-stays = s; moved-stays = omega arith; first-is = refl; second-is = refl }
+
+-- ---- Sheets alike.
+
+all-same : (a b : List ℕ) → same a b ≡ length a → length a ≡ length b → a ≡ b
+all-same [] [] e l = refl
+all-same [] (y ∷ b) e l = absurd (omega arith)
+all-same (x ∷ a) [] e l = absurd (omega arith)
+all-same (x ∷ a) (y ∷ b) e l =
+    go (eqb x y) refl (sym (next x y a b) ∙ e) (below-most (length a) (sameAt a b)) (λ h. all-same a b h (omega arith))
+  where
+    go : (t : Bool) → eqb x y ≡ t → cond {A = ℕ} (eqb x y) 1 0 + same a b ≡ suc (length a) → same a b ≤ length a → (same a b ≡ length a → a ≡ b)
+        → x ∷ a ≡ y ∷ b
+    go true q sum most f =
+        let z : cond {A = ℕ} (eqb x y) 1 0 ≡ 1 = rw q refl in
+        let w : same a b ≡ length a = omega arith in
+        λ k. eqb-true x y q k ∷ f w k
+    go false q sum most f = absurd (let z : cond {A = ℕ} (eqb x y) 1 0 ≡ 0 = rw q refl in omega arith)
+
+same-self : (a : List ℕ) → same a a ≡ length a
+unfolding countBelow
+same-self [] = refl
+same-self (x ∷ a) = let n = next x x a a in let r = same-self a in let t : cond {A = ℕ} (eqb x x) 1 0 ≡ 1 = rw (eq-eqb x x refl) refl in omega arith
+
+-- nothing moved and nothing in one only, exactly where both have the same records in the same order
+pub record Alike (a b : List ℕ) : Type 0 where
+  pub none-moved : moved a b ≡ 0
+  pub none-first : firstOnly a b ≡ 0
+  pub none-second : secondOnly a b ≡ 0
+
+pub alike-same : (a b : List ℕ) → twoOf eqb a ≡ false → twoOf eqb b ≡ false → Alike a b → a ≡ b
+alike-same a b g h k =
+    let p = k .none-moved in
+    let q = k .none-first in
+    let r = k .none-second in
+    let s = adds-up a b in
+    let t = adds-up-second a b g h in
+    all-same a b (omega arith) (omega arith)
+
+pub same-alike : (a b : List ℕ) → twoOf eqb a ≡ false → a ≡ b → Alike a b
+same-alike a b g e = subst (λ (l : List ℕ). Alike a l) e (
+    let s = same-self a in
+    let p = adds-up a a in
+    let q = adds-up-second a a g g in
+    record { none-moved = omega arith; none-first = omega arith; none-second = omega arith })
