@@ -9,7 +9,14 @@ use lib.ListN.{length, getD}
 use mathlib.Core.Logic.{_⊎_, ⊎-elim}
 use borrow.Author.Tests.{eqb-true, eqb-false, eq-eqb, ne-eqb, lt-ltb, le-ltb}
 use Rattle.records.specs.Laws.Numbers.{lt?}
+use mathlib.Core.Logic.{_↔_}
 use Rattle.lists.specs.Lists.{twoOf}
+use Rattle.records.specs.Width.{seven}
+use Rattle.records.specs.Record.{Location, recordIn, locationIn}
+use Rattle.records.specs.Sheet.{bare, widthOf}
+use Rattle.records.specs.Laws.Record.{location-fits, location-back, seven-sound}
+use Rattle.records.specs.Laws.Round.{said-wider}
+use Rattle.records.specs.Laws.Widths.{fits-wider}
 use Rattle.comparison.specs.Compare.{countBelow, hasAt, sameAt, same, moved, firstOnly, secondOnly, Compares, Tails}
 use Rattle.comparison.specs.declared.Compared.{Compared}
 use Rattle.comparison.specs.Laws.Sums.{below-most, both-is, both-turned, adds-up, adds-up-second}
@@ -141,3 +148,19 @@ same-alike a b g e = subst (λ (l : List ℕ). Alike a l) e (
     let p = adds-up a a in
     let q = adds-up-second a a g g in
     record { none-moved = omega arith; none-first = omega arith; none-second = omega arith })
+
+-- ---- Equal records are equal locations, whatever the widths: n is a word of a sheet s, m of a sheet t.
+
+module _ (s t : List ℕ) (n m : ℕ) where
+  abbrev pub one : Location
+  one = locationIn (widthOf s) (bare (widthOf s) n)
+
+  abbrev pub two : Location
+  two = locationIn (widthOf t) (bare (widthOf t) m)
+
+  back : (r : List ℕ) (k : ℕ) → locationIn seven (recordIn seven (locationIn (widthOf r) k)) ≡ locationIn (widthOf r) k
+  back r k = location-back seven-sound (fits-wider (said-wider (getD r 0 0)) (location-fits (widthOf r) k))
+
+  pub held-same : (recordIn seven one ≡ recordIn seven two) ↔ (one ≡ two)
+  held-same =
+      (λ e. sym (back s (bare (widthOf s) n)) ∙ ap (locationIn seven) e ∙ back t (bare (widthOf t) m), λ e. ap (recordIn seven) e)
