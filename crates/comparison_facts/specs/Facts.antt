@@ -114,7 +114,8 @@ all-same (x ∷ a) [] e l = absurd (omega arith)
 all-same (x ∷ a) (y ∷ b) e l =
     go (eqb x y) refl (sym (next x y a b) ∙ e) (below-most (length a) (sameAt a b)) (λ h. all-same a b h (omega arith))
   where
-    go : (t : Bool) → eqb x y ≡ t → cond {A = ℕ} (eqb x y) 1 0 + same a b ≡ suc (length a) → same a b ≤ length a → (same a b ≡ length a → a ≡ b)
+    go : (t : Bool) → eqb x y ≡ t → cond {A = ℕ} (eqb x y) 1 0 + same a b ≡ suc (length a) → same a b ≤ length a
+        → (same a b ≡ length a → a ≡ b)
         → x ∷ a ≡ y ∷ b
     go true q sum most f =
         let z : cond {A = ℕ} (eqb x y) 1 0 ≡ 1 = rw q refl in
@@ -125,7 +126,11 @@ all-same (x ∷ a) (y ∷ b) e l =
 same-self : (a : List ℕ) → same a a ≡ length a
 unfolding countBelow
 same-self [] = refl
-same-self (x ∷ a) = let n = next x x a a in let r = same-self a in let t : cond {A = ℕ} (eqb x x) 1 0 ≡ 1 = rw (eq-eqb x x refl) refl in omega arith
+same-self (x ∷ a) =
+    let n = next x x a a in
+    let r = same-self a in
+    let t : cond {A = ℕ} (eqb x x) 1 0 ≡ 1 = rw (eq-eqb x x refl) refl in
+    omega arith
 
 -- nothing moved and nothing in one only, exactly where both have the same records in the same order
 pub record Alike (a b : List ℕ) : Type 0 where
