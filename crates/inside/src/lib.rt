@@ -7,4 +7,4 @@ pub mod attributes;
 // A value, decoded byte by byte.
 pub mod values;
 // The text of an element, decoded byte by byte.
-pub mod texts;
+pub use contents::texts;

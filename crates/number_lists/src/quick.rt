@@ -1,5 +1,5 @@
 // The next number of a list where one plain blank, one to seven plain digits and a plain blank write it: most numbers stand so.
-use super::chars::wide;
+use characters::chars::wide;
 use super::listed::any_number;
 use super::listed::eight_left;
 use super::listed::ends_plain;

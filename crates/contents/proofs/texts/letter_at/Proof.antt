@@ -1,6 +1,6 @@
 use Rattle.nodes.specs.Laws.Texts.{lettering}
-use Rattle.inside.proofs.texts.letter_at.Statement.{statement}
-use Rattle.inside.proofs.texts.letter_at.Tie as tie
+use Rattle.contents.proofs.texts.letter_at.Statement.{statement}
+use Rattle.contents.proofs.texts.letter_at.Tie as tie
 
 pub letter-at-spec : {M : Type 1} → statement M
 letter-at-spec =
