@@ -55,8 +55,7 @@ pair-at low many p q e a b f h g =
     let first : low + ((a - low) * 256 + b) / 256 ≡ a = omega arith in
     let second : ((a - low) * 256 + b) % 256 ≡ b = omega arith in
     let inside : (a - low) * 256 + b < many * 256 = omega arith in
-    let here : paired low p ((a - low) * 256 + b) ≡ paired low q ((a - low) * 256 + b)
-        = alike-at (paired low p) (paired low q) (many * 256) e ((a - low) * 256 + b) inside in
+    let here = alike-at (paired low p) (paired low q) (many * 256) e ((a - low) * 256 + b) inside in
     rw (first, second) at here
 
 -- no byte outside a range lies in it

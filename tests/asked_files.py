@@ -1,13 +1,7 @@
-#!/usr/bin/env python3
-"""tools/file_cases: writes crates/file_cases/stdin, files made from case A (crates/file_cases/src/main.rt says how they are laid out)."""
-import pathlib
+"""Files made from case A: read in both orders, and for every number of a front one that it refuses."""
 import struct
-import sys
 
-ROOT = pathlib.Path(__file__).resolve().parent.parent
-sys.path.insert(0, str(ROOT / "tests"))
-
-from paper import CASE_A  # noqa: E402
+from paper import CASE_A
 
 SIZE = -(-(8 + len(CASE_A)) // 16) * 16
 MAGIC = b"n+2\0\r\n\x1a\n"
@@ -56,8 +50,3 @@ FILES = {
     "an all-zero body": file(body=b""),
     "a zero inside the text": file(body=CASE_A[:40] + b"\0" + CASE_A[41:]),
 }
-
-if __name__ == "__main__":
-    rows = [name.encode().ljust(32) + struct.pack(">H", len(data)) + data.ljust(2014, b"\0") for name, data in FILES.items()]
-    assert all(len(row) == 2048 for row in rows) and len(rows) <= 32
-    (ROOT / "crates" / "file_cases" / "stdin").write_bytes(b"".join(rows))
