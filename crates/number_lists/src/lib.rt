@@ -1,7 +1,7 @@
-// Numbers in a row: the next number of a list.
+// Numbers in a row: decoded characters, digits and blanks, and the next number of a list.
 
 // Decoded bytes, from a value or from a text.
-pub use characters::chars;
+pub mod chars;
 // The next number of a list.
 mod listed;
 // The next number of a list where plain bytes write it.

@@ -1,9 +1,9 @@
 // The next number of a list: plain bytes first, whatever else then.
-use characters::chars::blanks;
-use characters::chars::digits;
-use characters::chars::letter;
-use characters::chars::wide;
-use characters::chars::word_ends;
+use super::chars::blanks;
+use super::chars::digits;
+use super::chars::letter;
+use super::chars::wide;
+use super::chars::word_ends;
 use nodes::Char;
 use numbers::Next;
 use numbers::Run;

@@ -1,9 +1,9 @@
 // The next number of a list where one plain blank, one to seven plain digits and a plain blank write it: most numbers stand so.
+use super::chars::wide;
 use super::listed::any_number;
 use super::listed::eight_left;
 use super::listed::ends_plain;
 use super::listed::run_of;
-use characters::chars::wide;
 use numbers::Next;
 use numbers::Run;
 ghost use mathlib.Core.Path.{_≡_};

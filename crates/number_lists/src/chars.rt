@@ -17,7 +17,7 @@ pub fn letter(text: &[u8], at: usize) -> Char
 {
     let mut i = at;
     loop {
-        match contents::texts::text_at(text, i) {
+        match inside::texts::text_at(text, i) {
             Text::Letter(b, j) => {
                 return Char::Byte(b, j);
             }

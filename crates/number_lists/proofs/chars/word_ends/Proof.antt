@@ -1,6 +1,6 @@
 use Rattle.numbers.specs.Laws.Read.{choosing}
-use Rattle.characters.proofs.chars.word_ends.Statement.{statement}
-use Rattle.characters.proofs.chars.word_ends.Tie as tie
+use Rattle.number_lists.proofs.chars.word_ends.Statement.{statement}
+use Rattle.number_lists.proofs.chars.word_ends.Tie as tie
 
 pub word-ends-spec : {M : Type 1} → statement M
 word-ends-spec =

@@ -1,8 +1,8 @@
 use Rattle.numbers.specs.Laws.Read.{running, Running}
 use Prim.Native.Nat.{_-_}
 use lib.ListN.{length}
-use Rattle.characters.proofs.chars.digits.Statement.{statement}
-use Rattle.characters.proofs.chars.digits.Tie as tie
+use Rattle.number_lists.proofs.chars.digits.Statement.{statement}
+use Rattle.number_lists.proofs.chars.digits.Tie as tie
 
 abbrev Inv-loop : tie.InvT-loop
 Inv-loop text at source most before n₀ k₀ i₀ n k i = Running source text most before at n k i

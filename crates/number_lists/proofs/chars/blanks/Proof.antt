@@ -1,8 +1,8 @@
 use Rattle.numbers.specs.Laws.Read.{passing, Passing}
 use Prim.Native.Nat.{_-_}
 use lib.ListN.{length}
-use Rattle.characters.proofs.chars.blanks.Statement.{statement}
-use Rattle.characters.proofs.chars.blanks.Tie as tie
+use Rattle.number_lists.proofs.chars.blanks.Statement.{statement}
+use Rattle.number_lists.proofs.chars.blanks.Tie as tie
 
 abbrev Inv-loop : tie.InvT-loop
 Inv-loop text at i₀ i = Passing text at i
