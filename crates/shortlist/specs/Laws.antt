@@ -1,6 +1,7 @@
 pub mod Location
 pub mod Runs
 pub mod Named
+pub mod Bits
 pub mod Walking
 pub mod Made
 pub mod Search

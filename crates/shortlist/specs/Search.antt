@@ -2,19 +2,23 @@
 use mathlib.Core.Path.{_≡_}
 use mathlib.Core.Bool.{Bool, true, false, cond, not, _&&_, _||_}
 use mathlib.Core.List.{List, [], _∷_}
-use Prim.Native.Nat.{ℕ, _+_, _-_, _%_}
+use Prim.Native.Nat.{ℕ, _+_, _-_, _/_, _%_, _^_}
 use lib.Dec.{eqb, leb, ltb}
-use lib.ListN.{length, getD, set, take, drop, replicate}
+use lib.ListN.{length, take, drop}
 use Rattle.lists.specs.Lists.{any}
 use Rattle.lists.specs.Refusals.{_when_, first}
 use Rattle.records.specs.Find.{FirstPlace}
 use Rattle.shortlist.specs.Runs.{kindIn}
-use Rattle.shortlist.specs.Asking.{empty, noStructure, pastEnd, holdsIndex, ofKind, isRecord}
+use Rattle.shortlist.specs.Asking.{empty, noStructure, holdsIndex, ofKind, isRecord}
 use Rattle.shortlist.specs.Asking.{soughtNumber, soughtIndex}
 use Rattle.shortlist.specs.declared.answer.Model.{Model}
 use Rattle.shortlist.specs.declared.answer.Told.{Told}
 use Rattle.shortlist.specs.declared.answer.Sought.{Sought}
 use Rattle.shortlist.specs.declared.state.Search.{Search}
+
+-- a bit of a number is set
+unfoldable pub bitSet : (number place : ℕ) → Bool
+bitSet n k = eqb (n / 2 ^ k % 2) 1
 
 -- nothing seen yet
 abbrev pub begun : (index kind most : ℕ) → Search
@@ -23,12 +27,10 @@ begun n k most = record {
   kind = k;
   most = most;
   bad = false;
-  past = false;
   first = 0;
   count = 0;
-  named = replicate 64 false;
-  held = false;
-  tells = 0;
+  named = 0;
+  tells = 64;
   from = 0;
   size = 0;
 }
@@ -38,7 +40,7 @@ unfoldable pub follows : Search → Model → Bool
 follows s m = not (ltb (m .first .0) (s .first)) && eqb (m .first .0 - s .first) (s .count)
 
 unfoldable pub badEntry : Search → Model → Bool
-badEntry s m = noStructure m || (empty m || (not (follows s m) || getD (s .named) (kindIn m) false))
+badEntry s m = noStructure m || (empty m || (not (follows s m) || bitSet (s .named) (kindIn m)))
 
 -- a bad list stays bad
 abbrev pub spoilt : Search → Search
@@ -47,31 +49,27 @@ spoilt s = record {
   kind = s .kind;
   most = s .most;
   bad = true;
-  past = s .past;
   first = s .first;
   count = s .count;
   named = s .named;
-  held = s .held;
   tells = s .tells;
   from = s .from;
   size = s .size;
 }
 
--- with one entry more
+-- with one entry more: in a list that is not bad, one entry at most holds the index, and one at most is of the kind
 unfoldable pub taken : Search → Model → Search
 taken s m = record {
   index = s .index;
   kind = s .kind;
   most = s .most;
   bad = s .bad;
-  past = s .past || pastEnd (s .most) m;
   first = m .first .0;
   count = m .count;
-  named = set (s .named) (kindIn m) true;
-  held = s .held || holdsIndex (s .index) m;
-  tells = cond (s .held) (s .tells) (cond (holdsIndex (s .index) m) (kindIn m) 0);
-  from = cond (ltb 0 (s .size)) (s .from) (cond (ofKind (s .kind) m) (m .first .0) 0);
-  size = cond (ltb 0 (s .size)) (s .size) (cond (ofKind (s .kind) m) (m .count) 0);
+  named = s .named + 2 ^ kindIn m;
+  tells = cond (holdsIndex (s .index) m) (kindIn m) (s .tells);
+  from = cond (ofKind (s .kind) m) (m .first .0) (s .from);
+  size = cond (ofKind (s .kind) m) (m .count) (s .size);
 }
 
 unfoldable pub nextOf : Search → Model → Search
@@ -86,14 +84,14 @@ folded f s (m ∷ l) = folded f (f s m) l
 
 -- the type and structure at the index
 unfoldable pub toldOf : Search → Told
-toldOf s = cond (s .bad) Told.BadList (cond (s .held) (Told.Is (leb 32 (s .tells)) (s .tells % 32)) Told.Nothing)
+toldOf s = cond (s .bad) Told.BadList (cond (ltb (s .tells) 64) (Told.Is (leb 32 (s .tells)) (s .tells % 32)) Told.Nothing)
 
--- the records among which the record is looked for; that they do not all lie among so many
+-- the records among which the record is looked for; that they do not all lie among so many, nor all that the list names
 abbrev pub ownRecords : Search → List ℕ → List ℕ
 ownRecords s rs = take (s .size) (drop (s .from) rs)
 
 unfoldable pub outside : Search → (records : ℕ) → Bool
-outside s n = s .bad || (s .past || ltb n (s .from + s .size))
+outside s n = (s .bad || ltb (s .most) (s .first + s .count)) || ltb n (s .from + s .size)
 
 -- what `sought` promises
 pub record Finding (rs : List ℕ) (s : Search) (x : ℕ) (answer : Sought) : Type 0 where

@@ -14,16 +14,14 @@ pub struct Search {
     pub index: u64,
     pub kind: u64,
     pub most: u64,
-    // the list is bad; an entry reaches past the records
+    // the list is bad
     pub bad: bool,
-    pub past: bool,
     // the entry before: where it begins, and its count
     pub first: u64,
     pub count: u64,
-    // the kinds that have been named
-    pub named: [bool; 64],
-    // an entry holds the index, and its kind
-    pub held: bool,
+    // the kinds that have been named, a bit each
+    pub named: u64,
+    // the kind of the entry that holds the index; 64 where none does
     pub tells: u64,
     // where the entry of the kind begins, and its count; 0 and 0 where there is none
     pub from: u64,

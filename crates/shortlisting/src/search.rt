@@ -8,10 +8,11 @@ use shortlist::Search;
 use shortlist::Sought;
 use shortlist::Told;
 ghost use mathlib.Core.Path.{_≡_};
-ghost use mathlib.Core.Bool.{cond};
-ghost use Prim.Native.Nat.{_≤_};
+ghost use mathlib.Core.Bool.{false, cond};
+ghost use Prim.Native.Nat.{_+_, _<_, _≤_, _^_};
+ghost use lib.Dec.{ltb};
 ghost use Rattle.shortlist.specs.Runs.{kindIn, kindOf};
-ghost use Rattle.shortlist.specs.Asking.{holdsIndex, pastEnd};
+ghost use Rattle.shortlist.specs.Asking.{holdsIndex};
 ghost use Rattle.shortlist.specs.Search as search;
 
 // Nothing seen yet: an index is asked, or a kind among so many records.
@@ -23,12 +24,10 @@ pub fn begin(index: u64, kind: u64, most: u64) -> Search
         kind: kind,
         most: most,
         bad: false,
-        past: false,
         first: 0,
         count: 0,
-        named: [false; 64],
-        held: false,
-        tells: 0,
+        named: 0,
+        tells: 64,
         from: 0,
         size: 0,
     }
@@ -64,16 +63,14 @@ fn holds(index: u64, model: Model) -> bool
     index - first < model.count
 }
 
-// The model's range reaches past so many records.
-fn past_end(most: u64, model: Model) -> bool
-    ensures { λ r. ⌜ r ≡ pastEnd most model ⌝ }
+// A range reaches past so many records.
+fn is_past(most: u64, first: u64, count: u64) -> bool
+    ensures { λ r. ⌜ r ≡ ltb most (first + count) ⌝ }
 {
-    let from = model.first;
-    let first = from.0;
     if most < first {
         return true;
     }
-    most - first < model.count
+    most - first < count
 }
 
 // The model's range begins where the one before it ends.
@@ -88,58 +85,62 @@ fn follows(seen: Search, model: Model) -> bool
     first - seen.first == seen.count
 }
 
+// The bit of a kind.
+fn bit_of(kind: u64) -> u64
+    requires { ⌜ kind < 64 ⌝ }
+    ensures { λ r. ⌜ r ≡ 2 ^ kind ⌝ }
+{
+    1 << kind
+}
+
+// The bit of the kind is set.
+fn is_named(named: u64, kind: u64) -> bool
+    requires { ⌜ kind < 64 ⌝ }
+    ensures { λ r. ⌜ r ≡ search.bitSet named kind ⌝ }
+{
+    (named >> kind) % 2 == 1
+}
+
 // The entry makes the list bad.
 fn is_bad(seen: Search, model: Model) -> bool
     ensures { λ r. ⌜ r ≡ search.badEntry seen model ⌝ }
 {
-    if 31 < model.structure {
-        return true;
-    }
-    if model.count == 0 {
+    if (31 < model.structure) | (model.count == 0) {
         return true;
     }
     if !follows(seen, model) {
         return true;
     }
-    let place = kind_in(model) as usize;
-    seen.named[place]
+    is_named(seen.named, kind_in(model))
 }
 
-// The first where the first test holds, the second where the second does, else 0.
-fn either(a: bool, first: u64, b: bool, second: u64) -> u64
-    ensures { λ r. ⌜ r ≡ cond a first (cond b second 0) ⌝ }
+// The first where the test holds, else the second.
+fn choose(test: bool, first: u64, second: u64) -> u64
+    ensures { λ r. ⌜ r ≡ cond test first second ⌝ }
 {
-    if a {
+    if test {
         return first;
     }
-    if b {
-        return second;
-    }
-    0
+    second
 }
 
 // With one entry more.
 fn with_entry(seen: Search, model: Model) -> Search
-    requires { ⌜ model .structure ≤ 31 ⌝ }
+    requires { ⌜ search.badEntry seen model ≡ false ⌝ }
     ensures { λ r. ⌜ r ≡ search.taken seen model ⌝ }
 {
     let from = model.first;
     let first = from.0;
     let kind = kind_in(model);
-    let place = kind as usize;
     let here = holds(seen.index, model);
     let own = kind == seen.kind;
-    let before = 0 < seen.size;
-    let past = past_end(seen.most, model);
     let mut more = seen;
-    more.past = seen.past | past;
     more.first = first;
     more.count = model.count;
-    more.named[place] = true;
-    more.held = seen.held | here;
-    more.tells = either(seen.held, seen.tells, here, kind);
-    more.from = either(before, seen.from, own, first);
-    more.size = either(before, seen.size, own, model.count);
+    more.named = seen.named + bit_of(kind);
+    more.tells = choose(here, kind, seen.tells);
+    more.from = choose(own, first, seen.from);
+    more.size = choose(own, model.count, seen.size);
     more
 }
 
@@ -165,24 +166,19 @@ pub fn told(seen: Search) -> Told
     if seen.bad {
         return Told::BadList;
     }
-    if seen.held {
+    if seen.tells < 64 {
         return Told::Is(32 <= seen.tells, seen.tells % 32);
     }
     Told::Nothing
 }
 
-// The stretch of the record's own kind does not lie among so many records, or the list is bad.
+// The list is bad, or names more records than there are, or the stretch of the record's own kind does not lie among so many.
 fn is_outside(seen: Search, most: usize) -> bool
     ensures { λ r. ⌜ r ≡ search.outside seen most ⌝ }
 {
-    if seen.bad | seen.past {
-        return true;
-    }
-    let all = most as u64;
-    if all < seen.from {
-        return true;
-    }
-    all - seen.from < seen.size
+    seen.bad
+        | is_past(seen.most, seen.first, seen.count)
+        | is_past(most as u64, seen.from, seen.size)
 }
 
 // The index of the record, looked for in the stretch of its own kind.

@@ -6,7 +6,7 @@ use Prim.Native.Nat.{ℕ, _+_, _%_, _<_, _≤_}
 use native.Mathlib.Omega.{arith}
 use lib.Dec.{eqb, leb, ltb}
 use lib.ListN.{length, take, drop}
-use borrow.Author.Tests.{ltb-false, le-ltb}
+use borrow.Author.Tests.{ltb-false, le-ltb, lt-ltb}
 use Rattle.lists.specs.Lists.{any, twoOf}
 use Rattle.lists.specs.Refusals.{_when_, first}
 use Rattle.lists.specs.Laws.Booleans.{or-left, or-right, both-ways, or-true, or-false}
@@ -17,8 +17,8 @@ use Rattle.shortlist.specs.Asking.{empty, noStructure, pastEnd, runsOnFr
 use Rattle.shortlist.specs.Asking.{stretch, isRecord, ownStretch, toldNumber, toldVoxels, toldStructure, tellRefusal, Tells}
 use Rattle.shortlist.specs.Asking.{soughtNumber, soughtIndex, seekRefusal, StandsAt, Seeks}
 use Rattle.shortlist.specs.Search.{begun, nextOf, folded, toldOf, ownRecords, outside, Finding}
-use Rattle.shortlist.specs.Laws.Runs.{kind-parts}
-use Rattle.shortlist.specs.Laws.Search.{bad-is, seen-is, Sees, the-has-not}
+use Rattle.shortlist.specs.Laws.Runs.{kind-parts, kind-below}
+use Rattle.shortlist.specs.Laws.Search.{bad-is, past-seen, tells-one, tells-none, asked, from-seen, size-seen, the-has-not}
 use Rattle.shortlist.specs.declared.answer.Model.{Model}
 use Rattle.shortlist.specs.declared.answer.Told.{Told}
 use Rattle.shortlist.specs.declared.answer.Sought.{Sought}
@@ -46,12 +46,14 @@ module _ (l : List Model) (n : ℕ) where
   holder : Model
   holder = the (holdsIndex n) l
 
+  structured : badList l ≡ false → holder .structure ≤ mostStructure
+  unfolding holder noStructure
+  structured h = ltb-false mostStructure (holder .structure) (the-has-not (holdsIndex n) noStructure l (structures l h) refl)
+
   -- its type and structure are read back from its kind
   parts : badList l ≡ false → (leb 32 (kindIn holder) ≡ holder .voxels) × (kindIn holder % 32 ≡ holder .structure)
-  unfolding kindIn holder noStructure
-  parts h =
-      kind-parts (holder .voxels) (holder .structure)
-      (ltb-false mostStructure (holder .structure) (the-has-not (holdsIndex n) noStructure l (structures l h) refl))
+  unfolding kindIn
+  parts h = kind-parts (holder .voxels) (holder .structure) (structured h)
 
   told-bad : badList l ≡ true → Tells l n Told.BadList
   unfolding toldNumber toldVoxels toldStructure tellRefusal
@@ -67,22 +69,32 @@ module _ (l : List Model) (n : ℕ) where
   told-is h k p q = record { numbered = sym (gives-first (passes h (passes (ap not k) ends))); voxels = p; structure = q }
 
   told-by : (c : Bool) → c ≡ badList l → (h : Bool) → (badList l ≡ false → h ≡ any (holdsIndex n) l) → (t : ℕ)
-      → (badList l ≡ false → t ≡ kindIn holder) → Tells l n (cond c Told.BadList (cond h (Told.Is (leb 32 t) (t % 32)) Told.Nothing))
+      → (badList l ≡ false → any (holdsIndex n) l ≡ true → t ≡ kindIn holder) → Tells l n (cond c Told.BadList (cond h (Told.Is (leb 32 t) (t % 32)) Told.Nothing))
   told-by true c h a t b = told-bad (sym c)
   told-by false c true a t b =
       let good = sym c in
       let (v, s) = parts good in
-      told-is good (sym (a good)) (ap (λ k. leb 32 k) (b good) ∙ v) (ap (λ k. k % 32) (b good) ∙ s)
+      told-is good (sym (a good)) (ap (λ k. leb 32 k) (b good (sym (a good))) ∙ v) (ap (λ k. k % 32) (b good (sym (a good))) ∙ s)
   told-by false c false a t b = told-nothing (sym c) (sym (a (sym c)))
 
-  -- what `told` says of the list is what is promised
-  pub tells-seen : (k most : ℕ) (answer : Told) → answer ≡ toldOf (folded nextOf (begun n k most) l) → Tells l n answer
-  unfolding toldOf holder
-  tells-seen k most answer e =
-      let s : Search = folded nextOf (begun n k most) l in
-      subst (Tells l n) (sym e)
-      (told-by (s .bad) (bad-is n k most l) (s .held) (λ h. seen-is n k most l h .held-is) (s .tells)
-      (λ h. seen-is n k most l h .tells-is))
+  module _ (k most : ℕ) where
+    abbrev end : Search
+    end = folded nextOf (begun n k most) l
+
+    held-by : badList l ≡ false → (b : Bool) → any (holdsIndex n) l ≡ b → ltb (end .tells) 64 ≡ b
+    unfolding holder kindIn
+    held-by h true q =
+        ap (λ t. ltb t 64) (tells-one n k most l h q)
+        ∙ lt-ltb (kindIn holder) 64 (kind-below (holder .voxels) (holder .structure) (structured h))
+    held-by h false q = ap (λ t. ltb t 64) (tells-none n k most l h q)
+
+    -- what `told` says of the list is what is promised
+    pub tells-seen : (answer : Told) → answer ≡ toldOf end → Tells l n answer
+    unfolding toldOf holder
+    tells-seen answer e =
+        subst (Tells l n) (sym e)
+        (told-by (end .bad) (bad-is n k most l) (ltb (end .tells) 64) (λ h. held-by h (any (holdsIndex n) l) refl) (end .tells)
+        (tells-one n k most l))
 
 -- ---- The index of a record.
 
@@ -96,8 +108,8 @@ module _ (l : List Model) (rs : List ℕ) (x : ℕ) where
   same-stretch : badList l ≡ false → ownRecords seen rs ≡ ownStretch l rs x
   unfolding ownStretch stretch own
   same-stretch h =
-      let w = seen-is 0 (kindOf x) (length rs) l h in
-      ap (λ n. take n (drop (seen .from) rs)) (w .size-is) ∙ ap (λ n. take (own .count) (drop n rs)) (w .from-is)
+      ap (λ n. take n (drop (seen .from) rs)) (size-seen 0 (kindOf x) (length rs) l h)
+      ∙ ap (λ n. take (own .count) (drop n rs)) (from-seen 0 (kindOf x) (length rs) l h)
 
   -- the stretch lies among the records where no entry reaches past them
   same-test : outside seen (length rs) ≡ (badList l || any (pastEnd (length rs)) l)
@@ -106,8 +118,8 @@ module _ (l : List Model) (rs : List ℕ) (x : ℕ) where
     where
       inside : badList l ≡ false → any (pastEnd (length rs)) l ≡ false → ltb (length rs) (seen .from + seen .size) ≡ false
       inside h k =
-          let w = seen-is 0 (kindOf x) (length rs) l h in
-          ap (λ n. ltb (length rs) (n + seen .size)) (w .from-is) ∙ ap (λ n. ltb (length rs) (own .first .0 + n)) (w .size-is)
+          ap (λ n. ltb (length rs) (n + seen .size)) (from-seen 0 (kindOf x) (length rs) l h)
+          ∙ ap (λ n. ltb (length rs) (own .first .0 + n)) (size-seen 0 (kindOf x) (length rs) l h)
           ∙ the-has-not (ofKind (kindOf x)) (pastEnd (length rs)) l k (none-past (length rs))
 
       past : (b : Bool) → any (pastEnd (length rs)) l ≡ b → badList l ≡ false → (b || ltb (length rs) (seen .from + seen .size)) ≡ b
@@ -115,11 +127,16 @@ module _ (l : List Model) (rs : List ℕ) (x : ℕ) where
       past false e h = inside h e
 
       by : (b : Bool) → badList l ≡ b
-          → (seen .bad || (seen .past || ltb (length rs) (seen .from + seen .size))) ≡ (b || any (pastEnd (length rs)) l)
-      by true e = ap (λ t. t || (seen .past || ltb (length rs) (seen .from + seen .size))) (bad-is 0 (kindOf x) (length rs) l ∙ e)
+          → ((seen .bad || ltb (seen .most) (seen .first + seen .count)) || ltb (length rs) (seen .from + seen .size))
+          ≡ (b || any (pastEnd (length rs)) l)
+      by true e =
+          ap (λ t. (t || ltb (seen .most) (seen .first + seen .count)) || ltb (length rs) (seen .from + seen .size))
+          (bad-is 0 (kindOf x) (length rs) l ∙ e)
       by false e =
-          ap (λ t. t || (seen .past || ltb (length rs) (seen .from + seen .size))) (bad-is 0 (kindOf x) (length rs) l ∙ e)
-          ∙ ap (λ t. t || ltb (length rs) (seen .from + seen .size)) (seen-is 0 (kindOf x) (length rs) l e .past-is)
+          ap (λ t. (t || ltb (seen .most) (seen .first + seen .count)) || ltb (length rs) (seen .from + seen .size))
+          (bad-is 0 (kindOf x) (length rs) l ∙ e)
+          ∙ ap (λ n. ltb n (seen .first + seen .count) || ltb (length rs) (seen .from + seen .size)) (asked (begun 0 (kindOf x) (length rs)) l)
+          ∙ ap (λ t. t || ltb (length rs) (seen .from + seen .size)) (past-seen 0 (kindOf x) (length rs) l e)
           ∙ past (any (pastEnd (length rs)) l) refl e
 
   same-number : first (26 when outside seen (length rs) ∷ 19 when not (isRecord x && any (eqb x) (ownRecords seen rs)) ∷ []) ≡
@@ -157,7 +174,7 @@ module _ (l : List Model) (rs : List ℕ) (x : ℕ) where
             record {
               place = f .place;
               first-place = subst (λ (s : List ℕ). FirstPlace s x (f .place)) (same-stretch good) (f .found z);
-              index-is = f .index-is z ∙ ap (λ n. n + f .place) (seen-is 0 (kindOf x) (length rs) l good .from-is);
+              index-is = f .index-is z ∙ ap (λ n. n + f .place) (from-seen 0 (kindOf x) (length rs) l good);
             };
         refused = f .refused;
       }

@@ -2,10 +2,10 @@
 use mathlib.Core.Path.{_≡_, refl, sym, ap, _∙_, subst}
 use mathlib.Core.List.{List, [], _∷_}
 use mathlib.Core.Bool.{Bool, true, false, cond, not, _&&_, _||_}
-use Prim.Native.Nat.{ℕ, _+_, _-_, _%_, _<_, _≤_}
+use Prim.Native.Nat.{ℕ, _+_, _-_, _/_, _%_, _^_, _<_, _≤_}
 use native.Mathlib.Omega.{arith}
 use lib.Dec.{eqb, leb, ltb}
-use lib.ListN.{length, getD, set, take, drop, length-drop}
+use lib.ListN.{length, take, drop, length-drop}
 use lib.Seq.{length-take-le}
 use borrow.Author.Tests.{ltb-true, ltb-false, lt-ltb, le-ltb, le-leb, lt-leb, eqb-true, eq-eqb, ne-eqb, not-true, not-false}
 use Rattle.lists.specs.Lists.{any}
@@ -15,9 +15,10 @@ use Rattle.records.specs.Outcome.{ends, applies, passes, gives-first}
 use Rattle.records.specs.Find.{FirstPlace, Finds, findRefusal}
 use Rattle.records.specs.declared.search.Found.{Found}
 use Rattle.shortlist.specs.Runs.{mostStructure, kindNumber, kindIn}
-use Rattle.shortlist.specs.Asking.{empty, noStructure, pastEnd, holdsIndex, ofKind, isRecord, soughtNumber, soughtIndex}
-use Rattle.shortlist.specs.Search.{follows, badEntry, spoilt, taken, nextOf, toldOf, ownRecords, outside, Finding}
+use Rattle.shortlist.specs.Asking.{empty, noStructure, holdsIndex, ofKind, isRecord, soughtNumber, soughtIndex}
+use Rattle.shortlist.specs.Search.{bitSet, follows, badEntry, spoilt, taken, nextOf, toldOf, ownRecords, outside, Finding}
 use Rattle.shortlist.specs.Laws.Runs.{kind-below}
+use Rattle.shortlist.specs.Laws.Bits.{bit-fits, one-shifted}
 use Rattle.shortlist.specs.declared.answer.Model.{Model}
 use Rattle.shortlist.specs.declared.answer.Told.{Told}
 use Rattle.shortlist.specs.declared.answer.Sought.{Sought}
@@ -33,6 +34,14 @@ below-sum n a c h = by (ltb (n - a) c) refl
     by true e = let u = ltb-true (n - a) c e in sym (lt-ltb n (a + c) (omega arith))
     by false e = let u = ltb-false (n - a) c e in sym (le-ltb n (a + c) (omega arith))
 
+-- a range reaches past so many
+module _ (n a c : ℕ) where
+  pub past-yes : n < a → true ≡ ltb n (a + c)
+  past-yes h = sym (lt-ltb n (a + c) (omega arith))
+
+  pub past-test : a ≤ n → ltb (n - a) c ≡ ltb n (a + c)
+  past-test h = below-sum n a c h
+
 module _ (n : ℕ) (m : Model) where
   pub holds-no : n < m .first .0 → false ≡ holdsIndex n m
   unfolding holdsIndex
@@ -41,14 +50,6 @@ module _ (n : ℕ) (m : Model) where
   pub holds-test : m .first .0 ≤ n → ltb (n - m .first .0) (m .count) ≡ holdsIndex n m
   unfolding holdsIndex
   holds-test h = below-sum n (m .first .0) (m .count) h ∙ sym (ap (λ t. t && ltb n (m .first .0 + m .count)) (le-leb (m .first .0) n h))
-
-  pub past-yes : n < m .first .0 → true ≡ pastEnd n m
-  unfolding pastEnd
-  past-yes h = sym (lt-ltb n (m .first .0 + m .count) (omega arith))
-
-  pub past-test : m .first .0 ≤ n → ltb (n - m .first .0) (m .count) ≡ pastEnd n m
-  unfolding pastEnd
-  past-test h = below-sum n (m .first .0) (m .count) h
 
 -- ---- The kind.
 
@@ -76,32 +77,48 @@ module _ (s : Search) (m : Model) where
   unfolding follows
   follows-test h = sym (rw (le-ltb (m .first .0) (s .first) h))
 
-  pub bad-structure : 31 < m .structure → true ≡ badEntry s m
-  unfolding badEntry noStructure
-  bad-structure h = sym (or-first (ltb 31 (m .structure)) _ (lt-ltb 31 (m .structure) h))
-
-  pub bad-empty : m .count ≡ 0 → true ≡ badEntry s m
-  unfolding badEntry empty
-  bad-empty h = sym (or-second (noStructure m) (or-first (eqb (m .count) 0) _ (eq-eqb (m .count) 0 h)))
+  pub bad-alone : (ltb 31 (m .structure) || eqb (m .count) 0) ≡ true → true ≡ badEntry s m
+  unfolding badEntry noStructure empty
+  bad-alone h = sym (by (ltb 31 (m .structure)) h)
+    where
+      by : (b : Bool) → (b || eqb (m .count) 0) ≡ true
+          → (b || (eqb (m .count) 0 || (not (follows s m) || bitSet (s .named) (kindIn m)))) ≡ true
+      by true e = refl
+      by false e = or-first (eqb (m .count) 0) _ e
 
   pub bad-gap : (b : Bool) → b ≡ follows s m → not b ≡ true → true ≡ badEntry s m
   unfolding badEntry
   bad-gap b p q = sym (or-second (noStructure m) (or-second (empty m) (or-first (not (follows s m)) _ (ap not (sym p) ∙ q))))
 
-  pub bad-named : (b : Bool) (k : ℕ) → m .structure ≤ 31 → (m .count ≡ 0 → ⊥) → b ≡ follows s m → not b ≡ false → k ≡ kindIn m
-      → getD (s .named) k false ≡ badEntry s m
+  pub good-alone : (ltb 31 (m .structure) || eqb (m .count) 0) ≡ false → m .structure ≤ 31
+  good-alone h = ltb-false 31 (m .structure) (or-left (ltb 31 (m .structure)) _ h)
+
+  pub bad-named : (b t : Bool) (k : ℕ) → (ltb 31 (m .structure) || eqb (m .count) 0) ≡ false → b ≡ follows s m → not b ≡ false
+      → k ≡ kindIn m → t ≡ bitSet (s .named) k → t ≡ badEntry s m
   unfolding badEntry noStructure empty
-  bad-named b k h c p q e =
-      ap (λ i. getD (s .named) i false) e
-      ∙ sym (ap (λ t. t || (empty m || (not (follows s m) || getD (s .named) (kindIn m) false))) (le-ltb 31 (m .structure) h)
-      ∙ ap (λ t. t || (not (follows s m) || getD (s .named) (kindIn m) false)) (ne-eqb (m .count) 0 c)
-      ∙ ap (λ t. t || getD (s .named) (kindIn m) false) (ap not (sym p) ∙ q))
+  bad-named b t k h p q e f =
+      f ∙ ap (bitSet (s .named)) e
+      ∙ sym (ap (λ t. t || (empty m || (not (follows s m) || bitSet (s .named) (kindIn m)))) (or-left (ltb 31 (m .structure)) _ h)
+      ∙ ap (λ t. t || (not (follows s m) || bitSet (s .named) (kindIn m))) (or-right (ltb 31 (m .structure)) _ h)
+      ∙ ap (λ t. t || bitSet (s .named) (kindIn m)) (ap not (sym p) ∙ q))
 
   -- ---- The next state.
 
-  pub good-structure : (b : Bool) → b ≡ badEntry s m → b ≡ false → m .structure ≤ 31
+  pub good-structure : badEntry s m ≡ false → m .structure ≤ 31
   unfolding badEntry noStructure
-  good-structure b p q = ltb-false 31 (m .structure) (or-left (ltb 31 (m .structure)) _ (sym p ∙ q))
+  good-structure h = ltb-false 31 (m .structure) (or-left (ltb 31 (m .structure)) _ h)
+
+  pub good-fresh : badEntry s m ≡ false → bitSet (s .named) (kindIn m) ≡ false
+  unfolding badEntry
+  good-fresh h = or-right (not (follows s m)) _ (or-right (empty m) _ (or-right (noStructure m) _ h))
+
+  pub good-entry : (b : Bool) → b ≡ badEntry s m → b ≡ false → badEntry s m ≡ false
+  good-entry b p q = sym p ∙ q
+
+  -- the bit of a new kind can be added
+  pub named-fits : (k p : ℕ) → badEntry s m ≡ false → s .named < 2 ^ 64 → k ≡ kindIn m → p ≡ 2 ^ k → s .named + p < 2 ^ 64
+  named-fits k p h v e f =
+      bit-fits {w = s .named} {s = kindIn m} (good-fresh h) (kind-place m (kindIn m) (good-structure h) refl) v (f ∙ ap (λ i. 2 ^ i) e)
 
   pub next-stays : s .bad ≡ true → s ≡ nextOf s m
   unfolding nextOf
@@ -113,11 +130,9 @@ module _ (s : Search) (m : Model) where
         kind = s .kind;
         most = s .most;
         bad = h i;
-        past = s .past;
         first = s .first;
         count = s .count;
         named = s .named;
-        held = s .held;
         tells = s .tells;
         from = s .from;
         size = s .size;
@@ -132,38 +147,33 @@ module _ (s : Search) (m : Model) where
   next-takes b t g p q e = e ∙ sym (ap (λ t. cond t (spoilt s) (taken s m)) (or-neither g (sym p ∙ q)))
 
   -- all that is noted of an entry
-  pub taken-is : (k t f z : ℕ) (here past : Bool) → k ≡ kindIn m → here ≡ holdsIndex (s .index) m → past ≡ pastEnd (s .most) m
-      → t ≡ cond (s .held) (s .tells) (cond here k 0) → f ≡ cond (ltb 0 (s .size)) (s .from) (cond (eqb k (s .kind)) (m .first .0) 0)
-      → z ≡ cond (ltb 0 (s .size)) (s .size) (cond (eqb k (s .kind)) (m .count) 0)
+  pub taken-is : (k b t f z : ℕ) (here : Bool) → k ≡ kindIn m → b ≡ 2 ^ k → here ≡ holdsIndex (s .index) m
+      → t ≡ cond here k (s .tells) → f ≡ cond (eqb k (s .kind)) (m .first .0) (s .from)
+      → z ≡ cond (eqb k (s .kind)) (m .count) (s .size)
       → record {
         index = s .index;
         kind = s .kind;
         most = s .most;
         bad = s .bad;
-        past = s .past || past;
         first = m .first .0;
         count = m .count;
-        named = set (s .named) k true;
-        held = s .held || here;
+        named = s .named + b;
         tells = t;
         from = f;
         size = z;
       } ≡ taken s m
   unfolding taken ofKind
-  taken-is k t f z here past pk ph pp pt pf pz = λ i. record {
+  taken-is k b t f z here pk pb ph pt pf pz = λ i. record {
     index = s .index;
     kind = s .kind;
     most = s .most;
     bad = s .bad;
-    past = s .past || pp i;
     first = m .first .0;
     count = m .count;
-    named = set (s .named) (pk i) true;
-    held = s .held || ph i;
-    tells = (pt ∙ ap (λ x. cond (s .held) (s .tells) (cond x k 0)) ph ∙ ap (λ x. cond (s .held) (s .tells) (cond (holdsIndex (s .index)
-        m) x 0)) pk) i;
-    from = (pf ∙ ap (λ x. cond (ltb 0 (s .size)) (s .from) (cond (eqb x (s .kind)) (m .first .0) 0)) pk) i;
-    size = (pz ∙ ap (λ x. cond (ltb 0 (s .size)) (s .size) (cond (eqb x (s .kind)) (m .count) 0)) pk) i;
+    named = s .named + (pb ∙ ap (λ x. 2 ^ x) pk) i;
+    tells = (pt ∙ ap (λ x. cond x k (s .tells)) ph ∙ ap (λ x. cond (holdsIndex (s .index) m) x (s .tells)) pk) i;
+    from = (pf ∙ ap (λ x. cond (eqb x (s .kind)) (m .first .0) (s .from)) pk) i;
+    size = (pz ∙ ap (λ x. cond (eqb x (s .kind)) (m .count) (s .size)) pk) i;
   }
 
 -- ---- What is told.
@@ -173,39 +183,25 @@ module _ (s : Search) where
   unfolding toldOf
   told-bad h = sym (rw h)
 
-  pub told-held : s .bad ≡ false → s .held ≡ true → Told.Is (leb 32 (s .tells)) (s .tells % 32) ≡ toldOf s
+  pub told-held : s .bad ≡ false → s .tells < 64 → Told.Is (leb 32 (s .tells)) (s .tells % 32) ≡ toldOf s
   unfolding toldOf
-  told-held h k = sym (rw (h, k))
+  told-held h k = sym (rw (h, lt-ltb (s .tells) 64 k))
 
-  pub told-none : s .bad ≡ false → s .held ≡ false → Told.Nothing ≡ toldOf s
+  pub told-none : s .bad ≡ false → 64 ≤ s .tells → Told.Nothing ≡ toldOf s
   unfolding toldOf
-  told-none h k = sym (rw (h, k))
+  told-none h k = sym (rw (h, le-ltb (s .tells) 64 k))
 
   -- ---- What is sought.
 
-  pub outside-bad : (n : ℕ) → (s .bad || s .past) ≡ true → true ≡ outside s n
+  pub outside-is : (n : ℕ) (a b : Bool) → a ≡ ltb (s .most) (s .first + s .count) → b ≡ ltb n (s .from + s .size)
+      → ((s .bad || a) || b) ≡ outside s n
   unfolding outside
-  outside-bad n h = sym (by (s .bad) h)
-    where
-      by : (b : Bool) → (b || s .past) ≡ true → (b || (s .past || ltb n (s .from + s .size))) ≡ true
-      by true e = refl
-      by false e = or-first (s .past) _ e
-
-  pub outside-far : (n : ℕ) → (s .bad || s .past) ≡ false → n < s .from → true ≡ outside s n
-  unfolding outside
-  outside-far n h k = sym (or-second (s .bad) (or-second (s .past) (lt-ltb n (s .from + s .size) (omega arith))))
-
-  pub outside-test : (n : ℕ) → (s .bad || s .past) ≡ false → s .from ≤ n → ltb (n - s .from) (s .size) ≡ outside s n
-  unfolding outside
-  outside-test n h k =
-      below-sum n (s .from) (s .size) k
-      ∙ sym (ap (λ t. t || (s .past || ltb n (s .from + s .size))) (or-left (s .bad) (s .past) h)
-      ∙ ap (λ t. t || ltb n (s .from + s .size)) (or-right (s .bad) (s .past) h))
+  outside-is n a b p q = ap (λ t. (s .bad || t) || b) p ∙ ap (λ t. (s .bad || ltb (s .most) (s .first + s .count)) || t) q
 
   pub inside : (n : ℕ) (b : Bool) → b ≡ outside s n → b ≡ false → s .from + s .size ≤ n
   unfolding outside
   inside n b p q =
-      ltb-false n (s .from + s .size) (or-right (s .past) _ (or-right (s .bad) _ (sym p ∙ q)))
+      ltb-false n (s .from + s .size) (or-right (s .bad || ltb (s .most) (s .first + s .count)) _ (sym p ∙ q))
 
 module _ (rs : List ℕ) (s : Search) (x : ℕ) where
   pub sought-outside : (b : Bool) → b ≡ outside s (length rs) → b ≡ true → Finding rs s x Sought.BadList
@@ -283,12 +279,16 @@ module _ (rs : List ℕ) (s : Search) (x : ℕ) where
         nowhere (sym p ∙ q)
         (ap (λ t. t && any (eqb x) (ownRecords s rs)) (sym u ∙ not-false b v) ∙ ap (any (eqb x)) (sym part-is) ∙ not-among _ f h z)
 
-pub ruleset entering = (holds-no, holds-test, past-yes, past-test, kind-voxels, kind-surface, follows-no, follows-test)
+pub ruleset entering = (holds-no, holds-test, kind-voxels, kind-surface, follows-no, follows-test)
 
-pub ruleset judging = (bad-structure, bad-empty, bad-gap, bad-named, kind-place)
+pub ruleset reaching = (past-yes, past-test)
 
-pub ruleset stepping = (good-structure, next-stays, next-spoils, next-takes)
+pub ruleset judging = (bad-alone, good-alone, bad-gap, bad-named, kind-place)
 
-pub ruleset telling = (told-bad, told-held, told-none, outside-bad, outside-far, outside-test)
+pub ruleset stepping = (good-entry, next-stays, next-spoils, next-takes)
+
+pub ruleset naming = (good-structure, kind-place, named-fits)
+
+pub ruleset telling = (told-bad, told-held, told-none, outside-is)
 
 pub ruleset seeking = (sought-outside, sought-no-record, sought-found, sought-nowhere)

@@ -1,5 +1,5 @@
--- KINDS THAT HAVE BEEN NAMED, in an array: one flag for each of the 64 kinds. Whether a kind comes again is told from here on by the array
--- alone. Assumes nothing.
+-- KINDS THAT HAVE BEEN NAMED: whether a kind comes again is told from here on by a test of a kind alone. The test looks into an array, one
+-- flag for each of the 64 kinds, or at the bits of a number. Assumes nothing.
 use mathlib.Core.Path.{_≡_, refl, sym, ap, _∙_}
 use mathlib.Core.List.{List, [], _∷_}
 use mathlib.Core.Bool.{Bool, true, false, cond, _||_}
@@ -17,26 +17,23 @@ use Rattle.shortlist.specs.Runs.{kindIn, alike}
 use Rattle.shortlist.specs.declared.answer.Model.{Model}
 
 -- the kind of the model has been named
-unfoldable pub isNamed : List Bool → Model → Bool
-isNamed seen m = getD seen (kindIn m) false
+unfoldable pub isNamed : (ℕ → Bool) → Model → Bool
+isNamed seen m = seen (kindIn m)
 
 -- a kind of the list has been named, or is named twice in it
-unfoldable pub again : List Bool → List Model → Bool
+unfoldable pub again : (ℕ → Bool) → List Model → Bool
 again seen l = any (isNamed seen) l || twoOf alike l
 
-set-flag : (seen : List Bool) (k j : ℕ) → k < length seen → getD (set seen k true) j false ≡ (eqb k j || getD seen j false)
-set-flag seen k j h = by (eqb k j) refl
-  where
-    by : (b : Bool) → eqb k j ≡ b → getD (set seen k true) j false ≡ (b || getD seen j false)
-    by true e = let q : j ≡ k = sym (eqb-true k j e) in ap (λ i. getD (set seen k true) i false) q ∙ getD-set-same seen k true false h
-    by false e = getD-set-other seen k j true false (λ z. eqb-false k j e (sym z))
+-- a test that takes one kind more for named
+abbrev pub Adds : (seen more : ℕ → Bool) → ℕ → Type 0
+Adds seen more k = (j : ℕ) → more j ≡ (eqb k j || seen j)
 
-named-more : (seen : List Bool) (m : Model) (l : List Model) → kindIn m < length seen
-    → any (isNamed (set seen (kindIn m) true)) l ≡ (any (alike m) l || any (isNamed seen) l)
+named-more : (seen more : ℕ → Bool) (m : Model) (l : List Model) → Adds seen more (kindIn m)
+    → any (isNamed more) l ≡ (any (alike m) l || any (isNamed seen) l)
 unfolding any isNamed alike
-named-more seen m [] h = refl
-named-more seen m (n ∷ l) h = rw (set-flag seen (kindIn m) (kindIn n) h, named-more seen m l h)
-    (shuffle (eqb (kindIn m) (kindIn n)) (getD seen (kindIn n) false) (any (alike m) l) (any (isNamed seen) l))
+named-more seen more m [] h = refl
+named-more seen more m (n ∷ l) h = rw (h (kindIn n), named-more seen more m l h)
+    (shuffle (eqb (kindIn m) (kindIn n)) (seen (kindIn n)) (any (alike m) l) (any (isNamed seen) l))
   where
     shuffle : (a b c d : Bool) → ((a || b) || (c || d)) ≡ ((a || c) || (b || d))
     shuffle true b c d = refl
@@ -45,11 +42,11 @@ named-more seen m (n ∷ l) h = rw (set-flag seen (kindIn m) (kindIn n) h, named
     shuffle false false c d = refl
 
 -- the model's kind is new, and is named from here on
-pub again-new : (seen : List Bool) (m : Model) (l : List Model) → kindIn m < length seen → getD seen (kindIn m) false ≡ false
-    → again seen (m ∷ l) ≡ again (set seen (kindIn m) true) l
+pub again-new : (seen more : ℕ → Bool) (m : Model) (l : List Model) → Adds seen more (kindIn m) → seen (kindIn m) ≡ false
+    → again seen (m ∷ l) ≡ again more l
 unfolding again any twoOf isNamed
-again-new seen m l h e =
-    rw (e, named-more seen m l h) (shuffle (any (isNamed seen) l) (any (alike m) l) (twoOf alike l))
+again-new seen more m l h e =
+    rw (e, named-more seen more m l h) (shuffle (any (isNamed seen) l) (any (alike m) l) (twoOf alike l))
   where
     shuffle : (a b c : Bool) → (a || (b || c)) ≡ ((b || a) || c)
     shuffle true true c = refl
@@ -58,23 +55,35 @@ again-new seen m l h e =
     shuffle false false c = refl
 
 -- it has been named
-pub again-old : (seen : List Bool) (m : Model) (l : List Model) → getD seen (kindIn m) false ≡ true → again seen (m ∷ l) ≡ true
+pub again-old : (seen : ℕ → Bool) (m : Model) (l : List Model) → seen (kindIn m) ≡ true → again seen (m ∷ l) ≡ true
 unfolding again any isNamed
 again-old seen m l e = rw e
 
-pub again-done : (seen : List Bool) → again seen [] ≡ false
+pub again-done : (seen : ℕ → Bool) → again seen [] ≡ false
 unfolding again any twoOf
 again-done seen = refl
 
 -- no kind has been named
-none-false : (n j : ℕ) → getD (replicate n false) j false ≡ false
-none-false zero j = refl
-none-false (suc n) zero = refl
-none-false (suc n) (suc j) = none-false n j
-
-pub again-first : (n : ℕ) (l : List Model) → again (replicate n false) l ≡ twoOf alike l
+pub again-first : (seen : ℕ → Bool) (l : List Model) → ((k : ℕ) → seen k ≡ false) → again seen l ≡ twoOf alike l
 unfolding again isNamed
-again-first n l = let e : any (isNamed (replicate n false)) l ≡ false = any-same (λ m. none-false n (kindIn m)) l ∙ any-none l in rw e
+again-first seen l h = let e : any (isNamed seen) l ≡ false = any-same (λ m. h (kindIn m)) l ∙ any-none l in rw e
+
+-- ---- In an array.
+
+abbrev pub flagged : List Bool → ℕ → Bool
+flagged seen k = getD seen k false
+
+pub flag-adds : (seen : List Bool) (k : ℕ) → k < length seen → Adds (flagged seen) (flagged (set seen k true)) k
+flag-adds seen k h j = by (eqb k j) refl
+  where
+    by : (b : Bool) → eqb k j ≡ b → getD (set seen k true) j false ≡ (b || getD seen j false)
+    by true e = let q : j ≡ k = sym (eqb-true k j e) in ap (λ i. getD (set seen k true) i false) q ∙ getD-set-same seen k true false h
+    by false e = getD-set-other seen k j true false (λ z. eqb-false k j e (sym z))
+
+pub flags-empty : (n k : ℕ) → flagged (replicate n false) k ≡ false
+flags-empty zero k = refl
+flags-empty (suc n) zero = refl
+flags-empty (suc n) (suc k) = flags-empty n k
 
 -- ---- How many have been named.
 

@@ -3,18 +3,19 @@
 use mathlib.Core.Path.{_≡_, refl, sym, ap, _∙_, subst}
 use mathlib.Core.List.{List, [], _∷_}
 use mathlib.Core.Bool.{Bool, true, false, cond, not, _&&_, _||_}
-use Prim.Native.Nat.{ℕ, _+_, _-_, _%_, _<_, _≤_}
+use Prim.Native.Nat.{ℕ, _+_, _-_, _^_, _<_, _≤_}
 use native.Mathlib.Omega.{arith}
 use lib.Dec.{eqb, leb, ltb}
-use lib.ListN.{length, getD, set, replicate, length-set}
-use borrow.Author.Tests.{eqb-true, eqb-false, ltb-true, ltb-false, lt-ltb, eq-eqb, ne-eqb, not-false}
+use lib.ListN.{getD}
+use borrow.Author.Tests.{eqb-true, eqb-false, ltb-true, ltb-false, lt-ltb, le-ltb, lt-leb, eq-eqb, ne-eqb, not-false}
 use Rattle.lists.specs.Lists.{any, those, twoOf}
-use Rattle.lists.specs.Laws.Booleans.{or-left, or-right, both-ways, or-true, or-false, or-neither, or-assoc}
+use Rattle.lists.specs.Laws.Booleans.{or-left, or-right, or-first, or-true, or-false, or-neither, and-right, and-halves, both-ways}
 use Rattle.shortlist.specs.Runs.{mostStructure, kindIn, kindNumber, alike}
 use Rattle.shortlist.specs.Asking.{empty, noStructure, pastEnd, runsOnFrom, badList, holdsIndex, ofKind, the, noModel}
-use Rattle.shortlist.specs.Search.{begun, follows, badEntry, spoilt, taken, nextOf, folded}
+use Rattle.shortlist.specs.Search.{bitSet, begun, follows, badEntry, spoilt, taken, nextOf, folded}
 use Rattle.shortlist.specs.Laws.Runs.{kind-below}
-use Rattle.shortlist.specs.Laws.Named.{again, again-new, again-old, again-done, again-first}
+use Rattle.shortlist.specs.Laws.Named.{isNamed, again, again-new, again-old, again-done, again-first}
+use Rattle.shortlist.specs.Laws.Bits.{bit-adds, bits-empty}
 use Rattle.shortlist.specs.declared.answer.Model.{Model}
 use Rattle.shortlist.specs.declared.state.Search.{Search}
 
@@ -38,10 +39,10 @@ follows-is s m = go (m .first .0) (s .first) (s .count)
     go a b c = less a b c (ltb a b) refl
 
 -- the list is bad from here on: it is to begin at an index, and some kinds have been named
-unfoldable badFrom : ℕ → List Bool → List Model → Bool
+unfoldable badFrom : ℕ → (ℕ → Bool) → List Model → Bool
 badFrom at named l = any empty l || (not (runsOnFrom at l) || (again named l || any noStructure l))
 
-bad-done : (at : ℕ) (named : List Bool) → badFrom at named [] ≡ false
+bad-done : (at : ℕ) (named : ℕ → Bool) → badFrom at named [] ≡ false
 unfolding badFrom any runsOnFrom
 bad-done at named = rw (again-done named)
 
@@ -54,48 +55,53 @@ unfolding kindIn
 small-kind m h = kind-below (m .voxels) (m .structure) (small-structure m h)
 
 -- what fails of one entry fails of the list, and else what follows tells
-module _ (s : Search) (m : Model) (l : List Model) (sized : length (s .named) ≡ 64) where
-  bad-here : badEntry s m ≡ true → badFrom (s .first + s .count) (s .named) (m ∷ l) ≡ true
+module _ (s : Search) (m : Model) (l : List Model) where
+  bad-here : badEntry s m ≡ true → badFrom (s .first + s .count) (bitSet (s .named)) (m ∷ l) ≡ true
   unfolding badFrom any runsOnFrom badEntry
   bad-here h =
-      by (noStructure m) (empty m) (follows s m) (getD (s .named) (kindIn m) false) refl refl (sym (follows-is s m)) refl h
+      by (noStructure m) (empty m) (follows s m) (bitSet (s .named) (kindIn m)) refl refl (sym (follows-is s m)) refl h
     where
       by : (a b c d : Bool) → noStructure m ≡ a → empty m ≡ b → eqb (m .first .0) (s .first + s .count) ≡ c
-          → getD (s .named) (kindIn m) false ≡ d → (a || (b || (not c || d))) ≡ true
+          → bitSet (s .named) (kindIn m) ≡ d → (a || (b || (not c || d))) ≡ true
           → ((empty m || any empty l)
           || (not (eqb (m .first .0) (s .first + s .count) && runsOnFrom (s .first + s .count + m .count) l)
-          || (again (s .named) (m ∷ l) || (noStructure m || any noStructure l)))) ≡ true
+          || (again (bitSet (s .named)) (m ∷ l) || (noStructure m || any noStructure l)))) ≡ true
       by a true c d p q u v h = rw q
       by a false false d p q u v h = rw (q, u) (or-true (any empty l))
       by a false true true p q u v h =
           rw (
-            again-old (s .named) m l v,
+            again-old (bitSet (s .named)) m l v,
             or-true (not (eqb (m .first .0) (s .first + s .count) && runsOnFrom (s .first + s .count + m
                 .count) l)),
           ) (or-true (empty m || any empty l))
       by true false true false p q u v h =
           rw (
             p,
-            or-true (again (s .named) (m ∷ l)),
+            or-true (again (bitSet (s .named)) (m ∷ l)),
             or-true (not (eqb (m .first .0) (s .first + s .count) && runsOnFrom (s .first + s
                 .count + m .count) l)),
           ) (or-true (empty m || any empty l))
       by false false true false p q u v h = both-ways h refl
 
   good-here : badEntry s m ≡ false
-      → badFrom (s .first + s .count) (s .named) (m ∷ l) ≡ badFrom (m .first .0 + m .count) (set (s .named) (kindIn m) true) l
+      → badFrom (s .first + s .count) (bitSet (s .named)) (m ∷ l) ≡ badFrom (m .first .0 + m .count) (bitSet (s .named + 2 ^ kindIn m)) l
   unfolding badFrom any runsOnFrom badEntry
   good-here h =
-      let st = or-left (noStructure m) (empty m || (not (follows s m) || getD (s .named) (kindIn m) false)) h in
-      let h₁ = or-right (noStructure m) (empty m || (not (follows s m) || getD (s .named) (kindIn m) false)) h in
-      let em = or-left (empty m) (not (follows s m) || getD (s .named) (kindIn m) false) h₁ in
-      let h₂ = or-right (empty m) (not (follows s m) || getD (s .named) (kindIn m) false) h₁ in
-      let fo = or-left (not (follows s m)) (getD (s .named) (kindIn m) false) h₂ in
-      let new = or-right (not (follows s m)) (getD (s .named) (kindIn m) false) h₂ in
+      let st = or-left (noStructure m) (empty m || (not (follows s m) || bitSet (s .named) (kindIn m))) h in
+      let h₁ = or-right (noStructure m) (empty m || (not (follows s m) || bitSet (s .named) (kindIn m))) h in
+      let em = or-left (empty m) (not (follows s m) || bitSet (s .named) (kindIn m)) h₁ in
+      let h₂ = or-right (empty m) (not (follows s m) || bitSet (s .named) (kindIn m)) h₁ in
+      let fo = or-left (not (follows s m)) (bitSet (s .named) (kindIn m)) h₂ in
+      let new = or-right (not (follows s m)) (bitSet (s .named) (kindIn m)) h₂ in
       let at : eqb (m .first .0) (s .first + s .count) ≡ true = sym (follows-is s m) ∙ not-false (follows s m) fo in
       let e : s .first + s .count ≡ m .first .0 = sym (eqb-true (m .first .0) (s .first + s .count) at) in
-      let k : kindIn m < length (s .named) = omega (arith, small-kind m st, sized) in
-      rw (em, at, st, again-new (s .named) m l k new, e)
+      let on = again-new (bitSet (s .named)) (bitSet (s .named + 2 ^ kindIn m)) m l (bit-adds (s .named) (kindIn m) new) new in
+      rw (em, at, st, on, e)
+
+-- the kind of an entry that is not bad is new
+fresh-entry : (s : Search) (m : Model) → badEntry s m ≡ false → bitSet (s .named) (kindIn m) ≡ false
+unfolding badEntry
+fresh-entry s m h = or-right (not (follows s m)) _ (or-right (empty m) _ (or-right (noStructure m) _ h))
 
 -- ---- The whole list.
 
@@ -115,20 +121,28 @@ next-good : (s : Search) (m : Model) → s .bad ≡ false → badEntry s m ≡ f
 unfolding nextOf
 next-good s m g h = ap (λ b. cond b (spoilt s) (taken s m)) (or-neither g h)
 
+-- how many records there are is not changed
+pub asked : (s : Search) (l : List Model) → (folded nextOf s l) .most ≡ s .most
+unfolding nextOf taken
+asked s [] = refl
+asked s (m ∷ l) = asked (nextOf s m) l ∙ one (s .bad || badEntry s m)
+  where
+    one : (b : Bool) → (cond b (spoilt s) (taken s m)) .most ≡ s .most
+    one true = refl
+    one false = refl
+
 -- whether the list is bad
-seen-bad : (s : Search) (l : List Model) → length (s .named) ≡ 64 → s .bad ≡ false
-    → (folded nextOf s l) .bad ≡ badFrom (s .first + s .count) (s .named) l
+seen-bad : (s : Search) (l : List Model) → s .bad ≡ false
+    → (folded nextOf s l) .bad ≡ badFrom (s .first + s .count) (bitSet (s .named)) l
 unfolding taken
-seen-bad s [] z g = g ∙ sym (bad-done (s .first + s .count) (s .named))
-seen-bad s (m ∷ l) z g =
-    by (badEntry s m) refl
-    (seen-bad (taken s m) l (length-set (s .named) (kindIn m) true ∙ z) g)
+seen-bad s [] g = g ∙ sym (bad-done (s .first + s .count) (bitSet (s .named)))
+seen-bad s (m ∷ l) g = by (badEntry s m) refl (seen-bad (taken s m) l g)
   where
     by : (b : Bool) → badEntry s m ≡ b
-        → (folded nextOf (taken s m) l) .bad ≡ badFrom (m .first .0 + m .count) (set (s .named) (kindIn m) true) l
-        → (folded nextOf (nextOf s m) l) .bad ≡ badFrom (s .first + s .count) (s .named) (m ∷ l)
-    by true e ih = stays-bad (nextOf s m) l (next-bad s m e) ∙ sym (bad-here s m l z e)
-    by false e ih = ap (λ t. (folded nextOf t l) .bad) (next-good s m g e) ∙ ih ∙ sym (good-here s m l z e)
+        → (folded nextOf (taken s m) l) .bad ≡ badFrom (m .first .0 + m .count) (bitSet (s .named + 2 ^ kindIn m)) l
+        → (folded nextOf (nextOf s m) l) .bad ≡ badFrom (s .first + s .count) (bitSet (s .named)) (m ∷ l)
+    by true e ih = stays-bad (nextOf s m) l (next-bad s m e) ∙ sym (bad-here s m l e)
+    by false e ih = ap (λ t. (folded nextOf t l) .bad) (next-good s m g e) ∙ ih ∙ sym (good-here s m l e)
 
 -- the first that passes
 pub the-cons : (p : Model → Bool) (m : Model) (l : List Model) → the p (m ∷ l) ≡ cond (p m) m (the p l)
@@ -139,125 +153,139 @@ the-cons p m l = by (p m)
     by true = refl
     by false = refl
 
+-- where none passes, it is the one of no indices
+the-or : (f : Model → ℕ) (p : Model → Bool) (l : List Model) → f noModel ≡ 0 → cond (any p l) (f (the p l)) 0 ≡ f (the p l)
+unfolding any the those
+the-or f p [] z = sym z
+the-or f p (m ∷ l) z = by (p m) (the-or f p l z)
+  where
+    by : (b : Bool) → cond (any p l) (f (the p l)) 0 ≡ f (the p l)
+        → cond (b || any p l) (f (getD (cond b (m ∷ those p l) (those p l)) 0 noModel)) 0
+        ≡ f (getD (cond b (m ∷ those p l) (those p l)) 0 noModel)
+    by true e = refl
+    by false e = e
+
+-- of the entries that pass, where the first is alone the last that was noted is the first
+last-first : (p : Model → Bool) (f : Model → ℕ) (m : Model) (l : List Model) (x : ℕ) → (p m ≡ true → any p l ≡ false)
+    → cond (any p l) (f (the p l)) (cond (p m) (f m) x) ≡ cond (p m || any p l) (f (the p (m ∷ l))) x
+last-first p f m l x alone =
+    by (p m) (any p l) alone ∙ ap (λ n. cond (p m || any p l) (f n) x) (sym (the-cons p m l))
+  where
+    by : (a b : Bool) → (a ≡ true → b ≡ false)
+        → cond b (f (the p l)) (cond a (f m) x) ≡ cond (a || b) (f (cond a m (the p l))) x
+    by true true h = both-ways refl (h refl)
+    by true false h = refl
+    by false b h = refl
+
+-- what lies before the list is in none of its ranges
+before-all : (n at : ℕ) (l : List Model) → runsOnFrom at l ≡ true → n < at → any (holdsIndex n) l ≡ false
+unfolding runsOnFrom any holdsIndex
+before-all n at [] h u = refl
+before-all n at (m ∷ l) h u =
+    let (p, q) = and-halves (eqb (m .first .0) at) (runsOnFrom (at + m .count) l) h in
+    let e = eqb-true (m .first .0) at p in
+    or-neither (ap (λ t. t && ltb n (m .first .0 + m .count)) (lt-leb (m .first .0) n (omega arith)))
+    (before-all n (at + m .count) l q (omega arith))
+
+-- an index that the entry holds is held by no later one
+held-once : (n : ℕ) (m : Model) (l : List Model) → runsOnFrom (m .first .0 + m .count) l ≡ true → holdsIndex n m ≡ true
+    → any (holdsIndex n) l ≡ false
+unfolding holdsIndex
+held-once n m l h k =
+    before-all n (m .first .0 + m .count) l h
+    (ltb-true n (m .first .0 + m .count) (and-right (leb (m .first .0) n) (ltb n (m .first .0 + m .count)) k))
+
+-- a kind that has been named is named by no later entry
+kind-once : (named : ℕ → Bool) (k : ℕ) (l : List Model) → again named l ≡ false → named k ≡ true → any (ofKind k) l ≡ false
+unfolding again isNamed ofKind any
+kind-once named k l h e = go l (or-left (any (isNamed named) l) _ h)
+  where
+    one : (m : Model) → isNamed named m ≡ false → ofKind k m ≡ false
+    one m u = ne-eqb (kindIn m) k (λ z. both-ways e (ap named (sym z) ∙ u))
+
+    go : (l : List Model) → any (isNamed named) l ≡ false → any (ofKind k) l ≡ false
+    go [] u = refl
+    go (m ∷ l) u = or-neither (one m (or-left (isNamed named m) _ u)) (go l (or-right (isNamed named m) _ u))
+
 -- what else has been seen of a list that is not bad
 pub record Sees (s : Search) (l : List Model) (t : Search) : Type 0 where
-  pub past-is : t .past ≡ (s .past || any (pastEnd (s .most)) l)
-  pub held-is : t .held ≡ (s .held || any (holdsIndex (s .index)) l)
-  pub tells-is : t .tells ≡ cond (s .held) (s .tells) (kindIn (the (holdsIndex (s .index)) l))
-  pub from-is : t .from ≡ cond (ltb 0 (s .size)) (s .from) ((the (ofKind (s .kind)) l) .first .0)
-  pub size-is : t .size ≡ cond (ltb 0 (s .size)) (s .size) ((the (ofKind (s .kind)) l) .count)
+  pub past-is : ltb (s .most) (t .first + t .count) ≡ (ltb (s .most) (s .first + s .count) || any (pastEnd (s .most)) l)
+  pub tells-is : t .tells ≡ cond (any (holdsIndex (s .index)) l) (kindIn (the (holdsIndex (s .index)) l)) (s .tells)
+  pub from-is : t .from ≡ cond (any (ofKind (s .kind)) l) ((the (ofKind (s .kind)) l) .first .0) (s .from)
+  pub size-is : t .size ≡ cond (any (ofKind (s .kind)) l) ((the (ofKind (s .kind)) l) .count) (s .size)
 
-sees-none : (s : Search) → (s .held ≡ false → s .tells ≡ 0) → (ltb 0 (s .size) ≡ false → s .from ≡ 0) → Sees s [] s
-unfolding any the those kindIn kindNumber
-sees-none s p q = record {
-  past-is = sym (or-false (s .past));
-  held-is = sym (or-false (s .held));
-  tells-is = by (s .held) refl;
-  from-is = from (ltb 0 (s .size)) refl;
-  size-is = size (ltb 0 (s .size)) refl;
-}
-  where
-    by : (b : Bool) → s .held ≡ b → s .tells ≡ cond b (s .tells) 0
-    by true e = refl
-    by false e = p e
-
-    from : (b : Bool) → ltb 0 (s .size) ≡ b → s .from ≡ cond b (s .from) 0
-    from true e = refl
-    from false e = q e
-
-    size : (b : Bool) → ltb 0 (s .size) ≡ b → s .size ≡ cond b (s .size) 0
-    size true e = refl
-    size false e = let u = ltb-false 0 (s .size) e in omega arith
+sees-none : (s : Search) → Sees s [] s
+unfolding any
+sees-none s = record { past-is = sym (or-false (ltb (s .most) (s .first + s .count))); tells-is = refl; from-is = refl; size-is = refl }
 
 -- one entry before those seen
-module _ (s : Search) (m : Model) (l : List Model) (t : Search) (counts : empty m ≡ false) (h : Sees (taken s m) l t) where
-  full : ltb 0 (m .count) ≡ true
-  unfolding empty
-  full = let z = eqb-false (m .count) 0 counts in lt-ltb 0 (m .count) (omega arith)
+module _ (s : Search) (m : Model) (l : List Model) (t : Search) (good : badEntry s m ≡ false)
+    (later : badFrom (m .first .0 + m .count) (bitSet (s .named + 2 ^ kindIn m)) l ≡ false) (h : Sees (taken s m) l t) where
+  begins : m .first .0 ≡ s .first + s .count
+  unfolding badEntry
+  begins =
+      eqb-true (m .first .0) (s .first + s .count) (sym (follows-is s m) ∙ not-false (follows s m)
+      (or-left (not (follows s m)) _ (or-right (empty m) _ (or-right (noStructure m) _ good))))
+
+  runs-on : runsOnFrom (m .first .0 + m .count) l ≡ true
+  unfolding badFrom
+  runs-on = not-false _ (or-left (not (runsOnFrom (m .first .0 + m .count) l)) _ (or-right (any empty l) _ later))
+
+  not-again : again (bitSet (s .named + 2 ^ kindIn m)) l ≡ false
+  unfolding badFrom
+  not-again =
+      or-left (again (bitSet (s .named + 2 ^ kindIn m)) l) _
+      (or-right (not (runsOnFrom (m .first .0 + m .count) l)) _ (or-right (any empty l) _ later))
+
+  own-once : ofKind (s .kind) m ≡ true → any (ofKind (s .kind)) l ≡ false
+  unfolding ofKind
+  own-once e =
+      let k : kindIn m ≡ s .kind = eqb-true (kindIn m) (s .kind) e in
+      kind-once (bitSet (s .named + 2 ^ kindIn m)) (s .kind) l not-again
+      (ap (bitSet (s .named + 2 ^ kindIn m)) (sym k)
+      ∙ bit-adds (s .named) (kindIn m) (fresh-entry s m good) (kindIn m)
+      ∙ or-first (eqb (kindIn m) (kindIn m)) _ (eq-eqb (kindIn m) (kindIn m) refl))
+
+  more-past : (ltb (s .most) (m .first .0 + m .count) || any (pastEnd (s .most)) l)
+      ≡ (ltb (s .most) (s .first + s .count) || (ltb (s .most) (m .first .0 + m .count) || any (pastEnd (s .most)) l))
+  more-past = by (ltb (s .most) (s .first + s .count)) refl
+    where
+      by : (a : Bool) → ltb (s .most) (s .first + s .count) ≡ a
+          → (ltb (s .most) (m .first .0 + m .count) || any (pastEnd (s .most)) l)
+          ≡ (a || (ltb (s .most) (m .first .0 + m .count) || any (pastEnd (s .most)) l))
+      by true e =
+          let u = ltb-true (s .most) (s .first + s .count) e in
+          or-first (ltb (s .most) (m .first .0 + m .count)) _ (lt-ltb (s .most) (m .first .0 + m .count) (omega (arith, begins)))
+      by false e = refl
 
   sees-more : Sees s (m ∷ l) t
-  unfolding taken any
+  unfolding taken any pastEnd
   sees-more = record {
-    past-is = h .past-is ∙ sym (or-assoc (s .past) (pastEnd (s .most) m) (any (pastEnd (s .most)) l));
-    held-is = h .held-is ∙ sym (or-assoc (s .held) (holdsIndex (s .index) m) (any (holdsIndex (s .index)) l));
-    tells-is =
-        h .tells-is ∙ tells (s .held) (holdsIndex (s .index) m) (the (holdsIndex (s .index)) l)
-        ∙ ap (λ n. cond (s .held) (s .tells) (kindIn n)) (sym (the-cons (holdsIndex (s .index)) m l));
-    from-is =
-        h .from-is ∙ from (ltb 0 (s .size)) (ofKind (s .kind) m) refl (the (ofKind (s .kind)) l)
-        ∙ ap (λ n. cond (ltb 0 (s .size)) (s .from) (n .first .0)) (sym (the-cons (ofKind (s .kind)) m l));
-    size-is =
-        h .size-is ∙ size (ltb 0 (s .size)) (ofKind (s .kind) m) refl (the (ofKind (s .kind)) l)
-        ∙ ap (λ n. cond (ltb 0 (s .size)) (s .size) (n .count)) (sym (the-cons (ofKind (s .kind)) m l));
+    past-is = h .past-is ∙ more-past;
+    tells-is = h .tells-is ∙ last-first (holdsIndex (s .index)) kindIn m l (s .tells) (held-once (s .index) m l runs-on);
+    from-is = h .from-is ∙ last-first (ofKind (s .kind)) (λ n. n .first .0) m l (s .from) own-once;
+    size-is = h .size-is ∙ last-first (ofKind (s .kind)) (λ n. n .count) m l (s .size) own-once;
   }
-    where
-      tells : (a b : Bool) (n : Model) → cond (a || b) (cond a (s .tells) (cond b (kindIn m) 0)) (kindIn n)
-          ≡ cond a (s .tells) (kindIn (cond b m n))
-      tells true b n = refl
-      tells false true n = refl
-      tells false false n = refl
-
-      from : (a b : Bool) → ltb 0 (s .size) ≡ a → (n : Model)
-          → cond (ltb 0 (cond a (s .size) (cond b (m .count) 0))) (cond a (s .from) (cond b (m .first .0) 0)) (n .first .0)
-          ≡ cond a (s .from) ((cond b m n) .first .0)
-      from true b e n = rw e
-      from false true e n = rw full
-      from false false e n = refl
-
-      size : (a b : Bool) → ltb 0 (s .size) ≡ a → (n : Model)
-          → cond (ltb 0 (cond a (s .size) (cond b (m .count) 0))) (cond a (s .size) (cond b (m .count) 0)) (n .count)
-          ≡ cond a (s .size) ((cond b m n) .count)
-      size true b e n = rw e
-      size false true e n = rw full
-      size false false e n = refl
-
--- nothing has been found yet, or what has been found counts
-record Fit (s : Search) : Type 0 where
-  unheld : s .held ≡ false → s .tells ≡ 0
-  unfound : ltb 0 (s .size) ≡ false → s .from ≡ 0
-
-fit-more : (s : Search) (m : Model) → empty m ≡ false → Fit s → Fit (taken s m)
-unfolding taken empty
-fit-more s m counts f = record {
-  unheld = tells (s .held) refl (holdsIndex (s .index) m);
-  unfound = from (ltb 0 (s .size)) refl (ofKind
-      (s .kind) m);
-}
-  where
-    tells : (a : Bool) → s .held ≡ a → (b : Bool) → (a || b) ≡ false → cond a (s .tells) (cond b (kindIn m) 0) ≡ 0
-    tells true e b h = both-ways refl h
-    tells false e true h = both-ways refl h
-    tells false e false h = refl
-
-    from : (a : Bool) → ltb 0 (s .size) ≡ a → (b : Bool) → ltb 0 (cond a (s .size) (cond b (m .count) 0)) ≡ false
-        → cond a (s .from) (cond b (m .first .0) 0) ≡ 0
-    from true e b h = both-ways e h
-    from false e true h = let z = eqb-false (m .count) 0 counts in both-ways (lt-ltb 0 (m .count) (omega arith)) h
-    from false e false h = refl
 
 taken-bad : (s : Search) (m : Model) → (taken s m) .bad ≡ s .bad
 unfolding taken
 taken-bad s m = refl
 
-full-entry : (s : Search) (m : Model) → badEntry s m ≡ false → empty m ≡ false
-unfolding badEntry
-full-entry s m h =
-    or-left (empty m) (not (follows s m) || getD (s .named) (kindIn m) false)
-    (or-right (noStructure m) (empty m || (not (follows s m) || getD (s .named) (kindIn m) false)) h)
-
-seen-all : (s : Search) (l : List Model) → s .bad ≡ false → Fit s → (folded nextOf s l) .bad ≡ false → Sees s l (folded nextOf s l)
-seen-all s [] g f h = sees-none s (f .unheld) (f .unfound)
-seen-all s (m ∷ l) g f h = by (badEntry s m) refl (λ c. seen-all (taken s m) l (taken-bad s m ∙ g) (fit-more s m c f))
+seen-all : (s : Search) (l : List Model) → s .bad ≡ false → (folded nextOf s l) .bad ≡ false → Sees s l (folded nextOf s l)
+unfolding taken kindIn
+seen-all s [] g h = sees-none s
+seen-all s (m ∷ l) g h = by (badEntry s m) refl (seen-all (taken s m) l (taken-bad s m ∙ g)) (seen-bad (taken s m) l (taken-bad s m ∙ g))
   where
     by : (b : Bool) → badEntry s m ≡ b
-        → (empty m ≡ false → (folded nextOf (taken s m) l) .bad ≡ false → Sees (taken s m) l (folded nextOf (taken s m) l))
+        → ((folded nextOf (taken s m) l) .bad ≡ false → Sees (taken s m) l (folded nextOf (taken s m) l))
+        → (folded nextOf (taken s m) l) .bad ≡ badFrom (m .first .0 + m .count) (bitSet (s .named + 2 ^ kindIn m)) l
         → Sees s (m ∷ l) (folded nextOf (nextOf s m) l)
-    by true e ih = both-ways (stays-bad (nextOf s m) l (next-bad s m e)) h
-    by false e ih =
+    by true e ih u = both-ways (stays-bad (nextOf s m) l (next-bad s m e)) h
+    by false e ih u =
         let n = next-good s m g e in
-        let c = full-entry s m e in
+        let c : (folded nextOf (taken s m) l) .bad ≡ false = ap (λ t. (folded nextOf t l) .bad) (sym n) ∙ h in
         subst (λ (t : Search). Sees s (m ∷ l) (folded nextOf t l)) (sym n)
-        (sees-more s m l (folded nextOf (taken s m) l) c (ih c (ap (λ t. (folded nextOf t l) .bad) (sym n) ∙ h)))
+        (sees-more s m l (folded nextOf (taken s m) l) e (sym u ∙ c) (ih c))
 
 -- ---- FROM THE BEGINNING.
 
@@ -268,11 +296,27 @@ module _ (n k most : ℕ) (l : List Model) where
   pub bad-is : last .bad ≡ badList l
   unfolding badFrom badList
   bad-is =
-      let e : again (replicate 64 false) l ≡ twoOf alike l = again-first 64 l in
-      seen-bad (begun n k most) l refl refl ∙ ap (λ t. any empty l || (not (runsOnFrom 0 l) || (t || any noStructure l))) e
+      let e : again (bitSet 0) l ≡ twoOf alike l = again-first (bitSet 0) l bits-empty in
+      seen-bad (begun n k most) l refl ∙ ap (λ t. any empty l || (not (runsOnFrom 0 l) || (t || any noStructure l))) e
 
-  pub seen-is : badList l ≡ false → Sees (begun n k most) l last
-  seen-is h = seen-all (begun n k most) l refl (record { unheld = λ e. refl; unfound = λ e. refl }) (bad-is ∙ h)
+  seen-is : badList l ≡ false → Sees (begun n k most) l last
+  seen-is h = seen-all (begun n k most) l refl (bad-is ∙ h)
+
+  module _ (h : badList l ≡ false) where
+    pub past-seen : ltb most (last .first + last .count) ≡ any (pastEnd most) l
+    past-seen = seen-is h .past-is ∙ ap (λ b. b || any (pastEnd most) l) (le-ltb most (0 + 0) (omega arith))
+
+    pub tells-one : any (holdsIndex n) l ≡ true → last .tells ≡ kindIn (the (holdsIndex n) l)
+    tells-one e = seen-is h .tells-is ∙ ap (λ b. cond b (kindIn (the (holdsIndex n) l)) 64) e
+
+    pub tells-none : any (holdsIndex n) l ≡ false → last .tells ≡ 64
+    tells-none e = seen-is h .tells-is ∙ ap (λ b. cond b (kindIn (the (holdsIndex n) l)) 64) e
+
+    pub from-seen : last .from ≡ (the (ofKind k) l) .first .0
+    from-seen = seen-is h .from-is ∙ the-or (λ m. m .first .0) (ofKind k) l refl
+
+    pub size-seen : last .size ≡ (the (ofKind k) l) .count
+    size-seen = seen-is h .size-is ∙ the-or (λ m. m .count) (ofKind k) l refl
 
 -- what no entry has, the one that is asked for has not
 pub the-has-not : (p q : Model → Bool) (l : List Model) → any q l ≡ false → q noModel ≡ false → q (the p l) ≡ false

@@ -20,8 +20,8 @@ use Rattle.records.specs.Record.{legalRecord}
 use Rattle.records.specs.Laws.Numbers.{eq?}
 use Rattle.shortlist.specs.Runs.{kindOf, kindIn, alike, alone, longer, runsOn, runsFrom, runs, comesBack}
 use Rattle.shortlist.specs.Made.{modelAt, refusedBy, withRun, Sized, RunEnd, RunsOf}
-use Rattle.shortlist.specs.Laws.Named.{again, again-new, again-old, again-done, again-first, flags, flags-more, flags-left}
-use Rattle.shortlist.specs.Laws.Named.{flags-none, flags-most}
+use Rattle.shortlist.specs.Laws.Named.{again, again-new, again-old, again-done, again-first, flagged, flag-adds, flags-empty}
+use Rattle.shortlist.specs.Laws.Named.{flags, flags-more, flags-left, flags-none, flags-most}
 use Rattle.shortlist.specs.Laws.Runs.{kind-small, piece, piece-kind, run-through, drop-all, table-snoc}
 use Rattle.shortlist.specs.declared.answer.Model.{Model}
 use Rattle.shortlist.specs.declared.state.Made.{Made}
@@ -31,7 +31,7 @@ pub record Walked (rs : List ℕ) (at : ℕ) (seen : List Bool) (made : Made) : 
   pub inside : at ≤ length rs
   pub legal-is : all legalRecord rs ≡ all legalRecord (drop at rs)
   pub runs-are : all legalRecord rs ≡ true → runs rs ≡ table (made .count) (modelAt made) ++ runsFrom at (drop at rs)
-  pub back-is : all legalRecord rs ≡ true → comesBack rs ≡ again seen (runsFrom at (drop at rs))
+  pub back-is : all legalRecord rs ≡ true → comesBack rs ≡ again (flagged seen) (runsFrom at (drop at rs))
   pub counted : flags seen ≡ made .count
   pub seen-64 : length seen ≡ 64
   pub sized : Sized made
@@ -49,7 +49,7 @@ walked-first rs = record {
   inside = omega arith;
   legal-is = refl;
   runs-are = λ h. refl;
-  back-is = λ h. sym (again-first 64 (runsFrom 0 rs));
+  back-is = λ h. sym (again-first (flagged (replicate 64 false)) (runsFrom 0 rs) (flags-empty 64));
   counted = flags-none 64;
   seen-64 = refl;
   sized = record { first-64 = refl; length-64 = refl; kind-64 = refl };
@@ -80,7 +80,7 @@ pub back : {rs : List ℕ} → all legalRecord rs ≡ true → comesBack rs ≡ 
 back h k = refused (sym (gives-first (passes (ap not h) (applies k)))) (λ z. omega arith)
 
 -- the kind of the first run has been named
-again-run : (seen : List Bool) (rs : List ℕ) (m : Model) → getD seen (kindIn m) false ≡ true → again seen (runsOn m rs) ≡ true
+again-run : (seen : ℕ → Bool) (rs : List ℕ) (m : Model) → seen (kindIn m) ≡ true → again seen (runsOn m rs) ≡ true
 unfolding runsOn kindIn
 again-run seen [] m e = again-old seen m [] e
 again-run seen (r ∷ rs) m e =
@@ -97,7 +97,7 @@ unfolding runsFrom kindIn kindOf
 named-here {rs} {at} {seen} w h e k =
     let good = w .legal-is ∙ k in
     let l = ap (runsFrom at) (drop-cons rs at 0 h) in
-    back good (w .back-is good ∙ ap (again seen) l ∙ again-run seen (drop (suc at) rs) (alone at (getD rs at 0)) e)
+    back good (w .back-is good ∙ ap (again (flagged seen)) l ∙ again-run (flagged seen) (drop (suc at) rs) (alone at (getD rs at 0)) e)
 
 pub illegal-behind : {rs : List ℕ} {at : ℕ} {seen : List Bool} {made : Made} → Walked rs at seen made
     → all legalRecord (drop at rs) ≡ false → RunsOf rs (refusedBy 16)
@@ -257,9 +257,11 @@ module _ {rs : List ℕ} {at k to : ℕ} {seen : List Bool} {made : Made} (w : W
     back-is = λ g.
         let p = piece-kind at (to - at) k small in
         let l = runsFrom to (drop to rs) in
-        let new : again seen (piece at (to - at) k ∷ l) ≡ again (set seen (kindIn (piece at (to - at) k)) true) l =
-        again-new seen (piece at (to - at) k) l (omega (arith, p, small, w .seen-64)) (ap (λ i. getD seen i false) p ∙ fresh) in
-        w .back-is g ∙ ap (again seen) (rest g) ∙ new ∙ ap (λ i. again (set seen i true) l) p;
+        let m : Model = piece at (to - at) k in
+        let new : again (flagged seen) (m ∷ l) ≡ again (flagged (set seen (kindIn m) true)) l =
+        again-new (flagged seen) (flagged (set seen (kindIn m) true)) m l (flag-adds seen (kindIn m) (omega (arith, p, small, w .seen-64)))
+        (ap (λ i. getD seen i false) p ∙ fresh) in
+        w .back-is g ∙ ap (again (flagged seen)) (rest g) ∙ new ∙ ap (λ i. again (flagged (set seen i true)) l) p;
     counted = flags-more seen k (omega (arith, small, w .seen-64)) fresh ∙ ap (λ n. n + 1) (w .counted);
     seen-64 = length-set seen k true ∙ w .seen-64;
     sized = more-sized made at (to - at) k (w .sized) room;
@@ -279,7 +281,7 @@ walked-last {rs} {at} {seen} {made} w h =
     let runs-are : runs rs ≡ table (made .count) (modelAt made) =
     w .runs-are good ∙ ap (λ l. table (made .count) (modelAt made) ++ runsFrom at l) none ∙ append-nil (table (made .count) (modelAt
     made)) in
-    let back-is : comesBack rs ≡ false = w .back-is good ∙ ap (λ l. again seen (runsFrom at l)) none ∙ again-done seen in
+    let back-is : comesBack rs ≡ false = w .back-is good ∙ ap (λ l. again (flagged seen) (runsFrom at l)) none ∙ again-done (flagged seen) in
     record {
       numbered = w .not-refused ∙ sym (gives-first (passes (ap not good) (passes back-is ends)));
       holding = λ z. sym runs-are;
