@@ -12,9 +12,11 @@ use Rattle.records.specs.declared.outcome.Outcome.{Outcome}
 use Rattle.shortlist.specs.Runs.{runs}
 use Rattle.shortlist.specs.Making.{listRefusal}
 use Rattle.shortlist.specs.Asking.{Tells, Seeks}
+use Rattle.shortlist.specs.Search.{nextOf, folded}
 use Rattle.shortlist.specs.declared.answer.Model.{Model}
 use Rattle.shortlist.specs.declared.answer.Told.{Told}
 use Rattle.shortlist.specs.declared.answer.Sought.{Sought}
+use Rattle.shortlist.specs.declared.state.Search.{Search}
 
 -- the numbers of a model, and of models in a row
 abbrev pub four : Model → List ℕ
@@ -43,6 +45,11 @@ goodNumbers l = eqb (length l % 4) 0 && allBelow (length l / 4) (λ i. leb (getD
 pub record ListsNumbers (rs before : List ℕ) (answer : Outcome) (after : List ℕ) : Type 0 where
   pub answers : answer ≡ outcome (listRefusal rs (length before / 4)) (length (runs rs))
   pub holds : after ≡ unless (answer .number) (wrote 0 (numbersOf (runs rs)) before) before
+
+-- asking, entry by entry: what has been seen of the models at the end; numbers that are no models are a bad list
+pub record Seen (l : List ℕ) (start end : Search) : Type 0 where
+  pub bad : goodNumbers l ≡ false → end .bad ≡ true
+  pub good : goodNumbers l ≡ true → end ≡ folded nextOf start (modelsIn l)
 
 -- asking: numbers that are no models are a bad list, and else what the models say
 pub record TellsNumbers (l : List ℕ) (n : ℕ) (answer : Told) : Type 0 where

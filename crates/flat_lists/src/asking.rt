@@ -10,12 +10,11 @@ use shortlisting::next;
 use shortlisting::sought;
 use shortlisting::told;
 ghost use mathlib.Core.Path.{_≡_};
-ghost use mathlib.Core.Bool.{cond};
+ghost use mathlib.Core.Bool.{true, cond};
 ghost use Prim.Native.Nat.{_+_, _*_, _<_, _≤_};
 ghost use lib.ListN.{length};
 ghost use Rattle.shortlist.specs.Asking.{toldNumber, toldVoxels, toldStructure, soughtNumber, soughtIndex};
-ghost use Rattle.shortlist.specs.Search.{nextOf, folded};
-ghost use Rattle.flat_lists.specs.Numbers.{modelIn, modelsIn, goodNumbers, TellsNumbers, SeeksNumbers};
+ghost use Rattle.flat_lists.specs.Numbers.{modelIn, Seen, TellsNumbers, SeeksNumbers};
 
 // The i-th model.
 fn model_in(list: &[u64], i: usize) -> Model
@@ -30,31 +29,32 @@ fn model_in(list: &[u64], i: usize) -> Model
     }
 }
 
-// Whole models, and no type above 1.
-fn good_numbers(list: &[u64]) -> bool
-    ensures { λ r. ⌜ r ≡ goodNumbers (now (list .entry)) ⌝ }
+// What has been seen, of a list that is bad.
+fn spoilt(seen: Search) -> Search
+    ensures { λ r. ⌜ r .bad ≡ true ⌝ }
 {
-    if list.len() % 4 != 0 {
-        return false;
-    }
-    let mut i = list.len() / 4;
-    while 0 < i {
-        i -= 1;
-        if 1 < list[4 * i + 2] {
-            return false;
-        }
-    }
-    true
+    let mut more = seen;
+    more.bad = true;
+    more
 }
 
-// All models, taken in turn.
+// All models, taken in turn, up to one that makes the list bad; numbers that are no models are a bad list.
 fn seen_numbers(list: &[u64], start: Search) -> Search
-    ensures { λ r. ⌜ r ≡ folded nextOf start (modelsIn (now (list .entry))) ⌝ }
+    ensures { λ r. ⌜ Seen (now (list .entry)) start r ⌝ }
 {
+    if list.len() % 4 != 0 {
+        return spoilt(start);
+    }
     let mut state = start;
     let mut i = 0;
     while i < list.len() / 4 {
+        if 1 < list[4 * i + 2] {
+            return spoilt(state);
+        }
         state = next(state, model_in(list, i));
+        if state.bad {
+            return state;
+        }
         i += 1;
     }
     state
@@ -64,9 +64,6 @@ fn seen_numbers(list: &[u64], start: Search) -> Search
 pub fn structure_in(list: &[u64], index: u64) -> Told
     ensures { λ r. ⌜ TellsNumbers (now (list .entry)) index r ⌝ }
 {
-    if !good_numbers(list) {
-        return Told::BadList;
-    }
     told(seen_numbers(list, begin(index, 0, 0)))
 }
 
@@ -74,9 +71,6 @@ pub fn structure_in(list: &[u64], index: u64) -> Told
 pub fn index_in(list: &[u64], records: &[u64], number: u64) -> Sought
     ensures { λ r. ⌜ SeeksNumbers (now (list .entry)) (now (records .entry)) number r ⌝ }
 {
-    if !good_numbers(list) {
-        return Sought::BadList;
-    }
     sought(
         records,
         seen_numbers(list, begin_record(number, records.len())),

@@ -9,8 +9,9 @@ use native.Mathlib.Numerals.{add-one}
 use lib.Dec.{eqb, leb, ltb}
 use lib.ListN.{length, getD, set, length-set}
 use borrow.Author.Tests.{le-leb, lt-leb, eq-eqb, ne-eqb, leb-true, leb-false, not-true, not-false}
-use Rattle.lists.specs.Lists.{allBelow, eachIn, each, table, countUp}
-use Rattle.lists.specs.Laws.Booleans.{both-ways}
+use Rattle.lists.specs.Lists.{any, allBelow, eachIn, each, table, countUp}
+use Rattle.lists.specs.Laws.Booleans.{and-right, and-both, both-ways}
+use Rattle.lists.specs.Quantifiers.{allBelow-iff}
 use Rattle.lists.specs.Laws.Tables.{up-one, up-done, up-all, size-of-table}
 use Rattle.records.specs.Fill.{wrote, wrote-none, wrote-one, wrote-on, length-wrote}
 use Rattle.records.specs.Outcome.{unless, outcome}
@@ -19,16 +20,19 @@ use Rattle.records.specs.declared.counters.Index.{Index}
 use Rattle.shortlist.specs.Runs.{runs, kindOf}
 use Rattle.shortlist.specs.Making.{listRefusal}
 use Rattle.shortlist.specs.Made.{modelAt, MadeOf}
+use Rattle.lists.specs.Refusals.{_when_, first}
+use Rattle.shortlist.specs.Asking.{isRecord}
 use Rattle.shortlist.specs.Asking.{toldNumber, toldVoxels, toldStructure, soughtNumber, soughtIndex}
-use Rattle.shortlist.specs.Search.{begun, nextOf, folded, toldOf, Finding}
+use Rattle.shortlist.specs.Search.{begun, nextOf, folded, toldOf, ownRecords, outside, Finding}
 use Rattle.shortlist.specs.Laws.Runs.{table-snoc}
+use Rattle.shortlist.specs.Laws.Entry.{next-stays}
 use Rattle.shortlist.specs.Laws.Answers.{tells-seen, seeks-seen}
 use Rattle.shortlist.specs.declared.answer.Model.{Model}
 use Rattle.shortlist.specs.declared.answer.Told.{Told}
 use Rattle.shortlist.specs.declared.answer.Sought.{Sought}
 use Rattle.shortlist.specs.declared.state.Made.{Made}
 use Rattle.shortlist.specs.declared.state.Search.{Search}
-use Rattle.flat_lists.specs.Numbers.{four, numbersOf, modelIn, modelsIn, goodNumbers, ListsNumbers, TellsNumbers, SeeksNumbers}
+use Rattle.flat_lists.specs.Numbers.{four, numbersOf, modelIn, modelsIn, goodNumbers, Seen, ListsNumbers, TellsNumbers, SeeksNumbers}
 
 -- ---- Asking.
 
@@ -36,80 +40,125 @@ use Rattle.flat_lists.specs.Numbers.{four, numbersOf, modelIn, modelsIn,
 unfoldable pub from-here : List ℕ → Search → ℕ → Search
 from-here l s i = folded nextOf s (countUp (modelIn l) i (length l / 4 - i))
 
-pub seen-next : (l : List ℕ) (u s t : Search) (m : Model) (i : ℕ) → from-here l u 0 ≡ from-here l s i → i < length l / 4 → m ≡ modelIn l i
+seen-next : (l : List ℕ) (u s t : Search) (m : Model) (i : ℕ) → from-here l u 0 ≡ from-here l s i → i < length l / 4 → m ≡ modelIn l i
     → t ≡ nextOf s m → from-here l u 0 ≡ from-here l t (i + 1)
 unfolding from-here
 seen-next l u s t m i w h e f =
     w ∙ ap (folded nextOf s) (up-one (modelIn l) i (length l / 4) h)
     ∙ sym (ap (λ u. folded nextOf u (countUp (modelIn l) (i + 1) (length l / 4 - (i + 1)))) (f ∙ ap (nextOf s) e))
 
-pub seen-last : (l : List ℕ) (u s : Search) (i : ℕ) → from-here l u 0 ≡ from-here l s i → length l / 4 ≤ i
-    → s ≡ folded nextOf u (modelsIn l)
-unfolding from-here modelsIn
-seen-last l u s i w h =
-    sym (ap (folded nextOf s) (up-done (modelIn l) i (length l / 4) h)) ∙ sym w ∙ ap (folded nextOf u) (up-all (modelIn l) (length l / 4))
+-- a bad list stays as it is
+stays : (s : Search) (l : List Model) → s .bad ≡ true → folded nextOf s l ≡ s
+stays s [] h = refl
+stays s (m ∷ l) h =
+    let e : s ≡ nextOf s m = next-stays s m h in
+    ap (λ t. folded nextOf t l) (sym e) ∙ stays s l h
 
-pub ruleset turning = (seen-next, seen-last)
-
--- whole models, and no type above 1
-small : List ℕ → ℕ → Bool
+-- no type above 1 among the first
+abbrev small : List ℕ → ℕ → Bool
 small l i = leb (getD l (4 * i + 2) 0) 1
 
-pub smallTo : List ℕ → ℕ → Bool
-smallTo l i = allBelow i (small l)
+pub record Taken (l : List ℕ) (u s : Search) (i : ℕ) : Type 0 where
+  pub whole : length l % 4 ≡ 0
+  pub inside : i ≤ length l / 4
+  pub states : from-here l u 0 ≡ from-here l s i
+  pub types : allBelow i (small l) ≡ true
 
-pub types-odd : (l : List ℕ) → (length l % 4 ≡ 0 → ⊥) → false ≡ goodNumbers l
+pub taken-none : (l : List ℕ) (u : Search) → length l % 4 ≡ 0 → Taken l u u 0
+unfolding allBelow
+taken-none l u h = record { whole = h; inside = omega arith; states = refl; types = refl }
+
+pub not-whole : (l : List ℕ) (u r : Search) → (length l % 4 ≡ 0 → ⊥) → r .bad ≡ true → Seen l u r
 unfolding goodNumbers
-types-odd l h = sym (ap (λ b. b && allBelow (length l / 4) (λ i. leb (getD l (4 * i + 2) 0) 1)) (ne-eqb (length l % 4) 0 h))
+not-whole l u r h b = record {
+  bad = λ _. b;
+  good = λ g. both-ways g (ap (λ t. t && allBelow (length l / 4) (λ i. leb (getD l (4 * i + 2) 0) 1)) (ne-eqb (length l % 4) 0 h));
+}
 
-pub types-start : (l : List ℕ) → length l % 4 ≡ 0 → goodNumbers l ≡ smallTo l (length l / 4)
-unfolding goodNumbers small smallTo
-types-start l h = ap (λ b. b && allBelow (length l / 4) (λ i. leb (getD l (4 * i + 2) 0) 1)) (eq-eqb (length l % 4) 0 h)
+module _ {l : List ℕ} {u s : Search} {i : ℕ} (t : Taken l u s i) where
+  pub type-above : (r : Search) → i < length l / 4 → 1 < getD l (4 * i + 2) 0 → r .bad ≡ true → Seen l u r
+  unfolding goodNumbers
+  type-above r h k b = record {
+    bad = λ _. b;
+    good = λ g.
+        let all = and-right (eqb (length l % 4) 0) (allBelow (length l / 4) (λ i. leb (getD l (4 * i + 2) 0) 1)) g in
+        both-ways (allBelow-iff (length l / 4) (λ i. leb (getD l (4 * i + 2) 0) 1) .0 all i h) (lt-leb (getD l (4 * i + 2) 0) 1 k);
+  }
 
-below-one : (l : List ℕ) (i : ℕ) → 0 < i → smallTo l i ≡ (small l (i - 1) && smallTo l (i - 1))
-unfolding smallTo allBelow
-below-one l i h = let e : i ≡ suc (i - 1) = omega arith in ap (λ n. allBelow n (small l)) e
+  module _ (m : Model) (v : Search) (h : i < length l / 4) (e : m ≡ modelIn l i) (f : v ≡ nextOf s m) where
+    on : from-here l u 0 ≡ from-here l v (i + 1)
+    on = seen-next l u s v m i (t .states) h e f
 
-pub types-no : (l : List ℕ) (i : ℕ) → goodNumbers l ≡ smallTo l i → 0 < i → 1 < getD l (4 * (i - 1) + 2) 0 → false ≡ goodNumbers l
-unfolding small
-types-no l i e h k = sym (e ∙ below-one l i h ∙ ap (λ b. b && smallTo l (i - 1)) (lt-leb (getD l (4 * (i - 1) + 2) 0) 1 k))
+    pub list-spoilt : v .bad ≡ true → Seen l u v
+    unfolding from-here modelsIn
+    list-spoilt b = record {
+      bad = λ _. b;
+      good = λ _. sym (ap (folded nextOf u) (sym (up-all (modelIn l) (length l / 4))) ∙ on
+          ∙ stays v (countUp (modelIn l) (i + 1) (length l / 4 - (i + 1))) b);
+    }
 
-pub types-on : (l : List ℕ) (i : ℕ) → goodNumbers l ≡ smallTo l i → 0 < i → getD l (4 * (i - 1) + 2) 0 ≤ 1
-    → goodNumbers l ≡ smallTo l (i - 1)
-unfolding small
-types-on l i e h k = e ∙ below-one l i h ∙ ap (λ b. b && smallTo l (i - 1)) (le-leb (getD l (4 * (i - 1) + 2) 0) 1 k)
+    pub taken-one : getD l (4 * i + 2) 0 ≤ 1 → Taken l u v (i + 1)
+    unfolding allBelow
+    taken-one k = record {
+      whole = t .whole;
+      inside = omega arith;
+      states = on;
+      types = ap (λ n. allBelow n (small l)) (add-one i) ∙ and-both (le-leb (getD l (4 * i + 2) 0) 1 k) (t .types);
+    }
 
-pub types-all : (l : List ℕ) (i : ℕ) → goodNumbers l ≡ smallTo l i → i ≤ 0 → true ≡ goodNumbers l
-unfolding smallTo allBelow
-types-all l i e h = let z : i ≡ 0 = omega arith in sym (e ∙ ap (λ n. allBelow n (small l)) z)
-
-pub ruleset typing = (types-odd, types-start, types-no, types-on, types-all)
+  pub taken-all : length l / 4 ≤ i → Seen l u s
+  unfolding from-here modelsIn goodNumbers
+  taken-all h =
+      let n : i ≡ length l / 4 = omega (arith, t .inside) in
+      let all : allBelow (length l / 4) (small l) ≡ true = ap (λ k. allBelow k (small l)) (sym n) ∙ t .types in
+      record {
+        bad = λ z. both-ways (and-both (eq-eqb (length l % 4) 0 (t .whole)) all) z;
+        good = λ _.
+            sym (ap (folded nextOf s) (up-done (modelIn l) i (length l / 4) h)) ∙ sym (t .states)
+            ∙ ap (folded nextOf u) (up-all (modelIn l) (length l / 4));
+      }
 
 -- ---- What is answered.
 
+bad-told : (s : Search) → s .bad ≡ true → toldOf s ≡ Told.BadList
+unfolding toldOf
+bad-told s h = ap (λ b. cond b Told.BadList (cond (ltb (s .tells) 64) (Told.Is (leb 32 (s .tells)) (s .tells % 32)) Told.Nothing)) h
+
+bad-sought : (rs : List ℕ) (s : Search) (x : ℕ) (answer : Sought) → s .bad ≡ true → Finding rs s x answer → answer ≡ Sought.BadList
+unfolding outside first soughtNumber
+bad-sought rs s x answer h f = only answer (f .numbered ∙ ap (λ b. refusal ((b || past) || far)) h)
+  where
+    past : Bool
+    past = ltb (s .most) (s .first + s .count)
+
+    far : Bool
+    far = ltb (length rs) (s .from + s .size)
+
+    refusal : Bool → ℕ
+    refusal b = first (26 when b ∷ 19 when not (isRecord x && any (eqb x) (ownRecords s rs)) ∷ [])
+
+    only : (a : Sought) → soughtNumber a ≡ 26 → a ≡ Sought.BadList
+    only (Sought.At n) e = absurd (omega arith)
+    only Sought.BadList e = refl
+    only Sought.Nowhere e = absurd (omega arith)
+
 module _ (l : List ℕ) where
-  pub tells-bad : (n : ℕ) (b : Bool) → b ≡ goodNumbers l → not b ≡ true → TellsNumbers l n Told.BadList
-  tells-bad n b p q = record { bad = λ h. refl; good = λ h. both-ways h (sym p ∙ not-true b q) }
-
-  pub tells-good : (n : ℕ) (b : Bool) (s t : Search) (answer : Told) → b ≡ goodNumbers l → not b ≡ false → s ≡ begun n 0 0
-      → t ≡ folded nextOf s (modelsIn l) → answer ≡ toldOf t → TellsNumbers l n answer
-  tells-good n b s t answer p q e f g = record {
-    bad = λ h. both-ways (sym p ∙ not-false b q) h;
-    good = λ h. tells-seen (modelsIn l) n 0 0 answer (g ∙ ap toldOf (f ∙ ap (λ u. folded nextOf u (modelsIn l)) e));
+  pub tells-seen-numbers : (n : ℕ) (s t : Search) (answer : Told) → s ≡ begun n 0 0 → Seen l s t → answer ≡ toldOf t
+      → TellsNumbers l n answer
+  tells-seen-numbers n s t answer e w g = record {
+    bad = λ h. g ∙ bad-told t (w .bad h);
+    good = λ h. tells-seen (modelsIn l) n 0 0 answer (g ∙ ap toldOf (w .good h ∙ ap (λ u. folded nextOf u (modelsIn l)) e));
   }
 
-  pub seeks-bad : (rs : List ℕ) (x : ℕ) (b : Bool) → b ≡ goodNumbers l → not b ≡ true → SeeksNumbers l rs x Sought.BadList
-  seeks-bad rs x b p q = record { bad = λ h. refl; good = λ h. both-ways h (sym p ∙ not-true b q) }
-
-  pub seeks-good : (rs : List ℕ) (x : ℕ) (b : Bool) (s t : Search) (answer : Sought) → b ≡ goodNumbers l → not b ≡ false
-      → s ≡ begun 0 (kindOf x) (length rs) → t ≡ folded nextOf s (modelsIn l) → Finding rs t x answer → SeeksNumbers l rs x answer
-  seeks-good rs x b s t answer p q e f g = record {
-    bad = λ h. both-ways (sym p ∙ not-false b q) h;
+  pub seeks-seen-numbers : (rs : List ℕ) (x : ℕ) (s t : Search) (answer : Sought) → s ≡ begun 0 (kindOf x) (length rs) → Seen l s t
+      → Finding rs t x answer → SeeksNumbers l rs x answer
+  seeks-seen-numbers rs x s t answer e w g = record {
+    bad = λ h. bad-sought rs t x answer (w .bad h) g;
     good = λ h. seeks-seen (modelsIn l) rs x answer
-        (subst (λ (u : Search). Finding rs u x answer) (f ∙ ap (λ u. folded nextOf u (modelsIn l)) e) g);
+        (subst (λ (u : Search). Finding rs u x answer) (w .good h ∙ ap (λ u. folded nextOf u (modelsIn l)) e) g);
   }
 
-pub ruleset asking = (tells-bad, tells-good, seeks-bad, seeks-good)
+pub ruleset asking = (tells-seen-numbers, seeks-seen-numbers)
 
 -- numbers of an answer
 module _ (a : Told) where

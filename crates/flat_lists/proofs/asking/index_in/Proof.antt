@@ -6,42 +6,26 @@ use Rattle.flat_lists.proofs.asking.index_in.Statement.{statement}
 use Rattle.flat_lists.proofs.asking.index_in.Tie as tie
 use Rattle.flat_lists.proofs.asking.index_in.Reads as reads
 use Rattle.flat_lists.proofs.asking.index_in.Lts as lts
-use Rattle.flat_lists.proofs.asking.good_numbers.Reads as good-numbers-reads
 use Rattle.flat_lists.proofs.asking.seen_numbers.Reads as seen-numbers-reads
 use Rattle.shortlisting.proofs.begin_record.Reads as begin-record-reads
 use Rattle.shortlisting.proofs.sought.Reads as sought-reads
 
--- src/asking.rt:77:9
-good-numbers-requires : tie.Need-good-numbers-requires
-good-numbers-requires c κs = search needs
-
--- src/asking.rt:78:9
-returns : tie.Need-returns
-returns c = search asking
-
--- src/asking.rt:80:40
+-- src/asking.rt:76:28
 begin-record-requires : tie.Need-begin-record-requires
 begin-record-requires c κs = search needs
 
--- src/asking.rt:80:21
+-- src/asking.rt:76:9
 seen-numbers-requires : tie.Need-seen-numbers-requires
 seen-numbers-requires c κs = search needs
 
--- src/asking.rt:80:5
+-- src/asking.rt:74:5
 sought-requires : tie.Need-sought-requires
 sought-requires c κs = search needs
 
--- src/asking.rt:74:1
-returns-2 : tie.Need-returns-2
-returns-2 c = search asking
+-- src/asking.rt:71:1
+returns : tie.Need-returns
+returns c = search asking
 
 pub index-in-spec : {M : Type 1} → statement M
 index-in-spec =
-    tie.close
-    (tie.spec
-    good-numbers-requires
-    returns
-    begin-record-requires
-    seen-numbers-requires
-    sought-requires
-    returns-2)
+    tie.close (tie.spec begin-record-requires seen-numbers-requires sought-requires returns)

@@ -6,42 +6,25 @@ use Rattle.flat_lists.proofs.asking.structure_in.Statement.{statement}
 use Rattle.flat_lists.proofs.asking.structure_in.Tie as tie
 use Rattle.flat_lists.proofs.asking.structure_in.Reads as reads
 use Rattle.flat_lists.proofs.asking.structure_in.Lts as lts
-use Rattle.flat_lists.proofs.asking.good_numbers.Reads as good-numbers-reads
 use Rattle.flat_lists.proofs.asking.seen_numbers.Reads as seen-numbers-reads
 use Rattle.shortlisting.proofs.begin.Reads as begin-reads
 use Rattle.shortlisting.proofs.told.Reads as told-reads
 
--- src/asking.rt:67:9
-good-numbers-requires : tie.Need-good-numbers-requires
-good-numbers-requires c κs = search needs
-
--- src/asking.rt:68:9
-returns : tie.Need-returns
-returns c = search asking
-
--- src/asking.rt:70:29
+-- src/asking.rt:67:29
 begin-requires : tie.Need-begin-requires
 begin-requires c κs = search needs
 
--- src/asking.rt:70:10
+-- src/asking.rt:67:10
 seen-numbers-requires : tie.Need-seen-numbers-requires
 seen-numbers-requires c κs = search needs
 
--- src/asking.rt:70:5
+-- src/asking.rt:67:5
 told-requires : tie.Need-told-requires
 told-requires c κs = search needs
 
 -- src/asking.rt:64:1
-returns-2 : tie.Need-returns-2
-returns-2 c = search asking
+returns : tie.Need-returns
+returns c = search asking
 
 pub structure-in-spec : {M : Type 1} → statement M
-structure-in-spec =
-    tie.close
-    (tie.spec
-    good-numbers-requires
-    returns
-    begin-requires
-    seen-numbers-requires
-    told-requires
-    returns-2)
+structure-in-spec = tie.close (tie.spec begin-requires seen-numbers-requires told-requires returns)
