@@ -69,7 +69,8 @@ module _ (l : List Model) (n : ℕ) where
   told-is h k p q = record { numbered = sym (gives-first (passes h (passes (ap not k) ends))); voxels = p; structure = q }
 
   told-by : (c : Bool) → c ≡ badList l → (h : Bool) → (badList l ≡ false → h ≡ any (holdsIndex n) l) → (t : ℕ)
-      → (badList l ≡ false → any (holdsIndex n) l ≡ true → t ≡ kindIn holder) → Tells l n (cond c Told.BadList (cond h (Told.Is (leb 32 t) (t % 32)) Told.Nothing))
+      → (badList l ≡ false → any (holdsIndex n) l ≡ true → t ≡ kindIn holder)
+      → Tells l n (cond c Told.BadList (cond h (Told.Is (leb 32 t) (t % 32)) Told.Nothing))
   told-by true c h a t b = told-bad (sym c)
   told-by false c true a t b =
       let good = sym c in
@@ -135,7 +136,8 @@ module _ (l : List Model) (rs : List ℕ) (x : ℕ) where
       by false e =
           ap (λ t. (t || ltb (seen .most) (seen .first + seen .count)) || ltb (length rs) (seen .from + seen .size))
           (bad-is 0 (kindOf x) (length rs) l ∙ e)
-          ∙ ap (λ n. ltb n (seen .first + seen .count) || ltb (length rs) (seen .from + seen .size)) (asked (begun 0 (kindOf x) (length rs)) l)
+          ∙ ap (λ n. ltb n (seen .first + seen .count) || ltb (length rs) (seen .from + seen .size))
+          (asked (begun 0 (kindOf x) (length rs)) l)
           ∙ ap (λ t. t || ltb (length rs) (seen .from + seen .size)) (past-seen 0 (kindOf x) (length rs) l e)
           ∙ past (any (pastEnd (length rs)) l) refl e
 

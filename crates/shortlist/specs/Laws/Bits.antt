@@ -1,12 +1,12 @@
 -- BITS OF A NUMBER: a bit that is not set is set by a sum, and no other changes. Assumes nothing.
 use mathlib.Core.Path.{_≡_, refl, sym, ap, _∙_, subst}
-use mathlib.Core.Bool.{Bool, true, false, _||_}
+use mathlib.Core.Bool.{false, _||_}
 use Prim.Native.Nat.{ℕ, zero, suc, _+_, _*_, _-_, _/_, _%_, _^_, _≤_, _<_}
 use native.Mathlib.Omega.{arith}
 use native.Mathlib.Nat.{mul-add-div-right, div-add-mod', mod-lt, mul-le-mul-right, add-mul}
 use lib.Dec.{eqb}
 use lib.Pow.{pow-pos, pow-add, shr-shr, shr-le, shr-lt, shl-exact}
-use borrow.Author.Tests.{eqb-true, eqb-false, eq-eqb, ne-eqb, ltb-true, ltb-false}
+use borrow.Author.Tests.{eqb-false, eq-eqb, ne-eqb}
 use Rattle.shortlist.specs.Search.{bitSet}
 use Rattle.shortlist.specs.Laws.Named.{Adds}
 

@@ -2,23 +2,23 @@
 use mathlib.Core.Path.{_≡_, refl, sym, ap, _∙_, subst}
 use mathlib.Core.List.{List, [], _∷_}
 use mathlib.Core.Bool.{Bool, true, false, cond, not, _&&_, _||_}
-use Prim.Native.Nat.{ℕ, _+_, _-_, _/_, _%_, _^_, _<_, _≤_}
+use Prim.Native.Nat.{ℕ, _+_, _-_, _%_, _^_, _<_, _≤_}
 use native.Mathlib.Omega.{arith}
 use lib.Dec.{eqb, leb, ltb}
 use lib.ListN.{length, take, drop, length-drop}
 use lib.Seq.{length-take-le}
-use borrow.Author.Tests.{ltb-true, ltb-false, lt-ltb, le-ltb, le-leb, lt-leb, eqb-true, eq-eqb, ne-eqb, not-true, not-false}
+use borrow.Author.Tests.{ltb-true, ltb-false, lt-ltb, le-ltb, le-leb, lt-leb, not-true, not-false}
 use Rattle.lists.specs.Lists.{any}
 use Rattle.lists.specs.Refusals.{_when_, first}
-use Rattle.lists.specs.Laws.Booleans.{or-left, or-right, or-true, or-first, or-second, or-neither}
+use Rattle.lists.specs.Laws.Booleans.{or-left, or-right, or-first, or-second, or-neither}
 use Rattle.records.specs.Outcome.{ends, applies, passes, gives-first}
 use Rattle.records.specs.Find.{FirstPlace, Finds, findRefusal}
 use Rattle.records.specs.declared.search.Found.{Found}
-use Rattle.shortlist.specs.Runs.{mostStructure, kindNumber, kindIn}
+use Rattle.shortlist.specs.Runs.{kindNumber, kindIn}
 use Rattle.shortlist.specs.Asking.{empty, noStructure, holdsIndex, ofKind, isRecord, soughtNumber, soughtIndex}
 use Rattle.shortlist.specs.Search.{bitSet, follows, badEntry, spoilt, taken, nextOf, toldOf, ownRecords, outside, Finding}
 use Rattle.shortlist.specs.Laws.Runs.{kind-below}
-use Rattle.shortlist.specs.Laws.Bits.{bit-fits, one-shifted}
+use Rattle.shortlist.specs.Laws.Bits.{bit-fits}
 use Rattle.shortlist.specs.declared.answer.Model.{Model}
 use Rattle.shortlist.specs.declared.answer.Told.{Told}
 use Rattle.shortlist.specs.declared.answer.Sought.{Sought}

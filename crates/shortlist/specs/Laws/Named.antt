@@ -7,11 +7,10 @@ use Prim.Native.Nat.{ℕ, zero, suc, _+_, _<_, _≤_}
 use native.Mathlib.Nat.{le-of-suc-le-suc, not-suc-le-zero}
 use native.Mathlib.Omega.{arith}
 use lib.Dec.{eqb}
-use lib.ListN.{length, getD, set, replicate, getD-replicate, List·getD-eq-default}
+use lib.ListN.{length, getD, set, replicate}
 use lib.Seq.{getD-set-same, getD-set-other}
 use borrow.Author.Tests.{eqb-true, eqb-false}
 use Rattle.lists.specs.Lists.{any, count, twoOf}
-use Rattle.lists.specs.Laws.Booleans.{both-ways}
 use Rattle.lists.specs.Laws.Lists.{any-none, any-same}
 use Rattle.shortlist.specs.Runs.{kindIn, alike}
 use Rattle.shortlist.specs.declared.answer.Model.{Model}

@@ -10,10 +10,9 @@ use lib.ListN.{getD}
 use borrow.Author.Tests.{eqb-true, eqb-false, ltb-true, ltb-false, lt-ltb, le-ltb, lt-leb, eq-eqb, ne-eqb, not-false}
 use Rattle.lists.specs.Lists.{any, those, twoOf}
 use Rattle.lists.specs.Laws.Booleans.{or-left, or-right, or-first, or-true, or-false, or-neither, and-right, and-halves, both-ways}
-use Rattle.shortlist.specs.Runs.{mostStructure, kindIn, kindNumber, alike}
+use Rattle.shortlist.specs.Runs.{kindIn, alike}
 use Rattle.shortlist.specs.Asking.{empty, noStructure, pastEnd, runsOnFrom, badList, holdsIndex, ofKind, the, noModel}
 use Rattle.shortlist.specs.Search.{bitSet, begun, follows, badEntry, spoilt, taken, nextOf, folded}
-use Rattle.shortlist.specs.Laws.Runs.{kind-below}
 use Rattle.shortlist.specs.Laws.Named.{isNamed, again, again-new, again-old, again-done, again-first}
 use Rattle.shortlist.specs.Laws.Bits.{bit-adds, bits-empty}
 use Rattle.shortlist.specs.declared.answer.Model.{Model}
@@ -45,14 +44,6 @@ badFrom at named l = any empty l || (not (runsOnFrom at l) || (again named l || 
 bad-done : (at : ℕ) (named : ℕ → Bool) → badFrom at named [] ≡ false
 unfolding badFrom any runsOnFrom
 bad-done at named = rw (again-done named)
-
-small-structure : (m : Model) → noStructure m ≡ false → m .structure ≤ mostStructure
-unfolding noStructure
-small-structure m h = ltb-false mostStructure (m .structure) h
-
-small-kind : (m : Model) → noStructure m ≡ false → kindIn m < 64
-unfolding kindIn
-small-kind m h = kind-below (m .voxels) (m .structure) (small-structure m h)
 
 -- what fails of one entry fails of the list, and else what follows tells
 module _ (s : Search) (m : Model) (l : List Model) where

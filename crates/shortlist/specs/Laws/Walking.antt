@@ -281,7 +281,8 @@ walked-last {rs} {at} {seen} {made} w h =
     let runs-are : runs rs ≡ table (made .count) (modelAt made) =
     w .runs-are good ∙ ap (λ l. table (made .count) (modelAt made) ++ runsFrom at l) none ∙ append-nil (table (made .count) (modelAt
     made)) in
-    let back-is : comesBack rs ≡ false = w .back-is good ∙ ap (λ l. again (flagged seen) (runsFrom at l)) none ∙ again-done (flagged seen) in
+    let back-is : comesBack rs ≡ false =
+    w .back-is good ∙ ap (λ l. again (flagged seen) (runsFrom at l)) none ∙ again-done (flagged seen) in
     record {
       numbered = w .not-refused ∙ sym (gives-first (passes (ap not good) (passes back-is ends)));
       holding = λ z. sym runs-are;

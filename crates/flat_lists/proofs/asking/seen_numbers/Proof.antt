@@ -76,7 +76,8 @@ loop-less c = omega arith
 -- src/asking.rt:50:5
 loop-again : tie.Need-loop-again Inv-loop μ-loop
 loop-again c =
-    taken-one (c .before .before .before .before .before .before .loop .inv) _ _ (omega arith) (c .before .before .model-in .ensures) (c .before .next .ensures) (omega arith)
+    taken-one (c .before .before .before .before .before .before .loop .inv) _ _ (omega arith)
+    (c .before .before .model-in .ensures) (c .before .next .ensures) (omega arith)
 
 -- src/asking.rt:42:1
 returns-4 : tie.Need-returns-4 Inv-loop μ-loop
