@@ -6,6 +6,7 @@
 import contextlib
 import io
 import pathlib
+import struct
 import sys
 import tempfile
 
@@ -30,6 +31,10 @@ SHEET_A = bytes.fromhex("07 00 00 03 48 00 00 00 00 00 10 48 00 00 00 00 00 04 9
 SHEET_OF_FIVE = bytes.fromhex("05 00 00 03 48 00 00 00 04 48 00 00 00 01 98 01 00 30 05")
 # the short list of A, four numbers a model
 LIST_A = [0, 2, 0, 18, 2, 1, 1, 6]
+# A as a NIfTI-2 file: 540 bytes of header, 4 that say that extensions follow, and one extension of code 32
+ROOM_A = 8 + len(CASE_A) + -(8 + len(CASE_A)) % 16
+FILE_A = (struct.pack("<i8s4x8q88xq", 540, b"n+2\0\r\n\x1a\n", 6, 1, 1, 1, 1, 2, 3, 0, 544 + ROOM_A).ljust(540, b"\0") + b"\1\0\0\0"
+          + struct.pack("<ii", ROOM_A, 32) + CASE_A.ljust(ROOM_A - 8, b"\0"))
 RECORDS_A = [18 << 48 | 4, 18 << 48 | 1, 1 << 53 | 6 << 48 | 2 << 32 | 3 << 16 | 5]
 
 
