@@ -1,4 +1,5 @@
-// Conditions 10, 11 and 12 over all maps: the models of each are gathered once, and each list is read once.
+// Conditions 10, 11 and 12 over all maps: the models of each are gathered once, and each list is read once. Where all locations of a map
+// are seen to be apart, that reading decides 14 too.
 use super::gather::models_of;
 use super::verdict::lists_verdict;
 use answers::is_brain;
@@ -13,7 +14,7 @@ ghost use Prim.Native.Nat.{_<_};
 ghost use Rattle.lists.specs.Refusals.{sooner};
 ghost use Rattle.maps.specs.Survey.{Noted};
 ghost use Rattle.maps.specs.Ready.{Ready};
-ghost use Rattle.models.specs.Judged.{Rules, Judges, withRuling};
+ghost use Rattle.models.specs.Judged.{RulesIn, JudgesIn, withRuling};
 
 fn first_of(a: u64, b: u64) -> u64
     ensures { λ r. ⌜ r ≡ sooner a b ⌝ }
@@ -28,9 +29,9 @@ fn first_of(a: u64, b: u64) -> u64
 }
 
 // The first of 10, 11 and 12 that applies to the map, or 0, and its models.
-fn map_rule(text: &[u8], note: MapNote) -> Ruling
+fn map_rule(text: &[u8], note: MapNote, work: &mut [u64]) -> Ruling
     requires { ⌜ Noted (now text) note ⌝ }
-    ensures { λ r. ⌜ Rules (now (text .entry)) note r ⌝ }
+    ensures { λ r. ⌜ RulesIn (now (text .entry)) note (now (work .entry)) r (now (work .exit)) ⌝ }
 {
     let kind = note.kind;
     if is_brain(kind) {
@@ -38,17 +39,21 @@ fn map_rule(text: &[u8], note: MapNote) -> Ruling
         if models.shared {
             return Ruling {
                 number: 10,
+                apart: false,
                 models: models,
             };
         }
         let volume = note.volume;
+        let v = lists_verdict(text, note.at, models, volume, note.length, work);
         return Ruling {
-            number: lists_verdict(text, note.at, models, volume),
+            number: v.number,
+            apart: v.apart,
             models: models,
         };
     }
     Ruling {
         number: 0,
+        apart: true,
         models: no_models(),
     }
 }
@@ -61,24 +66,26 @@ fn with_ruling(judged: Judged, i: usize, ruling: Ruling) -> Judged
     let models = ruling.models;
     let mut more = judged;
     more.number = first_of(judged.number, ruling.number);
+    more.apart = judged.apart & ruling.apart;
     more.each[i] = models;
     more
 }
 
-// All maps are ready.
-pub fn judged(text: &[u8], maps: Maps) -> Judged
+// All maps are ready; the work space is lent for marks.
+pub fn judged(text: &[u8], maps: Maps, work: &mut [u64]) -> Judged
     requires { ⌜ Ready (now text) maps ⌝ }
-    ensures { λ r. ⌜ Judges (now (text .entry)) maps r ⌝ }
+    ensures { λ r. ⌜ JudgesIn (now (text .entry)) maps (now (work .entry)) r (now (work .exit)) ⌝ }
 {
     let none = no_models();
     let mut all = Judged {
         number: 0,
+        apart: true,
         each: [none; 3],
     };
     let mut i = 0;
     while i < maps.count {
         let note = nth(maps, i);
-        all = with_ruling(all, i, map_rule(text, note));
+        all = with_ruling(all, i, map_rule(text, note, work));
         i += 1;
     }
     all

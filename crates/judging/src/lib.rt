@@ -9,9 +9,7 @@ mod gather;
 mod ranges;
 // The sizes of the map's volume.
 mod sizes;
-// The list of one model: 11 and 12.
-mod listing;
-// The lists of all models of a map.
+// The lists of all models of a map: 11 and 12, and 14 where their locations are seen to be apart.
 mod verdict;
 // All maps.
 mod judge;

@@ -1,46 +1,33 @@
-// Conditions 11 and 12 of one map.
-use super::listing::list_verdict;
+// Conditions 11 and 12 of one map, and 14 where its locations are seen to be apart.
 use super::ranges::ranges_tile;
 use super::sizes::volume_sizes;
 use maps::survey::Seen;
+use marked_lists::listing::Verdict;
+use marked_lists::marked_lists;
 use models::gather::Models;
-use models::volume::Sizes;
-ghost use mathlib.Core.Path.{_≡_};
 ghost use Rattle.nodes.specs.Places.{the};
 ghost use Rattle.cifti.specs.Maps.{mapOf};
-ghost use Rattle.models.specs.Verdicts.{volumeFrom, listsVerdict, listsRule};
-ghost use Rattle.models.specs.Held.{Holding, modelsAt};
+ghost use Rattle.models.specs.Judged.{ListsTold};
 ghost use Rattle.models.specs.Judging.{Listable};
 
-// 11 or 12 for the lists of all models.
-fn all_lists(text: &[u8], models: Models, sizes: Sizes) -> u64
-    requires { ⌜ Holding (now text) models ⌝ }
-    ensures { λ r. ⌜ r ≡ listsVerdict (volumeFrom sizes) (modelsAt (now (text .entry)) models) ⌝ }
-{
-    let mut out = false;
-    let mut i: usize = 0;
-    while i < models.count {
-        let v = list_verdict(text, models.at[i], models.length[i], models.kind[i], sizes);
-        if v == 11 {
-            return 11;
-        }
-        out = out | (v == 12);
-        i += 1;
-    }
-    if out {
-        return 12;
-    }
-    0
-}
-
-// 11, else 12, else 0: the models of the brain map at `map` are gathered, and its Volume is noted.
-pub(crate) fn lists_verdict(text: &[u8], map: usize, models: Models, volume: Seen) -> u64
+// The models of the brain map at `map` are gathered, and its Volume and its length are noted.
+pub(crate) fn lists_verdict(
+    text: &[u8],
+    map: usize,
+    models: Models,
+    volume: Seen,
+    length: u64,
+    work: &mut [u64],
+) -> Verdict
     requires { ⌜ Listable (now text) map models volume ⌝ }
-    ensures { λ r. ⌜ r ≡ listsRule (mapOf (the (now (text .entry)) map)) ⌝ }
+    ensures { λ r. ⌜ ListsTold (mapOf (the (now (text .entry)) map)) (now (work .entry)) (r .number) (r .apart) (now (work .exit)) ⌝ }
 {
     if !ranges_tile(models) {
-        return 11;
+        return Verdict {
+            number: 11,
+            apart: false,
+        };
     }
     let sizes = volume_sizes(text, map, volume);
-    all_lists(text, models, sizes)
+    marked_lists(text, models, sizes, length, work)
 }

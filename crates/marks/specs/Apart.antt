@@ -1,12 +1,13 @@
 -- THINGS WHOSE PLACES WERE ALL NEW WHEN THEY WERE MARKED ARE APART: the law by which condition 14 is decided in one reading. `place` is
 -- any function that gives equal things equal places; nothing more is asked of it.
 use mathlib.Core.Path.{_≡_, refl, sym, ap, _∙_}
-use mathlib.Core.List.{List, [], _∷_}
-use mathlib.Core.Bool.{Bool, true, false, _||_}
+use mathlib.Core.List.{List, [], _∷_, _++_, append-nil, append-assoc}
+use mathlib.Core.Bool.{Bool, true, false, _||_, _&&_}
 use Prim.Native.Nat.{ℕ, _%_}
 use native.Mathlib.Decide.{ℕ-discrete}
 use native.Mathlib.Omega.{arith}
 use Rattle.lists.specs.Lists.{any, twoOf}
+use Rattle.lists.specs.Laws.Booleans.{and-left, and-right}
 use Rattle.marks.specs.Marks.{marked, Stay, Marked}
 
 -- none of them is marked yet
@@ -60,3 +61,53 @@ module _ {A : Type 0} {same : A → A → Bool} {place : A → ℕ} (equal : (a 
     no-two = rw (unlike (h .fresh), h .no-two);
     fresh = one-unmarked (m .unmarked refl) (fresh-before (m .kept) (h .fresh));
   }
+
+-- ---- List after list.
+
+-- All are marked but those that are left: where all places so far were new, all are apart if those left are.
+pub record Marking {A : Type 0} (same : A → A → Bool) (place : A → ℕ) (all left : List A) (new : Bool) (before now : List ℕ) :
+    Type 0 where
+  pub kept : Stay before now
+  pub so-far : new ≡ true → (rest : List A) → Apart same place now (left ++ rest) → Apart same place before (all ++ rest)
+
+pub all-stay : (work : List ℕ) → Stay work work
+all-stay work = record { long = refl; stays = λ q h. h }
+
+pub stay-then : {before now after : List ℕ} → Stay before now → Stay now after → Stay before after
+stay-then s t = record { long = t .long ∙ s .long; stays = λ q h. t .stays q (s .stays q h) }
+
+module _ {A : Type 0} {same : A → A → Bool} {place : A → ℕ} where
+  pub marking-start : (l : List A) (work : List ℕ) → Marking same place l l true work work
+  marking-start l work = record { kept = all-stay work; so-far = λ _ rest h. h }
+
+  -- nothing is said
+  pub marking-not : {all left : List A} {before now : List ℕ} → Stay before now → Marking same place all left false before now
+  marking-not s = record { kept = s; so-far = λ e. absurd (let z : _≡_ {A = ℕ} 0 1 = cc in omega arith) }
+
+  -- other marks are made
+  pub marking-none : (new : Bool) {before now : List ℕ} → Stay before now → Marking same place [] [] new before now
+  marking-none new s = record { kept = s; so-far = λ _ rest h. apart-before s h }
+
+  -- where all places were new, no two are the same
+  pub marking-apart : {all : List A} {new : Bool} {before now : List ℕ} → Marking same place all [] new before now → new ≡ true
+      → twoOf same all ≡ false
+  marking-apart {all} {now = now} m e =
+      sym (ap (twoOf same) (append-nil all)) ∙ m .so-far e [] (none-apart same place now) .no-two
+
+  module _ {all : List A} {new : Bool} {before now : List ℕ} where
+    pub marking-one : ((a b : A) → same a b ≡ true → place a ≡ place b) → {a : A} {left : List A}
+        → Marking same place all (a ∷ left) new before now → {b : Bool} {after : List ℕ} → Marked now (place a) b after
+        → Marking same place all left (new && b) before after
+    marking-one equal {a} go {b} {after} m = record {
+      kept = stay-then (go .kept) (m .kept);
+      so-far = λ e rest h. go .so-far (and-left new b e) rest
+          (apart-more equal (rw (and-right new b e) at m) h);
+    }
+
+    pub marking-list : {l left : List A} → Marking same place all (l ++ left) new before now → {b : Bool} {after : List ℕ}
+        → Marking same place l [] b now after → Marking same place all left (new && b) before after
+    marking-list {l} {left} go {b} {after} m = record {
+      kept = stay-then (go .kept) (m .kept);
+      so-far = λ e rest h. go .so-far (and-left new b e) rest
+          (rw (append-assoc l left rest) (m .so-far (and-right new b e) (left ++ rest) h));
+    }

@@ -56,15 +56,15 @@ told-even false out h = absurd (h refl)
 pub ahead : List ℕ → Models → ℕ → List Model
 ahead text m i = countUp (modelAt text m) i (m .count - i)
 
-ahead-all : (text : List ℕ) (m : Models) → ahead text m 0 ≡ modelsAt text m
+pub ahead-all : (text : List ℕ) (m : Models) → ahead text m 0 ≡ modelsAt text m
 unfolding ahead modelsAt
 ahead-all text m = up-all (modelAt text m) (m .count)
 
-ahead-one : (text : List ℕ) (m : Models) (i : ℕ) → i < m .count → ahead text m i ≡ modelAt text m i ∷ ahead text m (i + 1)
+pub ahead-one : (text : List ℕ) (m : Models) (i : ℕ) → i < m .count → ahead text m i ≡ modelAt text m i ∷ ahead text m (i + 1)
 unfolding ahead
 ahead-one text m i h = up-one (modelAt text m) i (m .count) h
 
-ahead-none : (text : List ℕ) (m : Models) (i : ℕ) → m .count ≤ i → ahead text m i ≡ []
+pub ahead-none : (text : List ℕ) (m : Models) (i : ℕ) → m .count ≤ i → ahead text m i ≡ []
 unfolding ahead
 ahead-none text m i h = up-done (modelAt text m) i (m .count) h
 

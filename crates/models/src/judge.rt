@@ -2,15 +2,19 @@ use super::gather::Models;
 ghost use mathlib.Core.Path.{_≡_};
 ghost use Rattle.models.specs.Judged.{no-models, modelsHeld};
 
-// Of one map: the first of 10, 11 and 12 that applies to it, or 0, and what was gathered of its models.
+// Of one map: the first of 10, 11 and 12 that applies to it, or 0; whether its locations were seen to be apart, which decides 14, or else
+// 14 is not decided; and what was gathered of its models.
 pub struct Ruling {
     pub number: u64,
+    pub apart: bool,
     pub models: Models,
 }
 
-// Of all maps: the first of 10, 11 and 12 that applies to some map, or 0, and what was gathered of the models of each.
+// Of all maps: the first of 10, 11 and 12 that applies to some map, or 0; whether the locations of each map were seen to be apart; and what
+// was gathered of the models of each.
 pub struct Judged {
     pub number: u64,
+    pub apart: bool,
     pub each: [Models; 3],
 }
 

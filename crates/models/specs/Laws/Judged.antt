@@ -1,7 +1,7 @@
 -- The first of 10, 11 and 12 that applies to some map is the first that applies; and what is held where none does.
 use mathlib.Core.Path.{_≡_, refl, sym, ap, _∙_}
 use mathlib.Core.List.{List, [], _∷_}
-use mathlib.Core.Bool.{Bool, true, false, cond}
+use mathlib.Core.Bool.{Bool, true, false, cond, _||_, _&&_}
 use Prim.Native.Nat.{ℕ, zero, suc, _+_, _≤_, _<_, min}
 use native.Mathlib.Omega.{arith}
 use native.Mathlib.Decide.{decLt}
@@ -10,14 +10,15 @@ use lib.ListN.{length, getD, set, length-set, List·getD-eq-default}
 use lib.Seq.{getD-set-same, getD-set-other}
 use borrow.Author.Needs.{needs}
 use borrow.Author.Tests.{ne-eqb}
-use Rattle.lists.specs.Lists.{any, those, twoOf}
+use Rattle.lists.specs.Lists.{any, those, twoOf, eachIn}
+use Rattle.lists.specs.Laws.Booleans.{and-left, and-right}
 use Rattle.lists.specs.Refusals.{rising, positive, EitherOf, no-rows, row, sooner}
 use Rattle.lists.specs.Laws.Refusals.{sooner-none, sooner-alone, sooner-first, sooner-second, first-either, given-none, row-fails}
 use Rattle.lists.specs.Laws.Refusals.{rows-past}
 use Rattle.nodes.specs.Places.{the}
 use Rattle.cifti.specs.Maps.{Map, mapOf, isBrain, brainMaps}
 use Rattle.cifti.specs.Conditions as C
-use Rattle.cifti.specs.Conditions.{_when_, modelsShare, rangesWrong, numbersOutside}
+use Rattle.cifti.specs.Conditions.{_when_, modelsShare, rangesWrong, numbersOutside, repeats, locationTwice}
 use Rattle.maps.specs.Survey.{Noted}
 use Rattle.maps.specs.Ready.{Ready, mapsAt}
 use Rattle.maps.specs.Over.{Over, over-start, over-done, over-place, over-note, over-next, noteAt, entry-same, mapped-long}
@@ -27,7 +28,7 @@ use Rattle.models.specs.Brain.{BrainAt, noted-kind, noted-brain, noted-p
 use Rattle.models.specs.Fine.{Fine}
 use Rattle.models.specs.Gathered.{Gathers}
 use Rattle.models.specs.Judged.{modelRows, mapRows, modelRefusal, mapRefusal, modelsHeld, no-models, HeldFor, HeldAll, Rules}
-use Rattle.models.specs.Judged.{Judges, withRuling}
+use Rattle.models.specs.Judged.{Judges, JudgesIn, RulesIn, ListsTold, withRuling}
 use Rattle.models.specs.Judging.{Listable}
 use Rattle.models.specs.Laws.Fine.{ranges-more}
 use Rattle.models.specs.Verdicts.{listsRule}
@@ -98,12 +99,19 @@ lists-first true y = refl
 lists-first false true = refl
 lists-first false false = refl
 
+not-decided : {P : Type 0} {b : Bool} → b ≡ false → b ≡ true → P
+not-decided f t = absurd (let e : true ≡ false = sym t ∙ f in let k : _≡_ {A = ℕ} 0 1 = cc in omega arith)
+
 module _ {text : List ℕ} {n : MapNote} (m : Noted text n) {b : Bool} (p : b ≡ isBrain (n .kind)) where
-  pub rule-other : b ≡ false → (a : Ruling) → a .number ≡ 0 → Rules text n a
-  unfolding mapRefusal twoOf any C.first
-  rule-other f a z = record {
-    number-is = z ∙ rw (noted-kind m p ∙ f, noted-plain m p f) refl;
-    held = λ _. record { gathered = λ t. absurd (let e : true ≡ false = sym t ∙ sym p ∙ f in let k : _≡_ {A = ℕ} 0 1 = cc in omega arith) };
+  pub rule-other : b ≡ false → (work : List ℕ) (a : Ruling) → a .number ≡ 0 → RulesIn text n work a work
+  unfolding mapRefusal twoOf any C.first repeats eachIn
+  rule-other f work a z = record {
+    rules = record {
+      number-is = z ∙ rw (noted-kind m p ∙ f, noted-plain m p f) refl;
+      held = λ _. record { gathered = λ t. not-decided (sym p ∙ f) t };
+      apart-is = λ _. rw (noted-plain m p f);
+    };
+    long = refl;
   }
 
   module _ (t : b ≡ true) where
@@ -111,19 +119,31 @@ module _ {text : List ℕ} {n : MapNote} (m : Noted text n) {b : Bool} (p : b �
     rule-brain = noted-brain m p t
 
     module _ {r : Models} (g : Gathers text (n .at) r) where
-      pub rule-shared : r .shared ≡ true → (a : Ruling) → a .number ≡ 10 → Rules text n a
+      pub rule-shared : r .shared ≡ true → (work : List ℕ) (a : Ruling) → a .number ≡ 10 → a .apart ≡ false → RulesIn text n work a work
       unfolding mapRefusal C.first
-      rule-shared s a z = record { number-is = z ∙ rw (sym (g .shared-is) ∙ s) refl; held = λ y. absurd (omega arith) }
+      rule-shared s work a z u = record {
+        rules = record {
+          number-is = z ∙ rw (sym (g .shared-is) ∙ s) refl;
+          held = λ y. absurd (omega arith);
+          apart-is = not-decided u;
+        };
+        long = refl;
+      }
 
       pub rule-held : r .shared ≡ false → Listable text (n .at) r (n .volume)
       rule-held s = record { held = record { brain = rule-brain; held = g .holding s }; seen = m .volume (sym p ∙ t) }
 
-      pub rule-lists : r .shared ≡ false → {k : ℕ} → k ≡ listsRule (mapOf (the text (n .at))) → (a : Ruling) → a .number ≡ k
-          → a .models ≡ r → Rules text n a
+      pub rule-lists : r .shared ≡ false → {before after : List ℕ} {k : ℕ} {d : Bool}
+          → ListsTold (mapOf (the text (n .at))) before k d after → (a : Ruling) → a .number ≡ k → a .apart ≡ d
+          → a .models ≡ r → RulesIn text n before a after
       unfolding mapRefusal listsRule
-      rule-lists s q a z h = record {
-        number-is = z ∙ q ∙ sym (rw (noted-kind m p ∙ t, sym (g .shared-is) ∙ s) (lists-first _ _));
-        held = λ _. record { gathered = λ _. rw h (g .holding s) };
+      rule-lists s q a z u h = record {
+        rules = record {
+          number-is = z ∙ q .number-is ∙ sym (rw (noted-kind m p ∙ t, sym (g .shared-is) ∙ s) (lists-first _ _));
+          held = λ _. record { gathered = λ _. rw h (g .holding s) };
+          apart-is = λ y. q .apart-is (sym u ∙ y);
+        };
+        long = q .long;
       }
 
 pub ruleset ruling = (rule-other, rule-brain, rule-shared, rule-held, rule-lists, needs)
@@ -131,39 +151,52 @@ pub ruleset ruling = (rule-other, rule-brain, rule-shared, rule-held, rule-lists
 -- ---- Map after map.
 
 pub with-number : (j : Judged) (i : ℕ) (r : Ruling) {n : ℕ} → n ≡ sooner (j .number) (r .number)
-    → _≡_ {A = Judged} (record { number = n; each = set (j .each) i (r .models) }) (withRuling j i r)
+    → _≡_ {A = Judged} (record { number = n; apart = j .apart && r .apart; each = set (j .each) i (r .models) }) (withRuling j i r)
 with-number j i r e = rw e refl
 
 pub ruleset with-ruling = (with-number, needs)
 
--- the first of all is the sooner of what was found and the first of those that are left
-pub record Judge (all : List Map) (found : ℕ) (l : List Map) : Type 0 where
+-- the first of all is the sooner of what was found and the first of those that are left; and 14 is decided by those that are left
+pub record Judge (all : List Map) (found : ℕ) (apart : Bool) (l : List Map) : Type 0 where
   pub so-far : modelRefusal all ≡ sooner found (modelRefusal l)
+  pub apart-so-far : apart ≡ true → locationTwice all ≡ locationTwice l
 
 -- and of the maps before the i-th the models are held
-pub record Judging (text : List ℕ) (maps : Maps) (j : Judged) (i : ℕ) : Type 0 where
-  pub over-maps : Over text maps (Judge (mapsAt text maps) (j .number)) i
+pub record Judging (text : List ℕ) (maps : Maps) (before : List ℕ) (j : Judged) (i : ℕ) (now : List ℕ) : Type 0 where
+  pub over-maps : Over text maps (Judge (mapsAt text maps) (j .number) (j .apart)) i
+  pub long : length now ≡ length before
   pub three : length (j .each) ≡ 3
   pub within : i ≤ maps .count
   pub held : j .number ≡ 0 → (k : ℕ) → k < i → HeldFor text (noteAt maps k) (modelsHeld j k)
 
 module _ {text : List ℕ} {maps : Maps} where
-  pub judging-start : Ready text maps → (j : Judged) → j .number ≡ 0 → length (j .each) ≡ 3 → Judging text maps j 0
-  judging-start r j z t = record {
+  pub judging-start : Ready text maps → (work : List ℕ) (j : Judged) → j .number ≡ 0 → length (j .each) ≡ 3
+      → Judging text maps work j 0 work
+  judging-start r work j z t = record {
     over-maps = over-start r (record {
       so-far = sooner-none 0 (modelRefusal (mapsAt text maps)) refl
           ∙ ap (λ x. sooner x (modelRefusal (mapsAt text maps))) (sym z);
+      apart-so-far = λ _. refl;
     });
+    long = refl;
     three = t;
     within = omega arith;
     held = λ _ k u. absurd (omega arith);
   }
 
-  module _ {j : Judged} {i : ℕ} (go : Judging text maps j i) where
-    pub judging-done : maps .count ≤ i → Judges text maps j
+  module _ {before now : List ℕ} {j : Judged} {i : ℕ} (go : Judging text maps before j i now) where
+    pub judging-kept : length now ≡ length before
+    judging-kept = go .long
+
+    pub judging-done : maps .count ≤ i → JudgesIn text maps before j now
+    unfolding locationTwice any
     judging-done h = record {
-      number-is = sym (over-done (go .over-maps) h .so-far ∙ ap (sooner (j .number)) refusal-none ∙ sooner-zero (j .number));
-      held = λ z. record { held = λ k u. go .held z k (omega arith) };
+      judges = record {
+        number-is = sym (over-done (go .over-maps) h .so-far ∙ ap (sooner (j .number)) refusal-none ∙ sooner-zero (j .number));
+        held = λ z. record { held = λ k u. go .held z k (omega arith) };
+        apart-is = over-done (go .over-maps) h .apart-so-far;
+      };
+      long = go .long;
     }
 
     module _ (u : i < maps .count) where
@@ -184,19 +217,27 @@ module _ {text : List ℕ} {maps : Maps} where
             let w : i < length (j .each) = (let t = go .three in let f = go .over-maps .ready .few in omega arith) in
             rw (q, getD-set-same (j .each) i (r .models) no-models w) (rw e at (s .held (sooner-neither (j .number) (r .number) z .1)))
 
-        pub judging-more : {r : Ruling} → Rules text n r → {j₁ : Judged} → j₁ ≡ withRuling j i r → Judging text maps j₁ (i + 1)
-        judging-more {r} s q = rw q (record {
+        apart-more : {r : Ruling} → Rules text n r → (l : List Map) → (j .apart && r .apart) ≡ true
+            → locationTwice (mapOf (the text (n .at)) ∷ l) ≡ locationTwice l
+        unfolding locationTwice any
+        apart-more {r} s l y = ap (λ b. b || locationTwice l) (s .apart-is (and-right (j .apart) (r .apart) y))
+
+        pub judging-more : {r : Ruling} {after : List ℕ} → RulesIn text n now r after → {j₁ : Judged} → j₁ ≡ withRuling j i r
+            → Judging text maps before j₁ (i + 1) after
+        judging-more {r} rl q = let s = rl .rules in rw q (record {
           over-maps = over-next (go .over-maps) u e (λ l h. record {
             so-far = h .so-far ∙ ap (sooner (j .number))
                 (refusal-more (mapOf (the text (n .at))) l ∙ ap (λ x. sooner x (modelRefusal l)) (sym (s .number-is)))
                 ∙ sooner-assoc (j .number) (r .number) (modelRefusal l);
+            apart-so-far = λ y. h .apart-so-far (and-left (j .apart) (r .apart) y) ∙ apart-more s l y;
           });
+          long = rl .long ∙ go .long;
           three = length-set (j .each) i (r .models) ∙ go .three;
           within = omega arith;
           held = λ z k v. held-more s z k v (decLt k i);
         })
 
-pub ruleset judging = (judging-start, judging-done, judging-place, judging-note, judging-more, needs)
+pub ruleset judging = (judging-start, judging-kept, judging-done, judging-place, judging-note, judging-more, needs)
 
 -- ---- What is held of each.
 

@@ -4,10 +4,10 @@ use Rattle.judging.proofs.judge.judged.Statement.{statement}
 use Rattle.judging.proofs.judge.judged.Tie as tie
 
 abbrev Inv-loop : tie.InvT-loop
-Inv-loop text maps all₀ i₀ all i = Judging text maps all i
+Inv-loop text maps work₀ all₀ i₀ work all i = Judging text maps work₀ all i work
 
 abbrev μ-loop : tie.MeasureT-loop
-μ-loop text maps all₀ i₀ all i = maps .count - i
+μ-loop text maps work₀ all₀ i₀ work all i = maps .count - i
 
 pub judged-spec : {M : Type 1} → statement M
 judged-spec =

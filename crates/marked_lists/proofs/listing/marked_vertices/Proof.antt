@@ -1,0 +1,38 @@
+use lib.ListN as ListN
+use Prim.Native.Nat.{_-_}
+use native.Mathlib.Omega.{arith}
+use Rattle.marked_lists.specs.Laws.Listing.{VerticesRead, overVertices, read-room}
+use Rattle.marked_lists.proofs.listing.marked_vertices.Statement.{statement}
+use Rattle.marked_lists.proofs.listing.marked_vertices.Tie as tie
+
+abbrev Inv-loop : tie.InvT-loop
+Inv-loop text start length surface first work₀ n₀ out₀ apart₀ i₀ work n out apart i = VerticesRead text start surface first work₀ n out apart i work
+
+abbrev μ-loop : tie.MeasureT-loop
+μ-loop text start length surface first work₀ n₀ out₀ apart₀ i₀ work n out apart i = ListN.length text - i
+
+pub marked-vertices-spec : {M : Type 1} → statement M
+marked-vertices-spec =
+    tie.close
+    (tie.spec
+    Inv-loop
+    μ-loop
+    (λ c. search overVertices)
+    (λ c κs. search overVertices)
+    (λ c. search overVertices)
+    (λ c. omega (
+      arith,
+      read-room (c .before .before .before .before .loop .inv) (c .before .before .before .next-number .ensures)
+          (c .before .v .given .1),
+    ))
+    (λ c κs. search overVertices)
+    (λ c κs. search overVertices)
+    (λ c. search overVertices)
+    (λ c. search overVertices)
+    (λ c. search overVertices)
+    (λ c κs. search overVertices)
+    (λ c. search overVertices)
+    (λ c. search overVertices)
+    (λ c. search overVertices)
+    (λ c. search overVertices)
+    (λ c. search overVertices))

@@ -1,0 +1,40 @@
+use lib.ListN as ListN
+use Prim.Native.Nat.{_-_}
+use native.Mathlib.Omega.{arith}
+use Rattle.models.specs.Verdicts.{volumeFrom}
+use Rattle.marked_lists.specs.Laws.Listing.{VoxelsRead, overVoxels, threes-room}
+use Rattle.marked_lists.proofs.listing.marked_voxels.Statement.{statement}
+use Rattle.marked_lists.proofs.listing.marked_voxels.Tie as tie
+
+abbrev Inv-loop : tie.InvT-loop
+Inv-loop text start length sizes grid work₀ voxels₀ out₀ apart₀ at₀ work voxels out apart at = VoxelsRead text start (volumeFrom sizes) grid work₀ voxels out apart at work
+
+abbrev μ-loop : tie.MeasureT-loop
+μ-loop text start length sizes grid work₀ voxels₀ out₀ apart₀ at₀ work voxels out apart at = ListN.length text - at
+
+pub marked-voxels-spec : {M : Type 1} → statement M
+marked-voxels-spec =
+    tie.close
+    (tie.spec
+    Inv-loop
+    μ-loop
+    (λ c. search overVoxels)
+    (λ c κs. search overVoxels)
+    (λ c. search overVoxels)
+    (λ c. omega (
+      arith,
+      threes-room (c .before .before .before .before .loop .inv) (c .before .before .before .next-voxel .ensures)
+          (c .before .i .given .1),
+    ))
+    (λ c κs. search overVoxels)
+    (λ c κs. search overVoxels)
+    (λ c κs. search overVoxels)
+    (λ c. search overVoxels)
+    (λ c. search overVoxels)
+    (λ c. search overVoxels)
+    (λ c κs. search overVoxels)
+    (λ c. search overVoxels)
+    (λ c. search overVoxels)
+    (λ c. search overVoxels)
+    (λ c. search overVoxels)
+    (λ c. search overVoxels))

@@ -1,0 +1,3 @@
+pub mod Places
+pub mod Listing
+pub mod Models
