@@ -36,6 +36,11 @@ pub record Asked (text : List ℕ) (maps : Maps) (j : Judged) : Type 0 where
   pub ready : Ready text maps
   pub judges : Judges text maps j
 
+-- 10 to 13 do not apply, and the maps are judged
+pub record MapsFine (text : List ℕ) (maps : Maps) (j : Judged) (work : ℕ) : Type 0 where
+  pub all-fine : AllFine text maps j work
+  pub judges : Judges text maps j
+
 pub record Later (text : List ℕ) (maps : Maps) (room : ℕ) (before : List ℕ) (answer : ℕ) (after : List ℕ) : Type 0 where
   pub told : answer ≡ tableRule room (length before) (mapsAt text maps)
   pub long : length after ≡ length before
@@ -66,7 +71,7 @@ module _ {text : List ℕ} {maps : Maps} {j : Judged} (a : Asked text maps j) wh
       later-short t = record { told = sym (rule-all room (length work) (mapsAt text maps) ∙ rw (none, sym q ∙ t)); long = refl }
 
       module _ (f : b ≡ false) where
-        pub later-fine : AllFine text maps j (length work)
+        later-fine : AllFine text maps j (length work)
         unfolding roomShort
         later-fine =
             let l = mapsAt text maps in
@@ -80,6 +85,9 @@ module _ {text : List ℕ} {maps : Maps} {j : Judged} (a : Asked text maps j) wh
               };
               held = a .judges .held z;
             }
+
+        pub later-asks : MapsFine text maps j (length work)
+        later-asks = record { all-fine = later-fine; judges = a .judges }
 
         module _ {c : Bool} {after : List ℕ} (s : ToldAll text maps work c after) where
           pub later-twice : c ≡ true → Later text maps room work 14 after
@@ -96,4 +104,15 @@ module _ {text : List ℕ} {maps : Maps} {j : Judged} (a : Asked text maps j) wh
             long = s .long;
           }
 
-pub ruleset latering = (later-ready, later-judged, later-short, later-fine, later-twice, later-none, needs)
+pub ruleset latering = (later-ready, later-judged, later-short, later-asks, later-twice, later-none, needs)
+
+-- ---- 14, decided already or not.
+
+module _ {text : List ℕ} {maps : Maps} {j : Judged} where
+  pub twice-asks : {work : ℕ} → MapsFine text maps j work → AllFine text maps j work
+  twice-asks m = m .all-fine
+
+  pub twice-apart : (work : List ℕ) → MapsFine text maps j (length work) → j .apart ≡ true → ToldAll text maps work false work
+  twice-apart work m t = record { told = sym (m .judges .apart-is t); long = refl }
+
+pub ruleset twicing = (twice-asks, twice-apart, needs)

@@ -3,7 +3,20 @@ use describing::room_short;
 use filling::any_twice;
 use maps::survey::Maps;
 use models::judge::Judged;
-ghost use Rattle.reader.specs.Later.{Asked, Later};
+ghost use lib.ListN.{length};
+ghost use Rattle.table.specs.Twice.{ToldAll};
+ghost use Rattle.reader.specs.Later.{Asked, Later, MapsFine};
+
+// 14: the locations of each map were seen to be apart, or the repeat check decides.
+fn location_twice(text: &[u8], maps: Maps, judged: Judged, work: &mut [u64]) -> bool
+    requires { ⌜ MapsFine (now text) maps judged (length (now work)) ⌝ }
+    ensures { λ r. ⌜ ToldAll (now (text .entry)) maps (now (work .entry)) r (now (work .exit)) ⌝ }
+{
+    if judged.apart {
+        return false;
+    }
+    any_twice(text, maps, judged, work)
+}
 
 // 10, 11 and 12 are judged.
 pub(crate) fn later_refusal(
@@ -22,7 +35,7 @@ pub(crate) fn later_refusal(
     if room_short(text, maps, room, work.len()) {
         return 13;
     }
-    if any_twice(text, maps, judged, work) {
+    if location_twice(text, maps, judged, work) {
         return 14;
     }
     0

@@ -20,7 +20,7 @@ pub fn read(text: &[u8], lengths: &[u64], records: &mut [u64], work: &mut [u64])
         clear(work);
         return refused(n);
     }
-    let models = judged(text, maps);
+    let models = judged(text, maps, work);
     let found = later_refusal(text, maps, models, records.len(), work);
     clear(work);
     if found != 0 {

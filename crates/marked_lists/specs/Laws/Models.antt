@@ -133,13 +133,8 @@ pub ruleset overModels = (models-start, models-kept, models-done, models-place, 
 -- ---- The rule of the map.
 
 module _ {text : List ℕ} {map : ℕ} {m : Models} {seen : Seen} (ask : Listable text map m seen) {t : Bool} (e : t ≡ tiling (rangesOf m)) where
-  pub told-untiled : not t ≡ true → (work : List ℕ) (v : Verdict) → v .number ≡ 11 → v .apart ≡ false
-      → ListsTold (mapOf (the text map)) work (v .number) (v .apart) work
-  told-untiled n work v y z = record {
-    number-is = y ∙ rule-untiled ask e n;
-    apart-is = not-told z;
-    long = refl;
-  }
+  pub told-untiled : not t ≡ true → (work : List ℕ) → ListsTold (mapOf (the text map)) work 11 false work
+  told-untiled n work = record { number-is = rule-untiled ask e n; apart-is = not-told refl; long = refl }
 
   pub told-lists : not t ≡ false → {s : Sizes} → volumeFrom s ≡ (mapOf (the text map)) .volume → {before : List ℕ} {v : Verdict}
       {after : List ℕ} → ModelsTold (volumeFrom s) (modelsAt text m) before v after

@@ -24,7 +24,7 @@ use Rattle.cifti.specs.Laws.Theorems.{reads-by, answerOf, recordsOf, numberOf}
 use Rattle.cifti.specs.declared.answer.Answer.{Answer}
 use Rattle.maps.specs.Ready.{Ready, mapsAt}
 use Rattle.models.specs.Fine.{Fine}
-use Rattle.models.specs.Judged.{Judges}
+use Rattle.models.specs.Judged.{JudgesIn}
 use Rattle.models.specs.Laws.Judged.{fine-refusal}
 use Rattle.models.specs.declared.judge.Judged.{Judged}
 use Rattle.table.specs.Stretches.{Fillable}
@@ -67,51 +67,55 @@ module _ {text lengths : List ℕ} {s : Survey} (sv : Surveys text lengths s) (r
     pub read-room : Ready text (s .maps)
     read-room = got .room
 
-    pub read-asks : {j : Judged} → Judges text (s .maps) j → Asked text (s .maps) j
-    read-asks h = record { ready = got .room; judges = h }
+    module _ {j : Judged} {lent : List ℕ} (h : JudgesIn text (s .maps) work j lent) where
+      pub read-asks : Asked text (s .maps) j
+      read-asks = record { ready = got .room; judges = h .judges }
 
-    module _ {v : ℕ} {after : List ℕ} (lt : Later text (s .maps) (length records) work v after) where
-      number-is : numberOf text lengths records work ≡ v
-      number-is =
-          number-by text lengths records work
-          ∙ rw (← sv .number-is, z, got .parsed)
-          (later-by (length records) (length work) (got .document) ∙ ap (tableRule (length records) (length work)) (sym (got .all))
-          ∙ sym (lt .told))
+      module _ {v : ℕ} {after : List ℕ} (lt : Later text (s .maps) (length records) lent v after) where
+        told : v ≡ tableRule (length records) (length work) (mapsAt text (s .maps))
+        told = lt .told ∙ ap (λ n. tableRule (length records) n (mapsAt text (s .maps))) (h .long)
 
-      clear-is : {w : List ℕ} → w ≡ replicate (length after) 0 → w ≡ replicate (length work) 0
-      clear-is c = c ∙ ap (λ n. replicate n 0) (lt .long)
+        number-is : numberOf text lengths records work ≡ v
+        number-is =
+            number-by text lengths records work
+            ∙ rw (← sv .number-is, z, got .parsed)
+            (later-by (length records) (length work) (got .document) ∙ ap (tableRule (length records) (length work)) (sym (got .all))
+            ∙ sym told)
 
-      pub read-later : (v ≡ 0 → ⊥) → {a : Answer} → a ≡ refusedWith v → {w : List ℕ} → w ≡ replicate (length after) 0
-          → Reads text lengths records work a records w
-      read-later k {a} q {w} c = refused-by text lengths records work v k number-is a q w (clear-is c)
+        clear-is : {w : List ℕ} → w ≡ replicate (length after) 0 → w ≡ replicate (length work) 0
+        clear-is c = c ∙ ap (λ n. replicate n 0) (lt .long ∙ h .long)
 
-      module _ (y : v ≡ 0) where
-        pub read-fillable : {j : Judged} → Judges text (s .maps) j → Fillable text (s .maps) j (length records)
-        unfolding tableRule roomShort positive
-        read-fillable h =
-            let l = mapsAt text (s .maps) in
-            let none = given-none (tableRules (length records) (length work) l) refl (sym (lt .told) ∙ y) in
-            let fine : Fine l = record {
-              share = row-fails none;
-              ranges = row-fails (rows-past 1 none);
-              inside = row-fails (rows-past 2 none);
-            } in
-            record {
-              ready = got .room;
-              fine = fine;
-              held = h .held (h .number-is ∙ fine-refusal fine);
-              enough = ltb-false (length records) (total lengthOf (brainMaps l))
-                  (or-left _ (ltb (length work) (greatest lengthOf (brainMaps l))) (row-fails (rows-past 3 none)));
-            }
+        pub read-later : (v ≡ 0 → ⊥) → {a : Answer} → a ≡ refusedWith v → {w : List ℕ} → w ≡ replicate (length after) 0
+            → Reads text lengths records work a records w
+        read-later k {a} q {w} c = refused-by text lengths records work v k number-is a q w (clear-is c)
 
-        pub read-accepts : {a : Answer} → a ≡ acceptedWith (mapsAt text (s .maps)) → {r : List ℕ}
-            → r ≡ filledWith (stretches (mapsAt text (s .maps))) records → {w : List ℕ} → w ≡ replicate (length after) 0
-            → Reads text lengths records work a r w
-        unfolding answerOf recordsOf answerBy recordsBy A.mapsIn
-        read-accepts {a} p {r} q {w} c =
-            reads-by text lengths records work a r w
-            (p ∙ rw (number-is, y, got .parsed, got .all))
-            (q ∙ rw (number-is, y, got .parsed, got .all))
-            (clear-is c)
+        module _ (y : v ≡ 0) where
+          pub read-fillable : Fillable text (s .maps) j (length records)
+          unfolding tableRule roomShort positive
+          read-fillable =
+              let l = mapsAt text (s .maps) in
+              let none = given-none (tableRules (length records) (length work) l) refl (sym told ∙ y) in
+              let fine : Fine l = record {
+                share = row-fails none;
+                ranges = row-fails (rows-past 1 none);
+                inside = row-fails (rows-past 2 none);
+              } in
+              record {
+                ready = got .room;
+                fine = fine;
+                held = h .judges .held (h .judges .number-is ∙ fine-refusal fine);
+                enough = ltb-false (length records) (total lengthOf (brainMaps l))
+                    (or-left _ (ltb (length work) (greatest lengthOf (brainMaps l))) (row-fails (rows-past 3 none)));
+              }
+
+          pub read-accepts : {a : Answer} → a ≡ acceptedWith (mapsAt text (s .maps)) → {r : List ℕ}
+              → r ≡ filledWith (stretches (mapsAt text (s .maps))) records → {w : List ℕ} → w ≡ replicate (length after) 0
+              → Reads text lengths records work a r w
+          unfolding answerOf recordsOf answerBy recordsBy A.mapsIn
+          read-accepts {a} p {r} q {w} c =
+              reads-by text lengths records work a r w
+              (p ∙ rw (number-is, y, got .parsed, got .all))
+              (q ∙ rw (number-is, y, got .parsed, got .all))
+              (clear-is c)
 
 pub ruleset reading = (read-refused, read-room, read-asks, read-later, read-fillable, read-accepts, needs)

@@ -1,5 +1,5 @@
-use Rattle.models.specs.Laws.Judged.{judging, Judging}
 use Prim.Native.Nat.{_-_}
+use Rattle.models.specs.Laws.Judged.{judging, Judging}
 use Rattle.judging.proofs.judge.judged.Statement.{statement}
 use Rattle.judging.proofs.judge.judged.Tie as tie
 
@@ -20,6 +20,7 @@ judged-spec =
     (λ c κs. search judging)
     (λ c κs. search judging)
     (λ c κs. search judging)
+    (λ c. search judging)
     (λ c. search judging)
     (λ c. search judging)
     (λ c. search judging)

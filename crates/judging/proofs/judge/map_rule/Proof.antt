@@ -11,5 +11,6 @@ map-rule-spec =
     (λ c. search ruling)
     (λ c κs. search ruling)
     (λ c. search ruling)
+    (λ c. search ruling)
     (λ c κs. search ruling)
     (λ c. search ruling))
