@@ -17,7 +17,11 @@ read-spec =
     (λ c κs. search reading)
     (λ c. search reading)
     (λ c. search reading)
-    (λ c κs. search reading)
+    (λ c κs. search (
+      c .before .before .before .before .before .before .before .before .before .before .before .before .judged .ensures,
+      c .before .before .before .before .before .before .before .before .later-refusal .ensures,
+      reading,
+    ))
     (λ c κs. search reading)
     (λ c. search reading)
     (λ c. search reading)

@@ -1,0 +1,12 @@
+use Rattle.reader.specs.Later.{twicing}
+use Rattle.reader.proofs.later.location_twice.Statement.{statement}
+use Rattle.reader.proofs.later.location_twice.Tie as tie
+
+pub location-twice-spec : {M : Type 1} → statement M
+location-twice-spec =
+    tie.close
+    (tie.spec
+    (λ c. search twicing)
+    (λ c κs. search twicing)
+    (λ c. search twicing)
+    (λ c. search twicing))
