@@ -22,7 +22,16 @@ fn all_lists(text: &[u8], models: Models, sizes: Sizes, grid: Grid, work: &mut [
     let mut i: usize = 0;
     while i < models.count {
         let first = surface_start(grid, models.offset[i]);
-        let v = marked_list(text, models.at[i], models.length[i], models.kind[i], sizes, grid, first, work);
+        let v = marked_list(
+            text,
+            models.at[i],
+            models.length[i],
+            models.kind[i],
+            sizes,
+            grid,
+            first,
+            work,
+        );
         if v.number == 11 {
             return Verdict {
                 number: 11,
@@ -50,7 +59,13 @@ fn words_for(length: u64, room: usize) -> usize
 }
 
 // The marks that may be met are cleared first; that it is so is of no matter but for speed.
-pub fn marked_lists(text: &[u8], models: Models, sizes: Sizes, length: u64, work: &mut [u64]) -> Verdict
+pub fn marked_lists(
+    text: &[u8],
+    models: Models,
+    sizes: Sizes,
+    length: u64,
+    work: &mut [u64],
+) -> Verdict
     requires { ⌜ Holding (now text) models ⌝ }
     ensures { λ r. ⌜ ModelsTold (volumeFrom sizes) (modelsAt (now (text .entry)) models) (now (work .entry)) r (now (work .exit)) ⌝ }
 {

@@ -9,6 +9,7 @@ use lib.ListN.{length, getD, set, length-set}
 use lib.Seq.{getD-set-same, getD-set-other}
 use Rattle.marks.specs.Marks.{bit, marked, Stay, Marked, Unset}
 use Rattle.marks.specs.Bits.{Side, under, same, over, side, sets, keeps, fits, one-shifted}
+use Rattle.marks.specs.Apart.{all-stay}
 
 pub power-is : {s r : ℕ} → s < 64 → r ≡ 1 * 2 ^ s % 2 ^ 64 → r ≡ 2 ^ s
 power-is {s} h e = e ∙ one-shifted s h
@@ -20,9 +21,11 @@ pub unset-here : {w s : ℕ} → s < 64 → w / 2 ^ s % 2 ≡ 0 → Unset w s
 unset-here h e = record { within = h; is-zero = e }
 
 pub not-new : {before : List ℕ} {place : ℕ} → Marked before place false before
-not-new = record { kept = record { long = refl; stays = λ q h. h }; unmarked = λ e. absurd (false≢true e); now-marked = λ e. absurd (false≢true e) }
+not-new {before} =
+    record { kept = all-stay before; unmarked = λ e. absurd (false≢true e); now-marked = λ e. absurd (false≢true e) }
 
-module _ (before : List ℕ) (place : ℕ) {at w v : ℕ} (ea : at ≡ place / 64) (inside : at < length before) (ew : w ≡ getD before at 0) (zero-bit : bit w (place % 64) ≡ 0) (ev : v ≡ w + 2 ^ (place % 64)) where
+module _ (before : List ℕ) (place : ℕ) {at w v : ℕ} (ea : at ≡ place / 64) (inside : at < length before) (ew : w ≡ getD before at 0)
+    (zero-bit : bit w (place % 64) ≡ 0) (ev : v ≡ w + 2 ^ (place % 64)) where
   same-word : (i : ℕ) → i ≡ at → getD (set before at v) i 0 ≡ w + 2 ^ (place % 64)
   same-word i e = ap (λ (x : ℕ). getD (set before at v) x 0) e ∙ getD-set-same before at v 0 inside ∙ ev
 

@@ -63,7 +63,8 @@ module _ (w s : ℕ) (unset : bit w s ≡ 0) where
       let q = w / 2 ^ s in
       let m = 2 ^ (63 - s) in
       let e : 64 ≡ 1 + (63 - s) + s = omega arith in
-      let top : 2 ^ 64 ≡ 2 * m * 2 ^ s = ap (λ (x : ℕ). 2 ^ x) e ∙ pow-add 2 (1 + (63 - s)) s ∙ ap (λ (x : ℕ). x * 2 ^ s) (pow-add 2 1 (63 - s)) in
+      let top : 2 ^ 64 ≡ 2 * m * 2 ^ s = ap (λ (x : ℕ). 2 ^ x) e ∙ pow-add 2 (1 + (63 - s)) s
+      ∙ ap (λ (x : ℕ). x * 2 ^ s) (pow-add 2 1 (63 - s)) in
       let small : q < 2 ^ (1 + (63 - s)) = shr-lt (1 + (63 - s)) s (subst (λ (x : ℕ). w < 2 ^ x) e v) in
       let two : 2 ^ (1 + (63 - s)) ≡ 2 * m = pow-add 2 1 (63 - s) in
       let step : suc (suc q) * 2 ^ s ≤ 2 * m * 2 ^ s = mul-le-mul-right (2 ^ s) (omega (arith, unset, small, two)) in

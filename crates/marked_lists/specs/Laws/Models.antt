@@ -106,7 +106,8 @@ module _ {text : List ℕ} {m : Models} {volume : Voxel} {grid : Grid} {before n
     models-known = judging-known (go .judging) u
 
     module _ {v : Verdict} {after : List ℕ} (t : ModelTold volume grid (modelOf (the text (getD (m .at) i 0))) now v after) where
-      pub models-uneven : v .number ≡ 11 → (a : Verdict) → a .number ≡ 11 → a .apart ≡ false → ModelsTold volume (modelsAt text m) before a after
+      pub models-uneven : v .number ≡ 11 → (a : Verdict) → a .number ≡ 11 → a .apart ≡ false
+          → ModelsTold volume (modelsAt text m) before a after
       models-uneven h a y z = record {
         number-is = y ∙ judging-uneven (go .judging) u (t .number-is) h;
         apart-is = not-told z;
@@ -117,7 +118,8 @@ module _ {text : List ℕ} {m : Models} {volume : Voxel} {grid : Grid} {before n
       unfolding modelAt
       one = ahead-one text m i u
 
-      pub models-on : (v .number ≡ 11 → ⊥) → ModelsRead text m volume grid before (out || eqb (v .number) 12) (apart && v .apart) (i + 1) after
+      pub models-on : (v .number ≡ 11 → ⊥)
+          → ModelsRead text m volume grid before (out || eqb (v .number) 12) (apart && v .apart) (i + 1) after
       unfolding vertexTwice voxelsIn
       models-on h = record {
         judging = judging-on (go .judging) u (t .number-is) h;
@@ -132,7 +134,8 @@ pub ruleset overModels = (models-start, models-kept, models-done, models-place, 
 
 -- ---- The rule of the map.
 
-module _ {text : List ℕ} {map : ℕ} {m : Models} {seen : Seen} (ask : Listable text map m seen) {t : Bool} (e : t ≡ tiling (rangesOf m)) where
+module _ {text : List ℕ} {map : ℕ} {m : Models} {seen : Seen} (ask : Listable text map m seen) {t : Bool}
+    (e : t ≡ tiling (rangesOf m)) where
   pub told-untiled : not t ≡ true → (work : List ℕ) → ListsTold (mapOf (the text map)) work 11 false work
   told-untiled n work = record { number-is = rule-untiled ask e n; apart-is = not-told refl; long = refl }
 

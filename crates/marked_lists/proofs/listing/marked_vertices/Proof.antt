@@ -6,7 +6,8 @@ use Rattle.marked_lists.proofs.listing.marked_vertices.Statement.{state
 use Rattle.marked_lists.proofs.listing.marked_vertices.Tie as tie
 
 abbrev Inv-loop : tie.InvT-loop
-Inv-loop text start length surface first work₀ n₀ out₀ apart₀ i₀ work n out apart i = VerticesRead text start surface first work₀ n out apart i work
+Inv-loop text start length surface first work₀ n₀ out₀ apart₀ i₀ work n out apart i =
+    VerticesRead text start surface first work₀ n out apart i work
 
 abbrev μ-loop : tie.MeasureT-loop
 μ-loop text start length surface first work₀ n₀ out₀ apart₀ i₀ work n out apart i = ListN.length text - i

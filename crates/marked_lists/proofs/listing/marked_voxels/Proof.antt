@@ -7,7 +7,8 @@ use Rattle.marked_lists.proofs.listing.marked_voxels.Statement.{stateme
 use Rattle.marked_lists.proofs.listing.marked_voxels.Tie as tie
 
 abbrev Inv-loop : tie.InvT-loop
-Inv-loop text start length sizes grid work₀ voxels₀ out₀ apart₀ at₀ work voxels out apart at = VoxelsRead text start (volumeFrom sizes) grid work₀ voxels out apart at work
+Inv-loop text start length sizes grid work₀ voxels₀ out₀ apart₀ at₀ work voxels out apart at =
+    VoxelsRead text start (volumeFrom sizes) grid work₀ voxels out apart at work
 
 abbrev μ-loop : tie.MeasureT-loop
 μ-loop text start length sizes grid work₀ voxels₀ out₀ apart₀ at₀ work voxels out apart at = ListN.length text - at

@@ -5,7 +5,8 @@ use Rattle.marked_lists.proofs.models_read.all_lists.Statement.{stateme
 use Rattle.marked_lists.proofs.models_read.all_lists.Tie as tie
 
 abbrev Inv-loop : tie.InvT-loop
-Inv-loop text sizes grid work₀ models out₀ apart₀ i₀ work out apart i = ModelsRead text models (volumeFrom sizes) grid work₀ out apart i work
+Inv-loop text sizes grid work₀ models out₀ apart₀ i₀ work out apart i =
+    ModelsRead text models (volumeFrom sizes) grid work₀ out apart i work
 
 abbrev μ-loop : tie.MeasureT-loop
 μ-loop text sizes grid work₀ models out₀ apart₀ i₀ work out apart i = models .count - i
