@@ -19,8 +19,8 @@
     10  two models of a map share type and structure
     11  a model does not list as many numbers as it says, or an index of the map is in no range or in two
     12  a vertex or voxel is outside its surface or volume
-    13  records lent are fewer than all stretches, or work space than the longest
-    14  a vertex twice in a model, or a voxel twice in a map
+    13  records lent are fewer than all stretches, or work space than the longest; of two sheets: work space than both counts
+    14  a vertex twice in a model, or a voxel twice in a map; of two sheets: a location twice in one of them
     15  sheet count 0 or above 1,048,576; unpacking: also not a sheet
     16  an illegal record
     17  the slice to be written is too short
@@ -186,6 +186,27 @@ uint64_t dz_index_of(const uint64_t *list, size_t list_len,
                      const uint64_t *records, size_t records_len,
                      uint64_t number,
                      uint64_t *place, size_t place_len);
+
+/* Two sheets side by side, each of 5 or of 7 bytes a record. A location is type, structure and numbers together. Refusals
+   15, 16 of the first sheet, then of the second, then 13, then 14 for a location twice in either.
+
+   work            all zero after every call. Room for both counts together is always enough.
+   counts          [0] = locations at the same index in both, [1] = in both but at another index, [2] = in the first
+                   only, [3] = in the second only. Refused: all 0. */
+uint64_t dz_compare(const uint8_t *first, size_t first_len,
+                    const uint8_t *second, size_t second_len,
+                    uint64_t *work, size_t work_len,
+                    uint64_t *counts, size_t counts_len);
+
+/* The part of the sheet with more records that the other has no place for, in its own width; of equal counts an empty
+   part of the first. Refusals and work as those of dz_compare.
+
+   part            [0] = 0 for the first sheet, 1 for the second; [1], [2] = where the part starts in it, and its length.
+                   Refused: 0, 0, 0. */
+uint64_t dz_tail(const uint8_t *first, size_t first_len,
+                 const uint8_t *second, size_t second_len,
+                 uint64_t *work, size_t work_len,
+                 uint64_t *part, size_t part_len);
 
 #ifdef __cplusplus
 }

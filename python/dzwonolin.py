@@ -9,6 +9,7 @@
     dzwonolin.read_file("brain.dscalar.nii")       the same of a NIfTI-2 file, by its path or its bytes
     dzwonolin.front("brain.dscalar.nii")           its number, lengths, and where the header text starts and how long it is
     dzwonolin.file_map_name("brain.dscalar.nii", 0, 1)
+    dzwonolin.compare(old, new)                    of two sheets: number, same, moved, first, second, and the longer's part
 
 On a terminal, with a NIfTI-2 file, or with the text of a header in a file and the lengths of its matrix:
 
@@ -16,6 +17,7 @@ On a terminal, with a NIfTI-2 file, or with the text of a header in a file and t
     python3 python/dzwonolin.py list header.xml 2,91282      the morning card, for a text of any size
     python3 python/dzwonolin.py card header.xml 2,91282      the same, then a line for each model:
         model START TYPE STRUCTURE NAME COUNT FIRST          stretch start, S or V, count, first index
+    python3 python/dzwonolin.py compare OLD NEW              two sheets: how many are same, moved, first, second; then what changed
 
 Standard library only. The shared library is looked for in DZWONOLIN_LIBRARY (a path), beside this file, in the
 folders lib, build, target/native and target above it, and then where the system keeps its own. The library is for x86-64 Linux; on
@@ -30,7 +32,7 @@ import pathlib
 import re
 import sys
 
-__all__ = ["read", "read_file", "front", "file_map_name", "map_name", "find", "pack", "unpack", "unfold", "Answer", "Dimension", "Front",
+__all__ = ["read", "read_file", "front", "file_map_name", "map_name", "find", "pack", "unpack", "unfold", "compare", "Answer", "Dimension", "Front",
            "STRUCTURES", "UNITS"]
 
 LENGTH_LIMIT = 1048576
@@ -62,6 +64,8 @@ _FUNCTIONS = {"dz_read": _SLICE * 5, "dz_map_name": _SLICE * 2 + (ctypes.c_uint6
 # the short list
 _FUNCTIONS.update({"dz_model_list": _SLICE * 3, "dz_structure_at": _SLICE + (ctypes.c_uint64,) + _SLICE,
                    "dz_index_of": _SLICE * 2 + (ctypes.c_uint64,) + _SLICE})
+# two sheets side by side
+_FUNCTIONS.update({"dz_compare": _SLICE * 4, "dz_tail": _SLICE * 4})
 
 
 # ----------------------------------------------------------- library and slices
@@ -307,6 +311,55 @@ def index_of(models, records, record):
     return _library().dz_index_of(lent, len(lent), records, len(records), _number(record), place, 1), place[0]
 
 
+# ------------------------------------------------------- two sheets side by side
+
+# How many locations are at the same index in both, in both but moved, in the first only, in the second only; and the part of the longer
+# sheet that the shorter has no place for. Refused: 0s and an empty part.
+Comparison = collections.namedtuple("Comparison", "number same moved first second part")
+
+
+def compare(first, second, work=None):
+    """Two sheets side by side. `work` is a size, or a buffer of 64-bit numbers; by default it is as large as the sheets can ask for."""
+    first, second = _bytes(first), _bytes(second)
+    sheets = (first, len(first), second, len(second))
+    work = _room(work, (len(first) + len(second)) // 5)
+    counts, part = (ctypes.c_uint64 * 4)(), (ctypes.c_uint64 * 3)()
+    number = _library().dz_compare(*sheets, work, len(work), counts, 4)
+    _library().dz_tail(*sheets, work, len(work), part, 3)
+    sheet, start, length = part
+    return Comparison(number, *counts, (first, second)[sheet][start:start + length])
+
+
+def changes(first, second):
+    """A line for each location that changed, as the comparer has them: of two sheets that `compare` does not refuse."""
+    old, new = unpack(first)[1], unpack(second)[1]
+    before, after = set(old), set(new)
+    for index, record in enumerate(old):
+        if index >= len(new) or new[index] != record:
+            yield " ".join(map(str, ("moved" if record in after else "first", index, *unfold(record))))
+    for index, record in enumerate(new):
+        if record not in before:
+            yield " ".join(map(str, ("second", index, *unfold(record))))
+
+
+def compared(first, second):
+    """The lines of the command: the counts, then what changed; or the refusal."""
+    told = compare(first, second)
+    if told.number:
+        yield f"refused {told.number}"
+        return
+    yield f"same {told.same} moved {told.moved} first {told.first} second {told.second}"
+    yield from changes(first, second)
+
+
+def _compare_files(paths):
+    lines = compared(*(pathlib.Path(path).read_bytes() for path in paths))
+    first = next(lines)
+    print(first)
+    sys.stdout.writelines(line + "\n" for line in lines)
+    return 1 if first.startswith("refused") else 0
+
+
 # ------------------------------------------------------------- the command line
 
 def _stretches(answer):
@@ -335,8 +388,10 @@ def models(answer):
 
 
 def main(arguments):
+    if len(arguments) == 3 and arguments[0] == "compare":
+        return _compare_files(arguments[1:])
     if len(arguments) not in (2, 3) or arguments[0] not in ("card", "list"):
-        print("usage: dzwonolin.py card|list FILE.nii, or card|list TEXT LENGTHS (as 2,91282)", file=sys.stderr)
+        print("usage: dzwonolin.py card|list FILE.nii, or card|list TEXT LENGTHS (as 2,91282), or compare OLD NEW", file=sys.stderr)
         return 2
     if len(arguments) == 2:
         answer = read_file(arguments[1])

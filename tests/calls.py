@@ -145,3 +145,14 @@ def structure_at(models, index):
 def index_of(models, records, record):
     number, index = dzwonolin.index_of(models, [fold(r) for r in records], fold(record))
     return {"number": number, "index": index}
+
+
+# ---- two sheets side by side
+
+def compare(first_sheet, second_sheet, work):
+    space = lent_numbers([7] * work)
+    told = dzwonolin.compare(bytes.fromhex(first_sheet), bytes.fromhex(second_sheet), space)
+    if any(space):
+        raise ValueError("the work space is not zero")
+    return {"number": told.number, "same": told.same, "moved": told.moved, "first": told.first, "second": told.second,
+            "tail": told.part.hex()}

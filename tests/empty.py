@@ -28,6 +28,8 @@ CALLS = {
     "dz_model_list": [paper.RECORDS_A, 8, 1],
     "dz_structure_at": [paper.LIST_A, (2,), 2],
     "dz_index_of": [paper.LIST_A, paper.RECORDS_A, (paper.RECORDS_A[1],), 1],
+    "dz_compare": [paper.SHEET_A, paper.SHEET_A, 6, 4],
+    "dz_tail": [paper.SHEET_A, paper.SHEET_A, 6, 3],
 }
 # The number where the slices named by their places are empty.
 NUMBERS = {
@@ -42,6 +44,8 @@ NUMBERS = {
     ("dz_model_list", (0,)): 15, ("dz_model_list", (1,)): 17, ("dz_model_list", (2,)): 0,
     ("dz_structure_at", (0,)): 19, ("dz_structure_at", (2,)): 0,
     ("dz_index_of", (0,)): 19, ("dz_index_of", (1,)): 26, ("dz_index_of", (3,)): 0,
+    ("dz_compare", (0,)): 15, ("dz_compare", (1,)): 15, ("dz_compare", (2,)): 13, ("dz_compare", (3,)): 0,
+    ("dz_tail", (0,)): 15, ("dz_tail", (1,)): 15, ("dz_tail", (2,)): 13, ("dz_tail", (3,)): 0,
 }
 
 

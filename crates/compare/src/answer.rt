@@ -1,21 +1,21 @@
-// The two questions on two sheets.
+// The questions on two sheets.
 use super::counting::counted;
-use super::counting::lay;
 use super::refusal::count_in;
 use super::refusal::refusal;
 use comparison::Compared;
+use comparison::TailPlace;
 use repeats::clear;
 ghost use mathlib.Core.Path.{_≡_};
 ghost use mathlib.Core.Bool.{true};
-ghost use Prim.Native.Nat.{_+_, _*_, _≤_};
+ghost use Prim.Native.Nat.{_≤_};
 ghost use lib.ListN.{length};
-ghost use Rattle.records.specs.Sheet.{countOf, widthOf};
-ghost use Rattle.comparison.specs.Compare.{wellFormed, Compares, Tails};
+ghost use Rattle.records.specs.Sheet.{countOf};
+ghost use Rattle.comparison.specs.Compare.{wellFormed, recordPlace, Compares, TailPlaced, Tails};
 
 // Where the sheet's record of the index begins.
 fn record_start(sheet: &[u8], i: usize) -> usize
     requires { ⌜ (wellFormed (now sheet) ≡ true) × (i ≤ countOf (now sheet)) ⌝ }
-    ensures { λ r. ⌜ (r ≡ 4 + (widthOf (now (sheet .entry))) .bytes * i) × (r ≤ length (now (sheet .entry))) ⌝ }
+    ensures { λ r. ⌜ (r ≡ recordPlace i (now (sheet .entry))) × (r ≤ length (now (sheet .entry))) ⌝ }
 {
     if sheet[0] == 5 { 4 + 5 * i } else { 4 + 7 * i }
 }
@@ -35,27 +35,54 @@ pub fn compare(first: &[u8], second: &[u8], work: &mut [u64]) -> Compared
             second: 0,
         };
     }
-    let n = count_in(first);
-    let m = count_in(second);
-    lay(first, second, work, n);
-    let answer = counted(&mut work[..n + m], n);
+    let answer = counted(first, second, work);
     clear(work);
     answer
 }
 
-// The records of the longer sheet that the shorter has no place for, in the longer's width.
-pub fn tail<'a>(first: &'a [u8], second: &'a [u8], work: &mut [u64]) -> &'a [u8]
-    ensures { λ r. ⌜ Tails (now (first .entry)) (now (second .entry)) (now (work .entry)) (now r) (now (work .exit)) ⌝ }
+// Which sheet is longer, and where its records begin that the shorter has no place for.
+pub fn tail_place(first: &[u8], second: &[u8], work: &mut [u64]) -> TailPlace
+    ensures { λ r. ⌜ TailPlaced (now (first .entry)) (now (second .entry)) (now (work .entry)) r (now (work .exit)) ⌝ }
 {
     let number = refusal(first, second, work);
     clear(work);
     if number != 0 {
-        return &first[0..0];
+        return TailPlace {
+            number,
+            sheet: 0,
+            start: 0,
+            length: 0,
+        };
     }
     let n = count_in(first);
     let m = count_in(second);
     if n < m {
-        return &second[record_start(second, n)..];
+        let start = record_start(second, n);
+        return TailPlace {
+            number: 0,
+            sheet: 1,
+            start,
+            length: second.len() - start,
+        };
     }
-    &first[record_start(first, m)..]
+    let start = record_start(first, m);
+    TailPlace {
+        number: 0,
+        sheet: 0,
+        start,
+        length: first.len() - start,
+    }
+}
+
+// Those records, in the longer's width.
+pub fn tail<'a>(first: &'a [u8], second: &'a [u8], work: &mut [u64]) -> &'a [u8]
+    ensures { λ r. ⌜ Tails (now (first .entry)) (now (second .entry)) (now (work .entry)) (now r) (now (work .exit)) ⌝ }
+{
+    let part = tail_place(first, second, work);
+    let start = part.start;
+    let end = start + part.length;
+    if part.sheet == 1 {
+        return &second[start..end];
+    }
+    &first[start..end]
 }

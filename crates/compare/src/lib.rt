@@ -4,8 +4,9 @@
 mod refusal;
 // How many locations are the same, moved, in the first only and in the second only.
 mod counting;
-// The two questions.
+// The questions.
 mod answer;
 
 pub use answer::compare;
 pub use answer::tail;
+pub use answer::tail_place;

@@ -2,14 +2,15 @@
 use repeats::repeats_in;
 use sheets::unpack;
 ghost use mathlib.Core.Path.{_≡_};
-ghost use mathlib.Core.Bool.{true};
+ghost use mathlib.Core.Bool.{true, _||_};
 ghost use Prim.Native.Nat.{_≤_};
 ghost use lib.Dec.{eqb};
 ghost use lib.ListN.{length};
 ghost use Rattle.lists.specs.Lists.{twoOf};
 ghost use Rattle.records.specs.Sheet.{countOf};
 ghost use Rattle.comparison.specs.Compare.{wellFormed, recordsOf, compareRefusal};
-ghost use Rattle.compare.specs.Laid.{sheetRefusal};
+ghost use Rattle.comparison.specs.Accepted.{sheetRefusal};
+ghost use Rattle.compare.specs.Refused.{sheetsRefusal, Roomy};
 
 // 15, 16 of one sheet, or 0.
 fn sheet_refusal(sheet: &[u8], work: &mut [u64]) -> u64
@@ -40,28 +41,38 @@ fn location_twice(sheet: &[u8], work: &mut [u64]) -> bool
     repeats_in(work, said.value as usize) == 14
 }
 
-// The paper's number, or 0.
-pub(crate) fn refusal(first: &[u8], second: &[u8], work: &mut [u64]) -> u64
-    ensures { λ r. ⌜ r ≡ compareRefusal (now (first .entry)) (now (second .entry)) (length (now (work .entry))) ⌝ }
+// 15, 16 of the first sheet, then of the second, or 0.
+fn sheets_refusal(first: &[u8], second: &[u8], work: &mut [u64]) -> u64
+    ensures { λ r. ⌜ r ≡ sheetsRefusal (now (first .entry)) (now (second .entry)) ⌝ }
 {
     let one = sheet_refusal(first, work);
     if one != 0 {
         return one;
     }
-    let two = sheet_refusal(second, work);
-    if two != 0 {
-        return two;
+    sheet_refusal(second, work)
+}
+
+// One of the sheets has a location twice.
+fn either_twice(first: &[u8], second: &[u8], work: &mut [u64]) -> bool
+    requires { ⌜ Roomy (now first) (now second) (length (now work)) ⌝ }
+    ensures { λ r. ⌜ r ≡ (twoOf eqb (recordsOf (now (first .entry))) || twoOf eqb (recordsOf (now (second .entry)))) ⌝ }
+{
+    if location_twice(first, work) {
+        return true;
     }
-    let n = count_in(first);
-    let m = count_in(second);
-    if work.len() < n + m {
+    location_twice(second, work)
+}
+
+// The paper's number, or 0.
+pub(crate) fn refusal(first: &[u8], second: &[u8], work: &mut [u64]) -> u64
+    ensures { λ r. ⌜ r ≡ compareRefusal (now (first .entry)) (now (second .entry)) (length (now (work .entry))) ⌝ }
+{
+    let number = sheets_refusal(first, second, work);
+    if number != 0 {
+        return number;
+    }
+    if work.len() < count_in(first) + count_in(second) {
         return 13;
     }
-    if location_twice(first, work) {
-        return 14;
-    }
-    if location_twice(second, work) {
-        return 14;
-    }
-    0
+    if either_twice(first, second, work) { 14 } else { 0 }
 }

@@ -12,6 +12,7 @@ use Rattle.records.specs.Width.{seven}
 use Rattle.records.specs.Outcome.{unless}
 use Rattle.records.specs.Sheet.{countOf, wordsIn, allGood, goodSheet, widthOf, heldIn}
 use Rattle.comparison.specs.declared.Compared.{Compared}
+use Rattle.comparison.specs.declared.TailPlace.{TailPlace}
 
 -- how many numbers below n pass
 unfoldable pub countBelow : ℕ → (ℕ → Bool) → ℕ
@@ -86,13 +87,30 @@ pub record Compares (s t before : List ℕ) (answer : Compared) (after : List �
   pub answers : answer ≡ compared (compareRefusal s t (length before)) (recordsOf s) (recordsOf t)
   pub zero : after ≡ replicate (length before) 0
 
--- the bytes of a sheet behind its first n records
+-- where the record of the index n begins, and the bytes of a sheet behind its first n records
+abbrev pub recordPlace : ℕ → List ℕ → ℕ
+recordPlace n s = 4 + (widthOf s) .bytes * n
+
 unfoldable pub behind : ℕ → List ℕ → List ℕ
-behind n s = drop (4 + (widthOf s) .bytes * n) s
+behind n s = drop (recordPlace n s) s
 
 -- of the sheet with more records, those that the other has no place for; of equal counts nothing, of the first
 unfoldable pub partOf : List ℕ → List ℕ → List ℕ
 partOf s t = cond (ltb (countOf s) (countOf t)) (behind (countOf s) t) (behind (countOf t) s)
+
+-- which sheet that is, 0 or 1, where the part starts there, and how long it is
+unfoldable pub placed : (number : ℕ) → List ℕ → List ℕ → TailPlace
+placed n s t = record {
+  number = n;
+  sheet = unless n (cond (ltb (countOf s) (countOf t)) 1 0) 0;
+  start = unless n (cond (ltb (countOf s) (countOf t)) (recordPlace (countOf s) t) (recordPlace (countOf t) s)) 0;
+  length = unless n (length (partOf s t)) 0;
+}
+
+-- what `tail_place` promises
+pub record TailPlaced (s t before : List ℕ) (answer : TailPlace) (after : List ℕ) : Type 0 where
+  pub answers : answer ≡ placed (compareRefusal s t (length before)) s t
+  pub zero : after ≡ replicate (length before) 0
 
 -- what `tail` promises
 pub record Tails (s t before part after : List ℕ) : Type 0 where
@@ -101,5 +119,5 @@ pub record Tails (s t before part after : List ℕ) : Type 0 where
 
 -- opens every definition above
 unfoldable pub compareWords : Unit {0}
-unfolding countBelow hasAt has sameAt movedAt onlyAt compareRefusal compared behind partOf
+unfolding countBelow hasAt has sameAt movedAt onlyAt compareRefusal compared behind partOf placed
 compareWords = tt

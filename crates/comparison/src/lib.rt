@@ -9,3 +9,12 @@ pub struct Compared {
     pub first: usize,
     pub second: usize,
 }
+
+// The number of the refusal, or 0; which sheet the part is of, 0 the first and 1 the second, where it starts there, and how many bytes it
+// has. All 0 where refused.
+pub struct TailPlace {
+    pub number: u64,
+    pub sheet: u64,
+    pub start: usize,
+    pub length: usize,
+}

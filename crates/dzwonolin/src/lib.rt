@@ -8,6 +8,7 @@ use records::Index;
 ghost use Rattle.dzwonolin.specs.Promises.{ReadsFlat, NamesFlat, FindsFlat, PacksFlat, UnpacksFlat};
 ghost use Rattle.dzwonolin.specs.Promises.{FrontsFlat, ReadsFileFlat, FileNamesFlat};
 ghost use Rattle.dzwonolin.specs.Lists.{ListsFlat, TellsFlat, SeeksFlat};
+ghost use Rattle.dzwonolin.specs.Sides.{ComparesFlat, TailsFlat};
 
 #[no_mangle]
 pub extern "C" fn dz_read(
@@ -142,4 +143,35 @@ pub extern "C" fn dz_index_of(list: &[u64], records: &[u64], number: u64, place:
     let said = flat_lists::index_in(list, records, number);
     tell_one(place, flat_lists::sought_index(said));
     flat_lists::sought_number(said)
+}
+
+// ---- Two sheets side by side.
+
+#[no_mangle]
+pub extern "C" fn dz_compare(first: &[u8], second: &[u8], work: &mut [u64], counts: &mut [u64]) -> u64
+    ensures { λ r. ⌜ ComparesFlat (now (first .entry)) (now (second .entry)) (now (work .entry)) (now (counts .entry)) r
+        (now (work .exit)) (now (counts .exit)) ⌝ }
+{
+    let said = compare::compare(first, second, work);
+    let mut row = [0u64; 4];
+    row[0] = said.same as u64;
+    row[1] = said.moved as u64;
+    row[2] = said.first as u64;
+    row[3] = said.second as u64;
+    tell_row(counts, &row);
+    said.number
+}
+
+#[no_mangle]
+pub extern "C" fn dz_tail(first: &[u8], second: &[u8], work: &mut [u64], part: &mut [u64]) -> u64
+    ensures { λ r. ⌜ TailsFlat (now (first .entry)) (now (second .entry)) (now (work .entry)) (now (part .entry)) r (now (work .exit))
+        (now (part .exit)) ⌝ }
+{
+    let said = compare::tail_place(first, second, work);
+    let mut row = [0u64; 3];
+    row[0] = said.sheet;
+    row[1] = said.start as u64;
+    row[2] = said.length as u64;
+    tell_row(part, &row);
+    said.number
 }

@@ -7,3 +7,4 @@ mod sheet;
 
 pub use sheet::pack;
 pub use sheet::unpack;
+pub use word::record_at;

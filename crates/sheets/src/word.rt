@@ -69,3 +69,12 @@ pub(crate) fn record_of(width: usize, word: u64) -> u64
         word / 4 % 18_014_398_509_481_984
     }
 }
+
+// The record of the index `i`.
+pub fn record_at(sheet: &[u8], width: usize, i: usize) -> u64
+    requires { ⌜ 4 + (widthSaid width) .bytes * (i + 1) ≤ length (now sheet) ⌝ }
+    ensures { λ r. ⌜ r ≡ carried seven (widthSaid width) (bare (widthSaid width) (numberWritten (take ((widthSaid width) .bytes)
+        (drop (4 + (widthSaid width) .bytes * i) (now (sheet .entry)))))) ⌝ }
+{
+    record_of(width, word_at(sheet, width, i))
+}

@@ -9,13 +9,14 @@ use borrow.Author.Tests.{lt-ltb, le-ltb, not-false, not-true}
 use lib.Dec.{eqb, ltb}
 use Rattle.lists.specs.Lists.{twoOf}
 use Rattle.lists.specs.Refusals.{Refusal, _when_, first}
-use Rattle.lists.specs.Laws.Booleans.{or-first, or-second, or-neither, clash}
+use Rattle.lists.specs.Laws.Booleans.{or-first}
 use Rattle.records.specs.Outcome.{ends, applies, passes, gives-first}
 use Rattle.records.specs.Sheet.{countOf, widthOf, Unpacks, unpackRefusal}
 use Rattle.records.specs.declared.outcome.Outcome.{Outcome}
 use lib.ListN.{length}
 use Rattle.comparison.specs.Compare.{recordsOf, wellFormed, wellFilled, compareRefusal}
-use Rattle.compare.specs.Laid.{sheetRefusal}
+use Rattle.comparison.specs.Accepted.{sheetRefusal}
+use Rattle.compare.specs.Refused.{sheetsRefusal, Roomy}
 
 kept : (a b : Bool) (l : List Refusal) → (first (15 when a ∷ 16 when b ∷ []) ≡ 0 → ⊥) → first (15 when a ∷ 16 when b ∷ []) ≡ first
     (15 when a ∷ 16 when b ∷ l)
@@ -30,15 +31,24 @@ past true b l h = absurd (let z : _≡_ {A = ℕ} 15 0 = h in omega arith)
 past false true l h = absurd (let z : _≡_ {A = ℕ} 16 0 = h in omega arith)
 past false false l h = refl
 
--- a sheet that is not refused
-pub fine : (s : List ℕ) → sheetRefusal s ≡ 0 → (wellFormed s ≡ true) × (wellFilled s ≡ true)
-unfolding sheetRefusal first
-fine s h = go (wellFormed s) (wellFilled s) h
-  where
-    go : (a b : Bool) → first (15 when not a ∷ 16 when not b ∷ []) ≡ 0 → (a ≡ true) × (b ≡ true)
-    go true true h = (refl, refl)
-    go true false h = absurd (let z : _≡_ {A = ℕ} 16 0 = h in omega arith)
-    go false b h = absurd (let z : _≡_ {A = ℕ} 15 0 = h in omega arith)
+kept-four : (a b c d : Bool) (l : List Refusal) → (first (15 when not a ∷ 16 when not b ∷ 15 when not c ∷ 16 when not d ∷ []) ≡ 0 → ⊥)
+    → first (15 when not a ∷ 16 when not b ∷ 15 when not c ∷ 16 when not d ∷ []) ≡ first
+    (15 when not a ∷ 16 when not b ∷ 15 when not c ∷ 16 when not d ∷ l)
+unfolding first
+kept-four false b c d l h = refl
+kept-four true false c d l h = refl
+kept-four true true false d l h = refl
+kept-four true true true false l h = refl
+kept-four true true true true l h = absurd (h refl)
+
+none-four : (a b c d : Bool) → first (15 when not a ∷ 16 when not b ∷ 15 when not c ∷ 16 when not d ∷ []) ≡ 0
+    → (first (15 when not a ∷ 16 when not b ∷ []) ≡ 0) × (first (15 when not c ∷ 16 when not d ∷ []) ≡ 0)
+unfolding first
+none-four false b c d h = absurd (let z : _≡_ {A = ℕ} 15 0 = h in omega arith)
+none-four true false c d h = absurd (let z : _≡_ {A = ℕ} 16 0 = h in omega arith)
+none-four true true false d h = absurd (let z : _≡_ {A = ℕ} 15 0 = h in omega arith)
+none-four true true true false h = absurd (let z : _≡_ {A = ℕ} 16 0 = h in omega arith)
+none-four true true true true h = (refl, refl)
 
 -- the first two rows of unpacking
 seventeen : (a b c : Bool) → first (15 when a ∷ 16 when b ∷ 17 when c ∷ []) ≡ 17 → 0 ≡ first (15 when a ∷ 16 when b ∷ [])
@@ -67,49 +77,54 @@ module _ {s before : List ℕ} {o : Outcome} {after : List ℕ} (u : Unpacks s b
   unfolding unpackRefusal sheetRefusal
   judged-number h = said ∙ other (not (wellFormed s)) (not (wellFilled s)) (ltb (length before) (countOf s)) (λ e. h (said ∙ e))
 
-module _ (s t : List ℕ) (room : ℕ) {a : ℕ} (one : a ≡ sheetRefusal s) where
-  pub first-refused : (a ≡ 0 → ⊥) → a ≡ compareRefusal s t room
-  unfolding sheetRefusal compareRefusal
+-- ---- Of both sheets.
+
+module _ (s t : List ℕ) {a : ℕ} (one : a ≡ sheetRefusal s) where
+  pub first-refused : (a ≡ 0 → ⊥) → a ≡ sheetsRefusal s t
+  unfolding sheetRefusal sheetsRefusal
   first-refused h = one ∙ kept (not (wellFormed s)) (not (wellFilled s)) _ (λ e. h (one ∙ e))
 
-  module _ (none : a ≡ 0) {b : ℕ} (two : b ≡ sheetRefusal t) where
-    pub second-refused : (b ≡ 0 → ⊥) → b ≡ compareRefusal s t room
-    unfolding sheetRefusal compareRefusal
-    second-refused h =
-        two ∙ kept (not (wellFormed t)) (not (wellFilled t)) _ (λ e. h (two ∙ e))
-        ∙ sym (past (not (wellFormed s)) (not (wellFilled s)) _ (sym one ∙ none))
+  pub second-refused : {b : ℕ} → a ≡ 0 → b ≡ sheetRefusal t → b ≡ sheetsRefusal s t
+  unfolding sheetRefusal sheetsRefusal
+  second-refused none two = two ∙ sym (past (not (wellFormed s)) (not (wellFilled s)) _ (sym one ∙ none))
 
-    module _ (neither : b ≡ 0) where
-      rest : compareRefusal s t room
-          ≡ first (13 when ltb room (countOf s + countOf t) ∷ 14 when (twoOf eqb (recordsOf s) || twoOf eqb (recordsOf t)) ∷ [])
-      unfolding sheetRefusal compareRefusal
-      rest = past (not (wellFormed s)) (not (wellFilled s)) _ (sym one ∙ none) ∙ past (not (wellFormed t)) (not (wellFilled t)) _
-          (sym two ∙ neither)
+module _ (s t : List ℕ) {a : ℕ} (both : a ≡ sheetsRefusal s t) where
+  -- four rows of which one applies, and of which none does
+  pub sheets-refused : (room : ℕ) → (a ≡ 0 → ⊥) → a ≡ compareRefusal s t room
+  unfolding sheetsRefusal compareRefusal
+  sheets-refused room h = both ∙ kept-four (wellFormed s) (wellFilled s) (wellFormed t) (wellFilled t) _ (λ e. h (both ∙ e))
 
-      module _ {n m : ℕ} (counts : n ≡ countOf s) (countt : m ≡ countOf t) where
-        pub no-room : room < n + m → 13 ≡ compareRefusal s t room
-        no-room h = sym (rest ∙ gives-first (applies (lt-ltb room (countOf s + countOf t) (omega arith))))
+  pub sheets-fine : a ≡ 0 → (sheetRefusal s ≡ 0) × (sheetRefusal t ≡ 0)
+  unfolding sheetsRefusal sheetRefusal
+  sheets-fine z = none-four (wellFormed s) (wellFilled s) (wellFormed t) (wellFilled t) (sym both ∙ z)
 
-        module _ (fits : n + m ≤ room) {c : Bool} (three : c ≡ twoOf eqb (recordsOf s)) where
-          enough : ltb room (countOf s + countOf t) ≡ false
-          enough = le-ltb room (countOf s + countOf t) (omega arith)
+  module _ (z : a ≡ 0) (room : ℕ) {n m : ℕ} (counts : n ≡ countOf s) (countt : m ≡ countOf t) where
+    rest : compareRefusal s t room
+        ≡ first (13 when ltb room (countOf s + countOf t) ∷ 14 when (twoOf eqb (recordsOf s) || twoOf eqb (recordsOf t)) ∷ [])
+    unfolding sheetsRefusal sheetRefusal compareRefusal
+    rest = let f = sheets-fine z in past (not (wellFormed s)) (not (wellFilled s)) _ (f .0)
+        ∙ past (not (wellFormed t)) (not (wellFilled t)) _ (f .1)
 
-          pub first-twice : c ≡ true → 14 ≡ compareRefusal s t room
-          first-twice h =
-              let so = or-first (twoOf eqb (recordsOf s)) (twoOf eqb (recordsOf t)) (sym three ∙ h) in
-              sym (rest ∙ gives-first (passes enough (applies so)))
+    pub no-room : room < n + m → 13 ≡ compareRefusal s t room
+    no-room h = sym (rest ∙ gives-first (applies (lt-ltb room (countOf s + countOf t) (omega arith))))
 
-          module _ (no : c ≡ false) {d : Bool} (four : d ≡ twoOf eqb (recordsOf t)) where
-            pub second-twice : d ≡ true → 14 ≡ compareRefusal s t room
-            second-twice h =
-                let so = or-second (twoOf eqb (recordsOf s)) (sym four ∙ h) in
-                sym (rest ∙ gives-first (passes enough (applies so)))
+    module _ (fits : n + m ≤ room) where
+      pub roomy : Roomy s t room
+      roomy = let f = sheets-fine z in record { one = f .0; two = f .1; fits = omega arith }
 
-            pub none-refused : d ≡ false → 0 ≡ compareRefusal s t room
-            none-refused h = sym (rest ∙ gives-first (passes enough (passes (or-neither (sym three ∙ no) (sym four ∙ h)) ends)))
+      enough : ltb room (countOf s + countOf t) ≡ false
+      enough = le-ltb room (countOf s + countOf t) (omega arith)
 
--- a sheet that is not refused may be asked for its count
-pub formed : (s : List ℕ) {a : ℕ} → a ≡ sheetRefusal s → a ≡ 0 → wellFormed s ≡ true
-formed s e h = fine s (sym e ∙ h) .0
+      module _ {c : Bool} (twice : c ≡ (twoOf eqb (recordsOf s) || twoOf eqb (recordsOf t))) where
+        pub either-refused : c ≡ true → 14 ≡ compareRefusal s t room
+        either-refused h = sym (rest ∙ gives-first (passes enough (applies (sym twice ∙ h))))
 
-pub ruleset rows = (first-refused, second-refused, no-room, first-twice, second-twice, none-refused, needs)
+        pub none-refused : c ≡ false → 0 ≡ compareRefusal s t room
+        none-refused h = sym (rest ∙ gives-first (passes enough (passes (sym twice ∙ h) ends)))
+
+-- one of two, as the code asks
+pub twice-first : (a b : Bool) {c : Bool} → c ≡ a → c ≡ true → true ≡ (a || b)
+twice-first a b e h = sym (or-first a b (sym e ∙ h))
+
+pub twice-second : (a b : Bool) {c d : Bool} → c ≡ a → c ≡ false → d ≡ b → d ≡ (a || b)
+twice-second a b e h f = f ∙ sym (ap (λ (x : Bool). x || b) (sym e ∙ h))

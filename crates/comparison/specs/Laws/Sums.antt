@@ -106,13 +106,13 @@ module _ (a b : List ℕ) where
 
 -- ---- Without repeats as many of the one are in the other as of the other in the one.
 
-none : (p : ℕ → Bool) (b : List ℕ) → any p b ≡ false → count p b ≡ 0
+pub none : (p : ℕ → Bool) (b : List ℕ) → any p b ≡ false → count p b ≡ 0
 unfolding any count
 none p [] h = refl
 none p (y ∷ b) h = rw (or-left (p y) (any p b) h) (let e = none p b (or-right (p y) (any p b) h) in omega arith)
 
 -- a number counted in a list without repeats
-once : (x : ℕ) (b : List ℕ) → twoOf eqb b ≡ false → count (eqb x) b ≡ cond (has b x) 1 0
+pub once : (x : ℕ) (b : List ℕ) → twoOf eqb b ≡ false → count (eqb x) b ≡ cond (has b x) 1 0
 unfolding twoOf has count any
 once x [] h = refl
 once x (y ∷ b) h = go (eqb x y) refl (once x b (or-right (any (eqb y) b) (twoOf eqb b) h))

@@ -5,19 +5,13 @@ use mathlib.Core.Bool.{Bool, true, false, cond, _&&_, _||_}
 use mathlib.Core.List.{List, [], _∷_, _++_, map}
 use Prim.Native.Nat.{ℕ, zero, suc, _+_, _*_, _%_, _≤_, _<_}
 use native.Mathlib.Omega.{arith}
-use native.Mathlib.Nat.{mod-eq-of-lt}
 use lib.Dec.{eqb, leb}
-use lib.ListN.{length, getD}
 use borrow.Author.Tests.{eqb-true, eqb-false, eq-eqb, ne-eqb, le-leb}
 use Rattle.lists.specs.Lists.{any, count}
 use Rattle.lists.specs.Laws.Lists.{count-append}
 use Rattle.comparison.specs.Matched.{member, paired, matched}
+use Rattle.comparison.specs.Tagged.{tagged}
 use Rattle.comparison.specs.Compare.{has}
-use Rattle.compare.specs.Laid.{tagged}
-
--- the records of a list are of 54 bits
-abbrev pub Small : List ℕ → Type 0
-Small l = (k : ℕ) → getD l k 0 < 18014398509481984
 
 none-odd : (x : ℕ) (a : List ℕ) → count (λ y. eqb y (tagged 0 x + 1)) (map (tagged 0) a) ≡ 0
 unfolding count
@@ -25,11 +19,10 @@ none-odd x [] = refl
 none-odd x (y ∷ a) = rw (ne-eqb (tagged 0 y) (tagged 0 x + 1) (λ h. omega arith)) (let e = none-odd x a in omega arith)
 
 -- found among the odd, as often as in the list
-found : (x : ℕ) → x < 18014398509481984 → (b : List ℕ) → Small b → leb 1 (count (λ y. eqb y (tagged 0 x + 1)) (map
-    (tagged 1) b)) ≡ any (eqb x) b
+found : (x : ℕ) (b : List ℕ) → leb 1 (count (λ y. eqb y (tagged 0 x + 1)) (map (tagged 1) b)) ≡ any (eqb x) b
 unfolding count any
-found x h [] s = refl
-found x h (y ∷ b) s = go (eqb x y) refl (found x h b (λ k. s (suc k)))
+found x [] = refl
+found x (y ∷ b) = go (eqb x y) refl (found x b)
   where
     n : ℕ
     n = count (λ z. eqb z (tagged 0 x + 1)) (map (tagged 1) b)
@@ -38,48 +31,44 @@ found x h (y ∷ b) s = go (eqb x y) refl (found x h b (λ k. s (suc k)))
         (eqb x y || any (eqb x) b)
     go true e r =
         let xy : x ≡ y = eqb-true x y e in
-        let same : x % 18014398509481984 ≡ y % 18014398509481984 = ap (λ (n : ℕ). n % 18014398509481984) xy in
         let q : tagged 1 y ≡ tagged 0 x + 1 = omega arith in
         rw (e, eq-eqb (tagged 1 y) (tagged 0 x + 1) q) (le-leb 1 (1 + n) (omega arith))
     go false e r =
         let d = eqb-false x y e in
-        let g : y < 18014398509481984 = s 0 in
         let z : 0 + n ≡ n = omega arith in
-        let mx : x % 18014398509481984 ≡ x = mod-eq-of-lt h in
-        let my : y % 18014398509481984 ≡ y = mod-eq-of-lt g in
         rw (e, ne-eqb (tagged 1 y) (tagged 0 x + 1) (λ q. d (omega arith))) (ap (leb 1) z ∙ r)
 
-module _ (a b : List ℕ) (sb : Small b) where
+module _ (a b : List ℕ) where
   abbrev both : List ℕ
   both = map (tagged 0) a ++ map (tagged 1) b
 
-  even-one : (x : ℕ) → x < 18014398509481984 → paired both (tagged 0 x) ≡ has b x
+  even-one : (x : ℕ) → paired both (tagged 0 x) ≡ has b x
   unfolding paired member has
-  even-one x h =
+  even-one x =
       let sum : count (λ y. eqb y (tagged 0 x + 1)) both ≡ count (λ y. eqb y (tagged 0 x + 1)) (map (tagged 1) b) =
       count-append (λ y. eqb y (tagged 0 x + 1)) (map (tagged 0) a) (map (tagged 1) b)
       ∙ ap (λ (n : ℕ). n + count (λ y. eqb y (tagged 0 x + 1)) (map (tagged 1) b)) (none-odd x a) ∙ omega arith in
       let even : eqb (tagged 0 x % 2) 0 ≡ true = eq-eqb (tagged 0 x % 2) 0 (omega arith) in
-      rw (even, sum) (found x h b sb)
+      rw (even, sum) (found x b)
 
   odd-one : (x : ℕ) → paired both (tagged 1 x) ≡ false
   unfolding paired
   odd-one x = rw (ne-eqb (tagged 1 x % 2) 0 (λ h. omega arith)) refl
 
-  evens : (l : List ℕ) → Small l → count (paired both) (map (tagged 0) l) ≡ count (has b) l
+  evens : (l : List ℕ) → count (paired both) (map (tagged 0) l) ≡ count (has b) l
   unfolding count
-  evens [] s = refl
-  evens (x ∷ l) s = rw (even-one x (s 0)) (ap (λ (n : ℕ). cond (has b x) 1 0 + n) (evens l (λ k. s (suc k))))
+  evens [] = refl
+  evens (x ∷ l) = rw (even-one x) (ap (λ (n : ℕ). cond (has b x) 1 0 + n) (evens l))
 
   odds : (l : List ℕ) → count (paired both) (map (tagged 1) l) ≡ 0
   unfolding count
   odds [] = refl
   odds (x ∷ l) = rw (odd-one x) (let e = odds l in omega arith)
 
-  pub matched-both : Small a → matched (map (tagged 0) a ++ map (tagged 1) b) ≡ count (has b) a
+  pub matched-both : matched (map (tagged 0) a ++ map (tagged 1) b) ≡ count (has b) a
   unfolding matched
-  matched-both sa =
+  matched-both =
       let e = count-append (paired both) (map (tagged 0) a) (map (tagged 1) b) in
-      let f = evens a sa in
+      let f = evens a in
       let g = odds b in
       omega arith

@@ -4,13 +4,14 @@ use mathlib.Core.Bool.{Bool, true}
 use mathlib.Core.List.{List}
 use Prim.Native.Nat.{ℕ, _+_, _-_, _*_, _/_, _^_, _≤_, _<_}
 use native.Mathlib.Omega.{arith}
+use native.Mathlib.Nat.{mul-le-mul-left}
 use borrow.Author.Needs.{needs}
 use borrow.Author.Tests.{eq-eqb, ne-eqb}
 use lib.ListN.{length, getD}
 use Rattle.records.specs.Width.{Width, five, seven, widthSaid}
 use Rattle.records.specs.Sheet.{countOf, widthOf}
 use Rattle.records.specs.Laws.Sheet.{GoodSheet, sheet-good, count-small}
-use Rattle.comparison.specs.Compare.{wellFormed}
+use Rattle.comparison.specs.Compare.{wellFormed, recordPlace}
 
 says-five : (b : ℕ) → b ≡ 5 → (widthSaid b) .bytes ≡ 5
 unfolding widthSaid
@@ -51,3 +52,7 @@ module _ (s : List ℕ) (ok : wellFormed s ≡ true) where
         let e = says-seven (getD s 0 0) f in
         let z = sized 7 e in
         (ap (λ (n : ℕ). 4 + n * i) (sym e), omega arith)
+
+    pub start-inside : recordPlace i s ≤ length s
+    start-inside = let z = good .size in let k : (widthOf s) .bytes * i ≤ (widthOf s) .bytes * countOf s = mul-le-mul-left
+        ((widthOf s) .bytes) h in omega arith
