@@ -5,7 +5,7 @@ use mathlib.Core.List.{List, [], _∷_, map}
 use mathlib.Core.Logic.{_⊎_, ⊎-elim}
 use Prim.Native.Nat.{ℕ, zero, suc, _+_, _-_, _*_, _≤_, _<_}
 use native.Mathlib.Omega.{arith}
-use native.Mathlib.Nat.{mul-zero, mul-suc}
+use native.Mathlib.Nat.{mul-zero, mul-suc, mul-add}
 use lib.Dec.{eqb, ltb}
 use lib.ListN.{length, getD, take, drop, length-drop}
 use lib.Seq.{drop-drop}
@@ -81,7 +81,7 @@ behind-holds s n ok h =
     }
   where
     shared : (w n m : ℕ) → n ≤ m → w * m ≡ w * n + w * (m - n)
-    shared w n m h = let e : m ≡ n + (m - n) = omega arith in ap (λ (k : ℕ). w * k) e ∙ mul-add-left w n (m - n)
+    shared w n m h = let e : m ≡ n + (m - n) = omega arith in ap (λ (k : ℕ). w * k) e ∙ mul-add w n (m - n)
 
 -- of two sheets that are not refused, the part is the records of the longer from the other's count on; of equal counts it is none
 pub tail-holds : (s t before part after : List ℕ) → Tails s t before part after → compareRefusal s t (length before) ≡ 0
