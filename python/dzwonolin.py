@@ -32,8 +32,8 @@ import pathlib
 import re
 import sys
 
-__all__ = ["read", "read_file", "front", "file_map_name", "map_name", "find", "pack", "unpack", "unfold", "compare", "Answer", "Dimension", "Front",
-           "STRUCTURES", "UNITS"]
+__all__ = ["read", "read_file", "front", "file_map_name", "map_name", "find", "pack", "unpack", "unfold", "compare", "Answer",
+           "Dimension", "Front", "STRUCTURES", "UNITS"]
 
 LENGTH_LIMIT = 1048576
 # An answer of dz_read, by the names of include/dzwonolin.h: a head, then the numbers of three dimensions.
@@ -313,8 +313,7 @@ def index_of(models, records, record):
 
 # ------------------------------------------------------- two sheets side by side
 
-# How many locations are at the same index in both, in both but moved, in the first only, in the second only; and the part of the longer
-# sheet that the shorter has no place for. Refused: 0s and an empty part.
+# The counts, and the part of the longer sheet that the shorter has no place for. Refused: 0s and an empty part.
 Comparison = collections.namedtuple("Comparison", "number same moved first second part")
 
 
@@ -334,30 +333,21 @@ def changes(first, second):
     """A line for each location that changed, as the comparer has them: of two sheets that `compare` does not refuse."""
     old, new = unpack(first)[1], unpack(second)[1]
     before, after = set(old), set(new)
-    for index, record in enumerate(old):
-        if index >= len(new) or new[index] != record:
-            yield " ".join(map(str, ("moved" if record in after else "first", index, *unfold(record))))
-    for index, record in enumerate(new):
-        if record not in before:
-            yield " ".join(map(str, ("second", index, *unfold(record))))
-
-
-def compared(first, second):
-    """The lines of the command: the counts, then what changed; or the refusal."""
-    told = compare(first, second)
-    if told.number:
-        yield f"refused {told.number}"
-        return
-    yield f"same {told.same} moved {told.moved} first {told.first} second {told.second}"
-    yield from changes(first, second)
+    told = [("moved" if r in after else "first", i, r) for i, r in enumerate(old) if i >= len(new) or new[i] != r]
+    for word, index, record in told + [("second", i, r) for i, r in enumerate(new) if r not in before]:
+        yield " ".join(map(str, (word, index, *unfold(record))))
 
 
 def _compare_files(paths):
-    lines = compared(*(pathlib.Path(path).read_bytes() for path in paths))
-    first = next(lines)
-    print(first)
-    sys.stdout.writelines(line + "\n" for line in lines)
-    return 1 if first.startswith("refused") else 0
+    """The command: the counts, then what changed; or the refusal."""
+    sheets = [pathlib.Path(path).read_bytes() for path in paths]
+    told = compare(*sheets)
+    if told.number:
+        print(f"refused {told.number}")
+        return 1
+    print(f"same {told.same} moved {told.moved} first {told.first} second {told.second}")
+    sys.stdout.writelines(line + "\n" for line in changes(*sheets))
+    return 0
 
 
 # ------------------------------------------------------------- the command line

@@ -74,5 +74,9 @@ pub(crate) fn refusal(first: &[u8], second: &[u8], work: &mut [u64]) -> u64
     if work.len() < count_in(first) + count_in(second) {
         return 13;
     }
-    if either_twice(first, second, work) { 14 } else { 0 }
+    if either_twice(first, second, work) {
+        14
+    } else {
+        0
+    }
 }

@@ -1,4 +1,4 @@
--- THEOREMS ON THE PART: its place holds it, there is one answer, and it is those records of the longer sheet, in its width. Assumes nothing.
+-- THEOREMS ON THE PART: one answer, its place holds it, and it is those records of the longer sheet, in its width. Assumes nothing.
 use mathlib.Core.Path.{_≡_, refl, sym, ap, _∙_, subst}
 use mathlib.Core.Bool.{Bool, true, false, cond}
 use mathlib.Core.List.{List, [], _∷_, map}

@@ -148,7 +148,12 @@ pub extern "C" fn dz_index_of(list: &[u64], records: &[u64], number: u64, place:
 // ---- Two sheets side by side.
 
 #[no_mangle]
-pub extern "C" fn dz_compare(first: &[u8], second: &[u8], work: &mut [u64], counts: &mut [u64]) -> u64
+pub extern "C" fn dz_compare(
+    first: &[u8],
+    second: &[u8],
+    work: &mut [u64],
+    counts: &mut [u64],
+) -> u64
     ensures { λ r. ⌜ ComparesFlat (now (first .entry)) (now (second .entry)) (now (work .entry)) (now (counts .entry)) r
         (now (work .exit)) (now (counts .exit)) ⌝ }
 {

@@ -22,7 +22,7 @@ use Rattle.comparison.specs.Laws.Counts.{formed-most}
 use Rattle.comparison.specs.Laws.Held.{held-long, held-small, held-at}
 use Rattle.comparison.specs.Laws.Sums.{below-most, below-yes, below-no}
 use Rattle.comparison.specs.Laws.Matched.{count-most}
-use Rattle.comparison.specs.Laws.Pairs.{Side, side-start, side-room, side-place, first-aside, second-aside, pair-taken, side-end, place-inside}
+use Rattle.comparison.specs.Laws.Pairs.{Side, side-start, side-room, first-aside, second-aside, pair-taken, side-end}
 use Rattle.pairing.specs.declared.walking.Step.{Step}
 use Rattle.pairing.specs.declared.walking.Step.the-variants.{Pair, First, Second}
 use Rattle.pairing.specs.Side.{Within, Turning, Beside, Underway, Chosen, Walkable, Apart}

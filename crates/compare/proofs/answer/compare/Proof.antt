@@ -15,7 +15,8 @@ same-length c = search needs
 
 returns : tie.Need-returns
 returns c = record {
-  answers = refused-is _ _ _ (c .before .before .before .before .before .before .before .refusal .ensures) (c .before .before .before .before .if1 .taken);
+  answers = refused-is _ _ _ (c .before .before .before .before .before .before .before .refusal .ensures)
+      (c .before .before .before .before .if1 .taken);
   zero = c .before .before .clear .ensures ∙ ap (λ (n : ℕ). replicate n 0) (sym (c .before .before .clear .kept .0) ∙ same-length c);
 }
 
@@ -31,7 +32,8 @@ same-length-2 c = search needs
 returns-2 : tie.Need-returns-2
 returns-2 c = record {
   answers = counted-is _ _ _ (c .before .before .before .before .before .before .before .before .before .before .before .refusal .ensures)
-      (c .before .before .before .before .before .before .before .before .if1 .left) (c .before .before .before .before .before .before .counted .ensures);
+      (c .before .before .before .before .before .before .before .before .if1 .left) (c .before .before .before .before .before .before
+          .counted .ensures);
   zero = c .before .before .clear2 .ensures ∙ ap (λ (n : ℕ). replicate n 0) (sym (c .before .before .clear2 .kept .0) ∙ same-length-2 c);
 }
 

@@ -15,11 +15,13 @@ same-length c = search needs
 returns : tie.Need-returns
 returns c = record {
   answers = place-refused _ _ _ (c .before .before .before .before .before .before .before .refusal .ensures) (c .if1 .taken);
-  zero = c .before .before .before .clear .ensures ∙ ap (λ (n : ℕ). replicate n 0) (sym (c .before .before .before .clear .kept .0) ∙ same-length c);
+  zero = c .before .before .before .clear .ensures ∙ ap (λ (n : ℕ). replicate n 0) (sym (c .before .before .before .clear .kept .0) ∙
+      same-length c);
 }
 
 count-in-requires : tie.Need-count-in-requires
-count-in-requires c κs = fine _ (accepted _ _ _ (c .before .before .before .before .before .before .before .refusal .ensures) (c .if1 .left) .one) .0
+count-in-requires c κs = fine _ (accepted _ _ _ (c .before .before .before .before .before .before .before .refusal .ensures)
+    (c .if1 .left) .one) .0
 
 count-in-requires-2 : tie.Need-count-in-requires-2
 count-in-requires-2 c κs = fine _ (accepted _ _ _ (c .before .before .before .before .before .before .before .before .refusal .ensures)
@@ -27,7 +29,8 @@ count-in-requires-2 c κs = fine _ (accepted _ _ _ (c .before .before .before .b
 
 record-start-requires : tie.Need-record-start-requires
 record-start-requires c κs = (
-  fine _ (accepted _ _ _ (c .before .before .before .before .before .before .before .before .before .before .refusal .ensures) (c .before .before .before .if1 .left) .two) .0,
+  fine _ (accepted _ _ _ (c .before .before .before .before .before .before .before .before .before .before .refusal .ensures)
+      (c .before .before .before .if1 .left) .two) .0,
   omega (arith, c .before .before .count-in .ensures, c .before .count-in2 .ensures),
 )
 
@@ -45,7 +48,8 @@ returns-2 c = record {
 
 record-start-requires-2 : tie.Need-record-start-requires-2
 record-start-requires-2 c κs = (
-  fine _ (accepted _ _ _ (c .before .before .before .before .before .before .before .before .before .before .refusal .ensures) (c .before .before .before .if1 .left) .one) .0,
+  fine _ (accepted _ _ _ (c .before .before .before .before .before .before .before .before .before .before .refusal .ensures)
+      (c .before .before .before .if1 .left) .one) .0,
   omega (arith, c .before .before .count-in .ensures, c .before .count-in2 .ensures),
 )
 

@@ -16,23 +16,32 @@ same-in-requires : tie.Need-same-in-requires
 same-in-requires c κs = laid-beside (c .before .before .before .before .before .pre) (c .before .count-in .ensures) (c .count-in2 .ensures)
 
 both-in-requires : tie.Need-both-in-requires
-both-in-requires c κs = laid-walkable (c .before .before .before .before .before .before .before .pre) (c .before .before .before .count-in .ensures) (c .before .before .count-in2 .ensures)
+both-in-requires c κs = laid-walkable (c .before .before .before .before .before .before .before .pre)
+    (c .before .before .before .count-in .ensures) (c .before .before .count-in2 .ensures)
 
 sub-t10 : tie.Need-sub-t10
-sub-t10 c = same-few (c .before .before .before .before .before .before .before .before .before .before .pre) (c .before .before .before .before .before .before .count-in .ensures)
-    (c .before .before .before .before .before .count-in2 .ensures) (c .before .before .before .before .same-in .ensures) (c .before .before .both-in .ensures)
+sub-t10 c = same-few (c .before .before .before .before .before .before .before .before .before .before .pre)
+    (c .before .before .before .before .before .before .count-in .ensures)
+    (c .before .before .before .before .before .count-in2 .ensures) (c .before .before .before .before .same-in .ensures)
+        (c .before .before .both-in .ensures)
 
 sub-t11 : tie.Need-sub-t11
-sub-t11 c = both-few (c .before .before .before .before .before .before .before .before .before .before .pre) (c .before .before .before .before .before .before .count-in .ensures)
-    (c .before .before .before .before .before .count-in2 .ensures) (c .before .before .before .before .same-in .ensures) (c .before .before .both-in .ensures)
+sub-t11 c = both-few (c .before .before .before .before .before .before .before .before .before .before .pre)
+    (c .before .before .before .before .before .before .count-in .ensures)
+    (c .before .before .before .before .before .count-in2 .ensures) (c .before .before .before .before .same-in .ensures)
+        (c .before .before .both-in .ensures)
 
 sub-t12 : tie.Need-sub-t12
-sub-t12 c = both-fits (c .before .before .before .before .before .before .before .before .before .before .pre) (c .before .before .before .before .before .before .count-in .ensures)
-    (c .before .before .before .before .before .count-in2 .ensures) (c .before .before .before .before .same-in .ensures) (c .before .before .both-in .ensures)
+sub-t12 c = both-fits (c .before .before .before .before .before .before .before .before .before .before .pre)
+    (c .before .before .before .before .before .before .count-in .ensures)
+    (c .before .before .before .before .before .count-in2 .ensures) (c .before .before .before .before .same-in .ensures)
+        (c .before .before .both-in .ensures)
 
 returns : tie.Need-returns
-returns c = compared-is (c .before .before .before .before .before .before .before .before .before .before .pre) (c .before .before .before .before .before .before .count-in .ensures)
-    (c .before .before .before .before .before .count-in2 .ensures) (c .before .before .before .before .same-in .ensures) (c .before .before .both-in .ensures)
+returns c = compared-is (c .before .before .before .before .before .before .before .before .before .before .pre)
+    (c .before .before .before .before .before .before .count-in .ensures)
+    (c .before .before .before .before .before .count-in2 .ensures) (c .before .before .before .before .same-in .ensures)
+        (c .before .before .both-in .ensures)
 
 pub counted-spec : {M : Type 1} → statement M
 counted-spec =

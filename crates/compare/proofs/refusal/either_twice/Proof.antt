@@ -17,7 +17,8 @@ location-twice-requires-2 c κs =
     (p .two, omega (arith, p .fits, c .before .before .before .before .location-twice .kept .1 .0))
 
 returns-2 : tie.Need-returns-2
-returns-2 c = twice-second _ _ (c .before .before .before .before .before .before .before .location-twice .ensures) (c .before .before .before .before .if1 .left)
+returns-2 c = twice-second _ _ (c .before .before .before .before .before .before .before .location-twice .ensures)
+    (c .before .before .before .before .if1 .left)
     (c .before .before .location-twice2 .ensures)
 
 pub either-twice-spec : {M : Type 1} → statement M

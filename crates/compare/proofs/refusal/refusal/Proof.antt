@@ -14,7 +14,8 @@ count-in-requires : tie.Need-count-in-requires
 count-in-requires c κs = fine _ (sheets-fine _ _ (c .before .before .before .sheets-refusal .ensures) (c .if1 .left) .0) .0
 
 count-in-requires-2 : tie.Need-count-in-requires-2
-count-in-requires-2 c κs = fine _ (sheets-fine _ _ (c .before .before .before .before .sheets-refusal .ensures) (c .before .if1 .left) .1) .0
+count-in-requires-2 c κs = fine _ (sheets-fine _ _ (c .before .before .before .before .sheets-refusal .ensures)
+    (c .before .if1 .left) .1) .0
 
 add-if2 : tie.Need-add-if2
 add-if2 c =
@@ -26,7 +27,8 @@ add-if2 c =
     omega (arith, c .before .count-in .ensures, c .count-in2 .ensures, n, m)
 
 returns-2 : tie.Need-returns-2
-returns-2 c = no-room _ _ (c .before .before .before .before .before .before .sheets-refusal .ensures) (c .before .before .before .if1 .left) _
+returns-2 c = no-room _ _ (c .before .before .before .before .before .before .sheets-refusal .ensures)
+    (c .before .before .before .if1 .left) _
     (c .before .before .count-in .ensures) (c .before .count-in2 .ensures)
     (omega (arith, c .before .before .before .before .before .before .sheets-refusal .kept .1 .1 .0))
 
@@ -36,16 +38,20 @@ either-twice-requires c κs = roomy _ _ (c .before .before .before .before .befo
     (c .before .if2 .left)
 
 returns-3 : tie.Need-returns-3
-returns-3 c = either-refused _ _ (c .before .before .before .before .before .before .before .before .before .before .before .sheets-refusal .ensures)
-    (c .before .before .before .before .before .before .before .before .if1 .left) _ (c .before .before .before .before .before .before .before .count-in .ensures)
+returns-3 c = either-refused _ _ (c .before .before .before .before .before .before .before .before .before .before .before
+    .sheets-refusal .ensures)
+    (c .before .before .before .before .before .before .before .before .if1 .left) _ (c .before .before .before .before .before .before
+        .before .count-in .ensures)
     (c .before .before .before .before .before .before .count-in2 .ensures) (omega (
       arith,
       c .before .before .before .before .before .before .before .before .before .before .before .sheets-refusal .kept .1 .1 .0,
     )) (c .before .before .before .either-twice .ensures) (c .if3 .taken)
 
 returns-4 : tie.Need-returns-4
-returns-4 c = none-refused _ _ (c .before .before .before .before .before .before .before .before .before .before .before .sheets-refusal .ensures)
-    (c .before .before .before .before .before .before .before .before .if1 .left) _ (c .before .before .before .before .before .before .before .count-in .ensures)
+returns-4 c = none-refused _ _ (c .before .before .before .before .before .before .before .before .before .before .before .sheets-refusal
+    .ensures)
+    (c .before .before .before .before .before .before .before .before .if1 .left) _ (c .before .before .before .before .before .before
+        .before .count-in .ensures)
     (c .before .before .before .before .before .before .count-in2 .ensures) (omega (
       arith,
       c .before .before .before .before .before .before .before .before .before .before .before .sheets-refusal .kept .1 .1 .0,

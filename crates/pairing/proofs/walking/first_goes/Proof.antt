@@ -18,7 +18,8 @@ record-in-requires-2 : tie.Need-record-in-requires-2
 record-in-requires-2 c κs = within-first (c .before .before .before .before .before .before .pre .0 .beside) (omega arith)
 
 add-if3 : tie.Need-add-if3
-add-if3 c = let p = c .before .before .before .before .before .before .pre in let f = few-second (p .0 .beside) in let h = p .1 .1 in omega arith
+add-if3 c = let p = c .before .before .before .before .before .before .pre in let f = few-second
+    (p .0 .beside) in let h = p .1 .1 in omega arith
 
 second-at-requires-2 : tie.Need-second-at-requires-2
 second-at-requires-2 c κs = turning-second (c .before .before .before .before .before .before .before .before .pre .0 .beside) (omega arith)

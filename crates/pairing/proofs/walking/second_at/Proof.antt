@@ -13,8 +13,11 @@ record-in-requires : tie.Need-record-in-requires
 record-in-requires c κs = turned-within (c .before .before .pre) (c .place-in .ensures .1)
 
 returns : tie.Need-returns
-returns c = (c .record-in .ensures .0 ∙ ap (λ (k : ℕ). getD (recordsOf (c .before .before .before .args .second .now)) k 0)
-    (c .before .place-in .ensures .0), c .record-in .ensures .1)
+returns c = (
+  c .record-in .ensures .0 ∙ ap (λ (k : ℕ). getD (recordsOf (c .before .before .before .args .second .now)) k 0)
+      (c .before .place-in .ensures .0),
+  c .record-in .ensures .1,
+)
 
 pub second-at-spec : {M : Type 1} → statement M
 second-at-spec = tie.close (tie.spec (λ c κs. c .before .pre .inside) record-in-requires returns)

@@ -38,13 +38,15 @@ add-j : tie.Need-add-j Inv-loop μ-loop
 add-j c = let go = c .before .before .before .before .before .loop .inv in omega (arith, going-second go, few-second (go .beside))
 
 add-pairs : tie.Need-add-pairs Inv-loop μ-loop
-add-pairs c = let go = c .before .before .before .before .before .loop .inv in omega (arith, going-few go, few-first (go .beside), few-second (go .beside))
+add-pairs c = let go = c .before .before .before .before .before .loop .inv in omega (arith, going-few go, few-first
+    (go .beside), few-second (go .beside))
 
 loop-less : tie.Need-loop-less Inv-loop μ-loop
 loop-less c = omega (arith, c .before .before .before .if1 .taken)
 
 loop-again : tie.Need-loop-again Inv-loop μ-loop
-loop-again c = going-pair (c .before .before .before .before .before .loop .inv) (c .before .before .next-step .ensures) (c .enum-told .given .1)
+loop-again c = going-pair (c .before .before .before .before .before .loop .inv) (c .before .before .next-step .ensures)
+    (c .enum-told .given .1)
 
 record-in-requires : tie.Need-record-in-requires Inv-loop μ-loop
 record-in-requires c κs =
@@ -55,19 +57,22 @@ mul-work : tie.Need-mul-work Inv-loop μ-loop
 mul-work c = omega (arith, c .record-in .ensures .1)
 
 slice-write-work : tie.Need-slice-write-work Inv-loop μ-loop
-slice-write-work c = going-room (c .before .before .before .before .before .before .loop .inv) (c .before .before .before .before .if1 .taken)
+slice-write-work c = going-room (c .before .before .before .before .before .before .loop .inv)
+    (c .before .before .before .before .if1 .taken)
 
 add-i-2 : tie.Need-add-i-2 Inv-loop μ-loop
 add-i-2 c = let go = c .before .before .before .before .before .before .loop .inv in omega (arith, going-first go, few-first (go .beside))
 
 add-aside : tie.Need-add-aside Inv-loop μ-loop
-add-aside c = let go = c .before .before .before .before .before .before .loop .inv in omega (arith, going-few go, few-first (go .beside), few-second (go .beside))
+add-aside c = let go = c .before .before .before .before .before .before .loop .inv in omega (arith, going-few go, few-first
+    (go .beside), few-second (go .beside))
 
 loop-less-2 : tie.Need-loop-less-2 Inv-loop μ-loop
 loop-less-2 c = omega (arith, c .before .before .before .before .if1 .taken)
 
 loop-again-2 : tie.Need-loop-again-2 Inv-loop μ-loop
-loop-again-2 c = going-one (c .before .before .before .before .before .before .loop .inv) (c .before .before .before .next-step .ensures) (c .before .enum-told2 .given .1) (c .record-in .ensures .0)
+loop-again-2 c = going-one (c .before .before .before .before .before .before .loop .inv) (c .before .before .before .next-step .ensures)
+    (c .before .enum-told2 .given .1) (c .record-in .ensures .0)
 
 second-at-requires : tie.Need-second-at-requires Inv-loop μ-loop
 second-at-requires c κs =
@@ -81,19 +86,22 @@ add-work : tie.Need-add-work Inv-loop μ-loop
 add-work c = omega (arith, c .second-at .ensures .1)
 
 slice-write-work-2 : tie.Need-slice-write-work-2 Inv-loop μ-loop
-slice-write-work-2 c = going-room (c .before .before .before .before .before .before .loop .inv) (c .before .before .before .before .if1 .taken)
+slice-write-work-2 c = going-room (c .before .before .before .before .before .before .loop .inv)
+    (c .before .before .before .before .if1 .taken)
 
 add-j-2 : tie.Need-add-j-2 Inv-loop μ-loop
 add-j-2 c = let go = c .before .before .before .before .before .before .loop .inv in omega (arith, going-second go, few-second (go .beside))
 
 add-aside-2 : tie.Need-add-aside-2 Inv-loop μ-loop
-add-aside-2 c = let go = c .before .before .before .before .before .before .loop .inv in omega (arith, going-few go, few-first (go .beside), few-second (go .beside))
+add-aside-2 c = let go = c .before .before .before .before .before .before .loop .inv in omega (arith, going-few go, few-first
+    (go .beside), few-second (go .beside))
 
 loop-less-3 : tie.Need-loop-less-3 Inv-loop μ-loop
 loop-less-3 c = omega (arith, c .before .before .before .before .if1 .taken)
 
 loop-again-3 : tie.Need-loop-again-3 Inv-loop μ-loop
-loop-again-3 c = going-two (c .before .before .before .before .before .before .loop .inv) (c .before .before .before .next-step .ensures) (c .before .enum-told3 .given .1) (c .second-at .ensures .0)
+loop-again-3 c = going-two (c .before .before .before .before .before .before .loop .inv) (c .before .before .before .next-step .ensures)
+    (c .before .enum-told3 .given .1) (c .second-at .ensures .0)
 
 pub set-aside-spec : {M : Type 1} → statement M
 set-aside-spec =
