@@ -1,6 +1,7 @@
 // The questions on two sheets.
 use super::counting::counted;
 use super::refusal::count_in;
+use super::refusal::front_refusal;
 use super::refusal::refusal;
 use comparison::Compared;
 use comparison::TailPlace;
@@ -24,7 +25,7 @@ fn record_start(sheet: &[u8], i: usize) -> usize
 pub fn compare(first: &[u8], second: &[u8], work: &mut [u64]) -> Compared
     ensures { λ r. ⌜ Compares (now (first .entry)) (now (second .entry)) (now (work .entry)) r (now (work .exit)) ⌝ }
 {
-    let number = refusal(first, second, work);
+    let number = front_refusal(first, second, work);
     if number != 0 {
         clear(work);
         return Compared {

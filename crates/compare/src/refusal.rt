@@ -2,15 +2,14 @@
 use repeats::repeats_in;
 use sheets::unpack;
 ghost use mathlib.Core.Path.{_≡_};
-ghost use mathlib.Core.Bool.{true, _||_};
-ghost use Prim.Native.Nat.{_≤_};
+ghost use mathlib.Core.Bool.{true};
 ghost use lib.Dec.{eqb};
 ghost use lib.ListN.{length};
 ghost use Rattle.lists.specs.Lists.{twoOf};
 ghost use Rattle.records.specs.Sheet.{countOf};
 ghost use Rattle.comparison.specs.Compare.{wellFormed, recordsOf, compareRefusal};
 ghost use Rattle.comparison.specs.Accepted.{sheetRefusal};
-ghost use Rattle.compare.specs.Refused.{sheetsRefusal, Roomy};
+ghost use Rattle.compare.specs.Refused.{sheetsRefusal, frontRefusal, Fits};
 
 // 15, 16 of one sheet, or 0.
 fn sheet_refusal(sheet: &[u8], work: &mut [u64]) -> u64
@@ -33,8 +32,8 @@ pub(crate) fn count_in(sheet: &[u8]) -> usize
 }
 
 // The sheet has a location twice.
-fn location_twice(sheet: &[u8], work: &mut [u64]) -> bool
-    requires { ⌜ (sheetRefusal (now sheet) ≡ 0) × (countOf (now sheet) ≤ length (now work)) ⌝ }
+pub(crate) fn location_twice(sheet: &[u8], work: &mut [u64]) -> bool
+    requires { ⌜ Fits (now sheet) (length (now work)) ⌝ }
     ensures { λ r. ⌜ r ≡ twoOf eqb (recordsOf (now (sheet .entry))) ⌝ }
 {
     let said = unpack(sheet, work);
@@ -52,20 +51,9 @@ fn sheets_refusal(first: &[u8], second: &[u8], work: &mut [u64]) -> u64
     sheet_refusal(second, work)
 }
 
-// One of the sheets has a location twice.
-fn either_twice(first: &[u8], second: &[u8], work: &mut [u64]) -> bool
-    requires { ⌜ Roomy (now first) (now second) (length (now work)) ⌝ }
-    ensures { λ r. ⌜ r ≡ (twoOf eqb (recordsOf (now (first .entry))) || twoOf eqb (recordsOf (now (second .entry)))) ⌝ }
-{
-    if location_twice(first, work) {
-        return true;
-    }
-    location_twice(second, work)
-}
-
-// The paper's number, or 0.
-pub(crate) fn refusal(first: &[u8], second: &[u8], work: &mut [u64]) -> u64
-    ensures { λ r. ⌜ r ≡ compareRefusal (now (first .entry)) (now (second .entry)) (length (now (work .entry))) ⌝ }
+// The paper's number, or 0, but for a location twice in the second sheet.
+pub(crate) fn front_refusal(first: &[u8], second: &[u8], work: &mut [u64]) -> u64
+    ensures { λ r. ⌜ r ≡ frontRefusal (now (first .entry)) (now (second .entry)) (length (now (work .entry))) ⌝ }
 {
     let number = sheets_refusal(first, second, work);
     if number != 0 {
@@ -74,9 +62,16 @@ pub(crate) fn refusal(first: &[u8], second: &[u8], work: &mut [u64]) -> u64
     if work.len() < count_in(first) + count_in(second) {
         return 13;
     }
-    if either_twice(first, second, work) {
-        14
-    } else {
-        0
+    if location_twice(first, work) { 14 } else { 0 }
+}
+
+// The paper's number, or 0.
+pub(crate) fn refusal(first: &[u8], second: &[u8], work: &mut [u64]) -> u64
+    ensures { λ r. ⌜ r ≡ compareRefusal (now (first .entry)) (now (second .entry)) (length (now (work .entry))) ⌝ }
+{
+    let number = front_refusal(first, second, work);
+    if number != 0 {
+        return number;
     }
+    if location_twice(second, work) { 14 } else { 0 }
 }

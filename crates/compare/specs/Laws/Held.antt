@@ -20,6 +20,7 @@ use Rattle.comparison.specs.Compare.{recordsOf}
 use Rattle.comparison.specs.Accepted.{sheetRefusal}
 use Rattle.comparison.specs.Laws.Accepted.{fine}
 use Rattle.comparison.specs.Laws.Held.{held-long}
+use Rattle.compare.specs.Refused.{Fits}
 
 -- what unpacking a sheet that is not refused does, where there is room
 module _ {s before : List ℕ} {o : Outcome} {after : List ℕ} (u : Unpacks s before o after) (ok : sheetRefusal s ≡ 0)
@@ -38,9 +39,11 @@ module _ {s before : List ℕ} {o : Outcome} {after : List ℕ} (u : Unpacks s b
       u .holds ∙ ap (λ (n : ℕ). unpackedInto seven (widthOf s) n s before) zero
 
 -- whether a location stands in it twice, by the check of repeats
-pub twice-told : {s before : List ℕ} {o : Outcome} {after last : List ℕ} {r : ℕ} → Unpacks s before o after → sheetRefusal s ≡ 0
-    → countOf s ≤ length before → Checks (o .value) (take (o .value) after) after r last → eqb r 14 ≡ twoOf eqb (recordsOf s)
-twice-told {s} {before} {o} {after} {last} {r} u ok room checked =
+pub twice-told : {s before : List ℕ} {o : Outcome} {after last : List ℕ} {r : ℕ} → Unpacks s before o after → Fits s (length before)
+    → Checks (o .value) (take (o .value) after) after r last → eqb r 14 ≡ twoOf eqb (recordsOf s)
+twice-told {s} {before} {o} {after} {last} {r} u fit checked =
+    let ok = fit .fine in
+    let room = fit .fits in
     let n = o .value in
     let value : n ≡ countOf s = unpacked-value u ok room in
     let holds = unpacked-holds u ok room in

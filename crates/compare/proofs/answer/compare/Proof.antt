@@ -4,8 +4,8 @@ use Prim.Native.Nat.{ℕ}
 use lib.ListN.{replicate}
 use native.Mathlib.Omega.{arith}
 use borrow.Author.Needs.{needs}
-use Rattle.comparison.specs.Accepted.{Accepted}
-use Rattle.comparison.specs.Laws.Accepted.{accepted}
+use Rattle.compare.specs.Refused.{Begun}
+use Rattle.compare.specs.Laws.Rows.{front-refused, begun, behind-front}
 use Rattle.compare.specs.Laws.Answer.{refused-is, counted-is}
 use Rattle.compare.proofs.answer.compare.Statement.{statement}
 use Rattle.compare.proofs.answer.compare.Tie as tie
@@ -15,25 +15,27 @@ same-length c = search needs
 
 returns : tie.Need-returns
 returns c = record {
-  answers = refused-is _ _ _ (c .before .before .before .before .before .before .before .refusal .ensures)
-      (c .before .before .before .before .if1 .taken);
+  answers = refused-is _ _ (front-refused _ _ _ (c .before .before .before .before .before .before .before .front-refusal .ensures)
+      (c .before .before .before .before .if1 .taken)) (c .before .before .before .before .if1 .taken);
   zero = c .before .before .clear .ensures ∙ ap (λ (n : ℕ). replicate n 0) (sym (c .before .before .clear .kept .0) ∙ same-length c);
 }
 
 counted-requires : tie.Need-counted-requires
 counted-requires c κs =
     let a = c .before .before .before .before .before .before .before .before .before .args in
-    subst (λ (n : ℕ). Accepted (a .first .now) (a .second .now) n) (sym (c .before .before .before .before .refusal .kept .1 .1 .0))
-    (accepted _ _ _ (c .before .before .before .before .refusal .ensures) (c .before .if1 .left))
+    let said = c .before .before .before .before .front-refusal in
+    subst (λ (n : ℕ). Begun (a .first .now) (a .second .now) n) (sym (said .kept .1 .1 .0))
+    (begun _ _ _ (said .ensures) (c .before .if1 .left))
 
 same-length-2 : tie.Need-same-length-2
 same-length-2 c = search needs
 
 returns-2 : tie.Need-returns-2
 returns-2 c = record {
-  answers = counted-is _ _ _ (c .before .before .before .before .before .before .before .before .before .before .before .refusal .ensures)
-      (c .before .before .before .before .before .before .before .before .if1 .left) (c .before .before .before .before .before .before
-          .counted .ensures);
+  answers = counted-is _ _ _ (behind-front _ _ _ (c .before .before .before .before .before .before .before .before .before .before
+      .before .front-refusal .ensures)
+      (c .before .before .before .before .before .before .before .before .if1 .left)) (c .before .before .before .before .before .before
+      .counted .ensures);
   zero = c .before .before .clear2 .ensures ∙ ap (λ (n : ℕ). replicate n 0) (sym (c .before .before .clear2 .kept .0) ∙ same-length-2 c);
 }
 

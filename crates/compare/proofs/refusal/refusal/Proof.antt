@@ -1,61 +1,32 @@
 -- `compare::refusal::refusal` meets its contract. Assumes nothing.
+use mathlib.Core.Path.{sym, subst}
+use Prim.Native.Nat.{ℕ}
 use native.Mathlib.Omega.{arith}
 use borrow.Author.Needs.{needs}
-use Rattle.comparison.specs.Laws.Accepted.{fine}
-use Rattle.comparison.specs.Laws.Counts.{formed-most}
-use Rattle.compare.specs.Laws.Rows.{sheets-refused, sheets-fine, no-room, roomy, either-refused, none-refused}
+use Rattle.compare.specs.Laws.Rows.{front-refused, fits-second, second-twice, none-refused}
+use Rattle.compare.specs.Refused.{Fits}
 use Rattle.compare.proofs.refusal.refusal.Statement.{statement}
 use Rattle.compare.proofs.refusal.refusal.Tie as tie
 
 returns : tie.Need-returns
-returns c = sheets-refused _ _ (c .before .before .before .sheets-refusal .ensures) _ (c .if1 .taken)
+returns c = front-refused _ _ _ (c .before .before .before .front-refusal .ensures) (c .if1 .taken)
 
-count-in-requires : tie.Need-count-in-requires
-count-in-requires c κs = fine _ (sheets-fine _ _ (c .before .before .before .sheets-refusal .ensures) (c .if1 .left) .0) .0
-
-count-in-requires-2 : tie.Need-count-in-requires-2
-count-in-requires-2 c κs = fine _ (sheets-fine _ _ (c .before .before .before .before .sheets-refusal .ensures)
-    (c .before .if1 .left) .1) .0
-
-add-if2 : tie.Need-add-if2
-add-if2 c =
-    let a = c .before .before .before .before .before .before .before .before .before .before .args in
-    let f = sheets-fine (a .first .now) (a .second .now) (c .before .before .before .before .before .sheets-refusal .ensures)
-    (c .before .before .if1 .left) in
-    let n = formed-most (a .first .now) (fine (a .first .now) (f .0) .0) in
-    let m = formed-most (a .second .now) (fine (a .second .now) (f .1) .0) in
-    omega (arith, c .before .count-in .ensures, c .count-in2 .ensures, n, m)
+location-twice-requires : tie.Need-location-twice-requires
+location-twice-requires c κs =
+    let said = c .before .before .before .before .front-refusal in
+    subst (λ (n : ℕ). Fits (c .before .before .before .before .before .before .before .before .before .args .second .now) n) (sym
+    (said .kept .1 .1 .0))
+    (fits-second _ _ _ (said .ensures) (c .before .if1 .left))
 
 returns-2 : tie.Need-returns-2
-returns-2 c = no-room _ _ (c .before .before .before .before .before .before .sheets-refusal .ensures)
-    (c .before .before .before .if1 .left) _
-    (c .before .before .count-in .ensures) (c .before .count-in2 .ensures)
-    (omega (arith, c .before .before .before .before .before .before .sheets-refusal .kept .1 .1 .0))
-
-either-twice-requires : tie.Need-either-twice-requires
-either-twice-requires c κs = roomy _ _ (c .before .before .before .before .before .before .before .sheets-refusal .ensures)
-    (c .before .before .before .before .if1 .left) _ (c .before .before .before .count-in .ensures) (c .before .before .count-in2 .ensures)
-    (c .before .if2 .left)
+returns-2 c = second-twice _ _ _ (c .before .before .before .before .before .before .before .before .front-refusal .ensures)
+    (c .before .before .before .before .before .if1 .left)
+    (c .before .before .before .location-twice .ensures) (c .if2 .taken)
 
 returns-3 : tie.Need-returns-3
-returns-3 c = either-refused _ _ (c .before .before .before .before .before .before .before .before .before .before .before
-    .sheets-refusal .ensures)
-    (c .before .before .before .before .before .before .before .before .if1 .left) _ (c .before .before .before .before .before .before
-        .before .count-in .ensures)
-    (c .before .before .before .before .before .before .count-in2 .ensures) (omega (
-      arith,
-      c .before .before .before .before .before .before .before .before .before .before .before .sheets-refusal .kept .1 .1 .0,
-    )) (c .before .before .before .either-twice .ensures) (c .if3 .taken)
-
-returns-4 : tie.Need-returns-4
-returns-4 c = none-refused _ _ (c .before .before .before .before .before .before .before .before .before .before .before .sheets-refusal
-    .ensures)
-    (c .before .before .before .before .before .before .before .before .if1 .left) _ (c .before .before .before .before .before .before
-        .before .count-in .ensures)
-    (c .before .before .before .before .before .before .count-in2 .ensures) (omega (
-      arith,
-      c .before .before .before .before .before .before .before .before .before .before .before .sheets-refusal .kept .1 .1 .0,
-    )) (c .before .before .before .either-twice .ensures) (c .if3 .left)
+returns-3 c = none-refused _ _ _ (c .before .before .before .before .before .before .before .before .front-refusal .ensures)
+    (c .before .before .before .before .before .if1 .left)
+    (c .before .before .before .location-twice .ensures) (c .if2 .left)
 
 pub refusal-spec : {M : Type 1} → statement M
 refusal-spec =
@@ -64,13 +35,8 @@ refusal-spec =
     (λ c κs. search needs)
     (λ c. search needs)
     returns
-    count-in-requires
-    count-in-requires-2
-    add-if2
+    location-twice-requires
     (λ c. search needs)
     returns-2
-    either-twice-requires
     (λ c. search needs)
-    returns-3
-    (λ c. search needs)
-    returns-4)
+    returns-3)

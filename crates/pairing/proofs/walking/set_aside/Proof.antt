@@ -38,8 +38,13 @@ add-j : tie.Need-add-j Inv-loop μ-loop
 add-j c = let go = c .before .before .before .before .before .loop .inv in omega (arith, going-second go, few-second (go .beside))
 
 add-pairs : tie.Need-add-pairs Inv-loop μ-loop
-add-pairs c = let go = c .before .before .before .before .before .loop .inv in omega (arith, going-few go, few-first
-    (go .beside), few-second (go .beside))
+add-pairs c = let go = c .before .before .before .before .before .loop .inv in omega (
+  arith,
+  going-few go,
+  few-first
+      (go .beside),
+  few-second (go .beside),
+)
 
 loop-less : tie.Need-loop-less Inv-loop μ-loop
 loop-less c = omega (arith, c .before .before .before .if1 .taken)
@@ -64,8 +69,13 @@ add-i-2 : tie.Need-add-i-2 Inv-loop μ-loop
 add-i-2 c = let go = c .before .before .before .before .before .before .loop .inv in omega (arith, going-first go, few-first (go .beside))
 
 add-aside : tie.Need-add-aside Inv-loop μ-loop
-add-aside c = let go = c .before .before .before .before .before .before .loop .inv in omega (arith, going-few go, few-first
-    (go .beside), few-second (go .beside))
+add-aside c = let go = c .before .before .before .before .before .before .loop .inv in omega (
+  arith,
+  going-few go,
+  few-first
+      (go .beside),
+  few-second (go .beside),
+)
 
 loop-less-2 : tie.Need-loop-less-2 Inv-loop μ-loop
 loop-less-2 c = omega (arith, c .before .before .before .before .if1 .taken)
@@ -93,8 +103,13 @@ add-j-2 : tie.Need-add-j-2 Inv-loop μ-loop
 add-j-2 c = let go = c .before .before .before .before .before .before .loop .inv in omega (arith, going-second go, few-second (go .beside))
 
 add-aside-2 : tie.Need-add-aside-2 Inv-loop μ-loop
-add-aside-2 c = let go = c .before .before .before .before .before .before .loop .inv in omega (arith, going-few go, few-first
-    (go .beside), few-second (go .beside))
+add-aside-2 c = let go = c .before .before .before .before .before .before .loop .inv in omega (
+  arith,
+  going-few go,
+  few-first
+      (go .beside),
+  few-second (go .beside),
+)
 
 loop-less-3 : tie.Need-loop-less-3 Inv-loop μ-loop
 loop-less-3 c = omega (arith, c .before .before .before .before .if1 .taken)
