@@ -124,6 +124,7 @@ static Numbers listed() {
 static void all(const char *kind, const Numbers &r) {
   printf("%s\n", kind);
   row("  every fiftieth location is gone", r, thinned(r));
+  row("  every fiftieth location is new", thinned(r), r);
   row("  equal", r, r);
   row("  both shuffled anew", shuffled(r), shuffled(r));
   row("  turned round", r, turned(r));
