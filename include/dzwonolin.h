@@ -46,6 +46,39 @@
 extern "C" {
 #endif
 
+/* The words of the list above for a number that a function returned. tools/reasons writes the table from that list. */
+static inline const char *dz_reason(uint64_t number)
+{
+    switch (number) {
+    case 0: return "accepted";
+    case 1: return "lengths are not 2 or 3, or one is 0 or above 1,048,576";
+    case 2: return "text above 16,777,216 bytes";
+    case 3: return "no document of the markup grammar writes this text";
+    case 4: return "the root is not CIFTI with Version 2";
+    case 5: return "a map of kind PARCELS or LABELS";
+    case 6: return "an element, attribute, child, named word or non-blank text is not as the format says";
+    case 7: return "a number's form, limit or fixed value, or the sixteen of the transformation";
+    case 8: return "some dimension is not listed exactly once, or a listed one does not exist";
+    case 9: return "a map's length is not that of a dimension it applies to";
+    case 10: return "two models of a map share type and structure";
+    case 11: return "a model does not list as many numbers as it says, or an index of the map is in no range or in two";
+    case 12: return "a vertex or voxel is outside its surface or volume";
+    case 13: return "records lent are fewer than all stretches, or work space than the longest";
+    case 14: return "a vertex twice in a model, or a voxel twice in a map";
+    case 15: return "sheet count 0 or above 1,048,576; unpacking: also not a sheet";
+    case 16: return "an illegal record";
+    case 17: return "the slice to be written is too short";
+    case 18: return "map name: no such dimension, it is not scalars, or the index is not below its length";
+    case 19: return "find: no such record; asking a list: no such index or record";
+    case 20: return "a file under 544 bytes; its size field or magic is not NIfTI-2's single file; a data offset below 544";
+    case 21: return "a file's dim[0] is not 6 or 7, one of dim[1] to dim[4] is not 1, or one of dim[5] to dim[dim[0]] is below 1";
+    case 22: return "the extensions up to a file's data offset are no list, or the data offset lies past its bytes";
+    case 23: return "a file has no extension of code 32";
+    case 26: return "making a list: a type and structure comes back after another; asking: a bad list";
+    default: return "not a number of refusal";
+    }
+}
+
 /* An answer of dz_read: a head, then three dimensions; dimension d begins at DZ_HEAD + DZ_DIMENSION * d. Places that
    are not named below are 0, and kept for what is to come.
    Changed: an answer was 31 numbers before, a head of 1 and 10 of a dimension. The places in a dimension are the same, so

@@ -1,17 +1,35 @@
 """Dzwonolin from Python: a proved reader of CIFTI-2 headers.
 
-    import dzwonolin
-    answer = dzwonolin.read(text, [2, 91282])
-    answer.number                 0, or the number of refusal
-    answer.dimensions[1].kind     'brain', 'series' or 'scalars'
-    answer.records                one whole number of 40 bits for each location
+    >>> import dzwonolin
+    >>> f = dzwonolin.open("examples/station.dscalar.nii")
+    >>> [(d.kind, d.length) for d in f.dimensions]
+    [('scalars', 2), ('brain', 9)]
+    >>> f.names()
+    ['thickness', 'curvature']
+    >>> f.location(8)
+    ('V', 6, 2, 3, 6)
+    >>> for one in f.counts():
+    ...     print(one.type, one.structure, one.count, one.first)
+    S CORTEX_LEFT 4 0
+    S CORTEX_RIGHT 3 4
+    V BRAIN_STEM 2 7
+    >>> try:
+    ...     dzwonolin.open("README.md")
+    ... except dzwonolin.Refused as refused:
+    ...     print(refused.number, refused.reason[:23])
+    20 a file under 544 bytes;
+
+`open` takes the path or the bytes of a NIfTI-2 file, or with `lengths` the text of a header. The functions below give numbers, 0 or a
+refusal, and raise nothing for a bad text:
+
+    dzwonolin.read(text, [2, 91282])               .number, .dimensions, and .records, a whole number of 54 bits for each location
     dzwonolin.map_name(text, [2, 91282], 0, 1)     (0, b'the second name')
     dzwonolin.read_file("brain.dscalar.nii")       the same of a NIfTI-2 file, by its path or its bytes
     dzwonolin.front("brain.dscalar.nii")           its number, lengths, and where the header text starts and how long it is
     dzwonolin.file_map_name("brain.dscalar.nii", 0, 1)
     dzwonolin.compare(old, new)                    of two sheets: number, same, moved, first, second, and the longer's part
 
-On a terminal, with a NIfTI-2 file, or with the text of a header in a file and the lengths of its matrix:
+On a terminal there is the command `dzwonolin` (docs/USING.md), and still:
 
     python3 python/dzwonolin.py card brain.dscalar.nii
     python3 python/dzwonolin.py list header.xml 2,91282      the morning card, for a text of any size
@@ -23,17 +41,20 @@ Standard library only. The shared library is looked for in DZWONOLIN_LIBRARY (a 
 folders lib, build, target/native and target above it, and then where the system keeps its own. The library is for x86-64 Linux; on
 another processor bench/native makes one to try.
 """
+from __future__ import annotations
+
 import collections
 import ctypes
-import ctypes.util
-import mmap
 import os
 import pathlib
-import re
+import platform
 import sys
+from dzwonolin_slices import TEXT_LIMIT, NoLibrary, _bytes, _Lent, _machine_of, _number, _numbers, _room, _Shared  # noqa: F401
 
 __all__ = ["read", "read_file", "front", "file_map_name", "map_name", "find", "pack", "unpack", "unfold", "compare", "Answer",
            "Dimension", "Front", "STRUCTURES", "UNITS"]
+__all__ += ["open", "File", "Refused", "NoLibrary", "reason", "has"]
+__version__ = "1.0.0"
 
 LENGTH_LIMIT = 1048576
 # An answer of dz_read, by the names of include/dzwonolin.h: a head, then the numbers of three dimensions.
@@ -78,90 +99,33 @@ def _places():
         yield here.parent / folder / name
 
 
+def _found():
+    """The path of the shared library, or the name that the system knows it by."""
+    told = os.environ.get("DZWONOLIN_LIBRARY")
+    if told:
+        return told
+    there = [str(place) for place in _places() if place.exists()]
+    mine = [path for path in there if _machine_of(path) in (None, platform.machine())]
+    if mine or there:
+        return (mine or there)[0]
+    import ctypes.util
+    return ctypes.util.find_library("dzwonolin")
+
+
 def _library():
     """The shared library, loaded once."""
     global _loaded
     if _loaded is None:
-        told = os.environ.get("DZWONOLIN_LIBRARY")
-        found = told or next((str(p) for p in _places() if p.exists()), None) or ctypes.util.find_library("dzwonolin")
+        found = _found()
         if not found:
-            raise OSError("libdzwonolin.so not found; name it in DZWONOLIN_LIBRARY")
-        library = ctypes.CDLL(found)
-        for name, arguments in _FUNCTIONS.items():
-            function = getattr(library, name)
-            function.argtypes, function.restype = arguments, ctypes.c_uint64
-        _loaded = library
+            raise NoLibrary("libdzwonolin.so not found: run ./library, or name it in DZWONOLIN_LIBRARY")
+        _loaded = _Shared(found, _FUNCTIONS)
     return _loaded
 
 
-def _number(value):
-    """A number that fits 64 bits; ctypes alone would cut it short."""
-    value = int(value)
-    if not 0 <= value < 1 << 64:
-        raise ValueError(f"{value} is not a whole number of 64 bits")
-    return value
-
-
-def _numbers(values):
-    """A lent slice that holds these numbers."""
-    if isinstance(values, ctypes.Array) and values._type_ is ctypes.c_uint64:
-        return values
-    values = [_number(v) for v in values]
-    return (ctypes.c_uint64 * len(values))(*values)
-
-
-def _bytes(data):
-    """A slice to read: the caller's own memory where it is bytes, a copy of another buffer."""
-    return data if isinstance(data, bytes) else bytes(data)
-
-
-def _room(given, default):
-    """A slice to be written: a size gives a new one of zeros, a buffer of 64-bit numbers is used as it is."""
-    if given is None or isinstance(given, int):
-        return (ctypes.c_uint64 * (default if given is None else given))()
-    if isinstance(given, ctypes.Array) and given._type_ is ctypes.c_uint64:
-        return given
-    view = memoryview(given)
-    if view.itemsize not in (1, 8) or view.nbytes % 8 or not view.contiguous:
-        raise ValueError("a buffer of 64-bit numbers is asked for")
-    if not view.nbytes:
-        return (ctypes.c_uint64 * 0)()
-    return (ctypes.c_uint64 * (view.nbytes // 8)).from_buffer(given)
-
-
-class _Buffer(ctypes.Structure):
-    """Python's Py_buffer: where the bytes of an object lie. A read-only one is lent too, which ctypes alone does not do."""
-    _fields_ = [("at", ctypes.c_void_p), ("owner", ctypes.c_void_p), ("length", ctypes.c_ssize_t), ("item", ctypes.c_ssize_t),
-                ("readonly", ctypes.c_int), ("dimensions", ctypes.c_int), ("format", ctypes.c_void_p), ("shape", ctypes.c_void_p),
-                ("strides", ctypes.c_void_p), ("suboffsets", ctypes.c_void_p), ("internal", ctypes.c_void_p)]
-
-
-class _Lent:
-    """The bytes of a file, lent without a copy: a path is mapped, never read whole. Used with `with`."""
-
-    def __init__(self, file):
-        self.mapped, self.buffer = None, _Buffer()
-        if isinstance(file, (str, os.PathLike)):
-            with open(file, "rb") as opened:
-                size = os.fstat(opened.fileno()).st_size
-                self.mapped = mmap.mmap(opened.fileno(), size, access=mmap.ACCESS_COPY) if size else None
-            file = self.mapped or b""
-        self.file = file
-
-    def __enter__(self):
-        ctypes.pythonapi.PyObject_GetBuffer(ctypes.py_object(self.file), ctypes.byref(self.buffer), 0)
-        self.length = self.buffer.length
-        self.slice = (ctypes.c_ubyte * self.length).from_address(self.buffer.at) if self.length else b""
-        return self
-
-    def __exit__(self, *_):
-        self.slice = None
-        ctypes.pythonapi.PyBuffer_Release(ctypes.byref(self.buffer))
-        if self.mapped:
-            self.mapped.close()
-
-    def cut(self, start, length):
-        return bytes(self.slice[start:start + length])
+def has(name: str) -> bool:
+    """Whether the library has a function, as 'dz_compare'."""
+    return hasattr(_library(), name)
 
 
 def _signed(number):
@@ -172,14 +136,15 @@ def _signed(number):
 
 def call_read(text, lengths, records, work, answer):
     """dz_read on slices as they are (ctypes arrays); its number."""
-    text = _bytes(text)
-    return _library().dz_read(text, len(text), lengths, len(lengths), records, len(records), work, len(work), answer, len(answer))
+    with _Lent(text, text=True) as lent:
+        return _library().dz_read(lent.slice, lent.length, lengths, len(lengths), records, len(records), work, len(work),
+                                  answer, len(answer))
 
 
 def call_map_name(text, lengths, dimension, index, part):
     """dz_map_name on slices as they are; its number."""
-    text = _bytes(text)
-    return _library().dz_map_name(text, len(text), lengths, len(lengths), dimension, index, part, len(part))
+    with _Lent(text, text=True) as lent:
+        return _library().dz_map_name(lent.slice, lent.length, lengths, len(lengths), dimension, index, part, len(part))
 
 
 def _dimension(numbers):
@@ -188,14 +153,15 @@ def _dimension(numbers):
                      _signed(exponent), unit)
 
 
-def read(text, lengths, records=None, work=None):
+def read(text, lengths, records=None, work=None) -> Answer:
     """Reads the text of a header, with the lengths of its matrix.
 
     `records` and `work` are sizes, or buffers of 64-bit numbers that are written in place. By default both are as
     large as the lengths can ask for."""
+    lengths = _numbers(lengths, "a length")
     records, work = _rooms(lengths, records, work)
     answer = (ctypes.c_uint64 * ANSWER)()
-    return _answered(call_read(text, _numbers(lengths), records, work, answer), answer, records)
+    return _answered(call_read(text, lengths, records, work, answer), answer, records)
 
 
 def _rooms(lengths, records, work):
@@ -212,11 +178,11 @@ def _answered(number, answer, records):
     return Answer(0, dimensions, records[:filled])
 
 
-def map_name(text, lengths, dimension, index):
+def map_name(text, lengths, dimension: int, index: int) -> tuple[int, bytes]:
     """(0, the bytes between the tags of that MapName, as written) or (number, b'')."""
     part = (ctypes.c_uint64 * 2)()
-    number = call_map_name(text, _numbers(lengths), _number(dimension), _number(index), part)
-    return number, bytes(text[part[0]:part[0] + part[1]])
+    number = call_map_name(text, _numbers(lengths, "a length"), _number(dimension, "a dimension"), _number(index, "an index"), part)
+    return number, bytes(memoryview(text)[part[0]:part[0] + part[1]])
 
 
 def _front(lent):
@@ -225,13 +191,13 @@ def _front(lent):
     return Front(number, told[1:1 + told[0]], told[4], told[5])
 
 
-def front(file):
+def front(file) -> Front:
     """The front of a NIfTI-2 file, by its path or its bytes."""
     with _Lent(file) as lent:
         return _front(lent)
 
 
-def read_file(file, records=None, work=None):
+def read_file(file, records=None, work=None) -> Answer:
     """Reads a NIfTI-2 file, by its path or its bytes: its front, and then its header text as `read` does."""
     with _Lent(file) as lent:
         lengths = _front(lent).lengths
@@ -241,21 +207,22 @@ def read_file(file, records=None, work=None):
         return _answered(number, answer, records)
 
 
-def file_map_name(file, dimension, index):
+def file_map_name(file, dimension: int, index: int) -> tuple[int, bytes]:
     """(0, the bytes between the tags of that MapName, as written) or (number, b'')."""
     with _Lent(file) as lent:
         part = (ctypes.c_uint64 * 2)()
-        number = _library().dz_file_map_name(lent.slice, lent.length, _number(dimension), _number(index), part, 2)
+        number = _library().dz_file_map_name(lent.slice, lent.length, _number(dimension, "a dimension"), _number(index, "an index"),
+                                             part, 2)
         return number, lent.cut(part[0], part[1])
 
 
-def find(records, number):
+def find(records, number: int) -> tuple[int, int]:
     """(0, the first place of the number) or (19, 0)."""
     records, place = _numbers(records), (ctypes.c_uint64 * 1)()
     return _library().dz_find(records, len(records), _number(number), place, 1), place[0]
 
 
-def pack(records):
+def pack(records) -> tuple[int, bytes]:
     """(0, the sheet of these records, 7 bytes each) or (number, b'')."""
     records, count = _numbers(records), (ctypes.c_uint64 * 1)()
     sheet = ctypes.create_string_buffer(4 + 7 * len(records))
@@ -263,20 +230,51 @@ def pack(records):
     return number, sheet.raw[:count[0]]
 
 
-def unpack(sheet):
+def unpack(sheet) -> tuple[int, list[int]]:
     """(0, the records of this sheet, of 5 or of 7 bytes a record) or (number, [])."""
-    sheet, count = _bytes(sheet), (ctypes.c_uint64 * 1)()
-    records = (ctypes.c_uint64 * (len(sheet) // 5))()
-    number = _library().dz_unpack(sheet, len(sheet), records, len(records), count, 1)
+    with _Lent(sheet, text=True) as lent:
+        count, records = (ctypes.c_uint64 * 1)(), (ctypes.c_uint64 * (lent.length // 5))()
+        number = _library().dz_unpack(lent.slice, lent.length, records, len(records), count, 1)
     return number, records[:count[0]]
 
 
-def unfold(record):
+def unfold(record: int) -> tuple:
     """('S', structure, vertex) or ('V', structure, i, j, k)."""
     structure, payload = record >> 48 & 31, record & (1 << 48) - 1
     if record >> 53:
         return "V", structure, payload >> 32, payload >> 16 & 65535, payload & 65535
     return "S", structure, payload
+
+
+# --------------------------------------------------- a file as scripts want it
+
+def reason(number: int) -> str:
+    """The words of include/dzwonolin.h for a number of refusal."""
+    from dzwonolin_reasons import REASONS
+    return "accepted" if number == 0 else REASONS.get(number, "not a number of refusal")
+
+
+class Refused(Exception):
+    """What `open` raises of a file or a text that breaks a rule: `number`, and `reason` in words."""
+
+    def __init__(self, number: int, about: str = ""):
+        self.number, self.reason = number, reason(number)
+        super().__init__(f"{about}: refused {number}: {self.reason}" if about else f"refused {number}: {self.reason}")
+
+
+def open(file, lengths=None) -> File:
+    """The header of a NIfTI-2 file, by its path or its bytes; with `lengths`, as [2, 91282], of a header text.
+
+    Raises `Refused` where a rule is broken, OSError where there is no such file, and `NoLibrary`, which is one too."""
+    from dzwonolin_file import File
+    return File(file, lengths)
+
+
+def __getattr__(name: str):
+    if name == "File":
+        from dzwonolin_file import File
+        return File
+    raise AttributeError(f"module 'dzwonolin' has no attribute {name!r}")
 
 
 # --------------------------------------------------------------- the short list
@@ -289,7 +287,7 @@ def _list_numbers(models):
     return _numbers([n for m in models for n in (m[0], m[1], {"S": 0, "V": 1}.get(m[2], m[2]), m[3])])
 
 
-def model_list(records, room=64):
+def model_list(records, room: int = 64) -> tuple[int, list[Model]]:
     """(0, the models of the records of one brain map, in order) or (number, [])."""
     records, count = _numbers(records), (ctypes.c_uint64 * 1)()
     lent = (ctypes.c_uint64 * (4 * room))()
@@ -298,14 +296,14 @@ def model_list(records, room=64):
     return number, [Model(first, size, "SV"[kind], structure) for first, size, kind, structure in rows]
 
 
-def structure_at(models, index):
+def structure_at(models, index: int) -> tuple:
     """(0, 'S' or 'V', the structure) at an index, or (number, None, 0)."""
     lent, answer = _list_numbers(models), (ctypes.c_uint64 * 2)()
     number = _library().dz_structure_at(lent, len(lent), _number(index), answer, 2)
     return (number, None, 0) if number else (0, "SV"[answer[0]], answer[1])
 
 
-def index_of(models, records, record):
+def index_of(models, records, record: int) -> tuple[int, int]:
     """(0, the index of the record) or (number, 0)."""
     lent, records, place = _list_numbers(models), _numbers(records), (ctypes.c_uint64 * 1)()
     return _library().dz_index_of(lent, len(lent), records, len(records), _number(record), place, 1), place[0]
@@ -338,18 +336,6 @@ def changes(first, second):
         yield " ".join(map(str, (word, index, *unfold(record))))
 
 
-def _compare_files(paths):
-    """The command: the counts, then what changed; or the refusal."""
-    sheets = [pathlib.Path(path).read_bytes() for path in paths]
-    told = compare(*sheets)
-    if told.number:
-        print(f"refused {told.number}")
-        return 1
-    print(f"same {told.same} moved {told.moved} first {told.first} second {told.second}")
-    sys.stdout.writelines(line + "\n" for line in changes(*sheets))
-    return 0
-
-
 # ------------------------------------------------------------- the command line
 
 def _stretches(answer):
@@ -377,22 +363,12 @@ def models(answer):
             yield f"model {start} {one.type} {one.structure} {STRUCTURES[one.structure]} {one.count} {one.first}"
 
 
-def main(arguments):
-    if len(arguments) == 3 and arguments[0] == "compare":
-        return _compare_files(arguments[1:])
-    if len(arguments) not in (2, 3) or arguments[0] not in ("card", "list"):
-        print("usage: dzwonolin.py card|list FILE.nii, or card|list TEXT LENGTHS (as 2,91282), or compare OLD NEW", file=sys.stderr)
-        return 2
-    if len(arguments) == 2:
-        answer = read_file(arguments[1])
-    else:
-        text = pathlib.Path(arguments[1]).read_bytes()
-        fine = re.fullmatch("[0-9]{1,7}(,[0-9]{1,7})*", arguments[2])
-        answer = read(text, [int(n) for n in arguments[2].split(",")] if fine else [])
-    sys.stdout.writelines(line + "\n" for line in card(answer))
-    if arguments[0] == "card":
-        sys.stdout.writelines(line + "\n" for line in models(answer))
-    return 1 if answer.number else 0
+def main(arguments) -> int:
+    """The command line: `card|list FILE.nii`, `card|list TEXT LENGTHS`, or any other of the command `dzwonolin`."""
+    from dzwonolin_command import main as command
+    if len(arguments) == 3 and arguments[0] in ("card", "list") and "-" not in (arguments[1][:1], arguments[2][:1]):
+        arguments = [arguments[0], arguments[1], "--lengths", arguments[2]]
+    return command(arguments)
 
 
 if __name__ == "__main__":

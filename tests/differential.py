@@ -24,8 +24,8 @@ sys.path[:0] = [str(HERE), str(HERE.parent / "python")]
 
 import dzwonolin  # noqa: E402
 import emulation  # noqa: E402
-import oracle  # noqa: E402
-import oracle_markup  # noqa: E402
+import dzwonolin_oracle as oracle  # noqa: E402
+import dzwonolin_oracle_markup as oracle_markup  # noqa: E402
 import paper  # noqa: E402
 import real  # noqa: E402
 import standin  # noqa: E402

@@ -19,9 +19,9 @@ import standin  # noqa: E402
 
 def copy_of_oracle():
     """The oracle's three modules, loaded anew."""
-    names = ["oracle_markup", "oracle_rules", "oracle"]
+    names = ["dzwonolin_oracle_markup", "dzwonolin_oracle_rules", "dzwonolin_oracle"]
     kept = {name: sys.modules.pop(name) for name in names}
-    copy = importlib.import_module("oracle")
+    copy = importlib.import_module("dzwonolin_oracle")
     sys.modules.update(kept)
     return copy
 
@@ -115,7 +115,7 @@ def overlong_utf8(o):
 
 
 def comment_parts_numbers(o):
-    def add(element, raw):
+    def add(element, raw, at):
         if b"]]>" in raw:
             raise o.markup.no_document("]]>")
         element.contents.append(bytearray(o.markup.decode(raw)))

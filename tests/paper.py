@@ -65,7 +65,7 @@ def rows():
 
 def by_oracle():
     """What the oracle has wrong."""
-    import oracle
+    import dzwonolin_oracle as oracle
     for name, text, lengths, records, work, number in rows():
         got = oracle.read(text, lengths, records, work).number
         if got != number:

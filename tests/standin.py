@@ -4,7 +4,7 @@
 """
 import ctypes
 
-import oracle
+import dzwonolin_oracle as oracle
 
 KINDS = {"brain": 1, "series": 2, "scalars": 3}
 

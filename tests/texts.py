@@ -223,7 +223,8 @@ def sheet_case(seed, number):
 # ------------------------------------------------------------------- the spread
 
 def spread(seed, count, large):
-    import oracle
+    sys.path.append(str(pathlib.Path(__file__).resolve().parent.parent / "python"))
+    import dzwonolin_oracle as oracle
     answers, aims, accepted = collections.Counter(), collections.Counter(), 0
     for number in range(count):
         one = case(seed, number, large)

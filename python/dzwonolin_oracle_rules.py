@@ -1,8 +1,8 @@
-"""The paper's rules on elements (refusal 6) and on numbers (refusal 7), over documents of oracle_markup."""
+"""The paper's rules on elements (refusal 6) and on numbers (refusal 7), over documents of dzwonolin_oracle_markup."""
 import collections
 import re
 
-from oracle_markup import BLANKS, Refused
+from dzwonolin_oracle_markup import BLANKS, Refused
 
 LENGTH_LIMIT = 1048576
 VERTEX_LIMIT = 1048575
@@ -38,24 +38,33 @@ def structure_words():
 STRUCTURES = structure_words()
 
 
-def not_as_told(why):
-    return Refused(6, why)
+def not_as_told(why, element=None, attribute=None):
+    return Refused(6, why, element=element, attribute=attribute)
+
+
+def told(names):
+    return ", ".join(sorted(name.decode() for name in names))
 
 
 def shape(element, attributes, children, text=False):
     """The element has exactly these attributes, children within these bounds and,
     where it holds no text, only blanks between them."""
-    if {name for name, _ in element.attributes} != set(attributes):
-        raise not_as_told("attributes of " + repr(element.name))
+    names = {name for name, _ in element.attributes}
+    if names - set(attributes):
+        raise not_as_told(f"it has {told(names - set(attributes))}, which may not stand here", element, min(names - set(attributes)))
+    if set(attributes) - names:
+        raise not_as_told(f"it has no {told(set(attributes) - names)}", element)
     counts = collections.Counter(c.name for c in element.children())
     for name in counts:
         if name not in children:
-            raise not_as_told("child " + repr(name))
+            raise not_as_told("this element may not stand here", element.child(name))
     for name, (least, most) in children.items():
         if not least <= counts[name] <= most:
-            raise not_as_told("count of " + repr(name))
-    if not text and element.text().strip(BLANKS):
-        raise not_as_told("text in " + repr(element.name))
+            raise not_as_told(f"it holds {counts[name]} {name.decode()}, and must hold {least if counts[name] < least else most}"
+                              + (" at least" if counts[name] < least < most else ""), element)
+    found = element.text().strip(BLANKS)[:30].decode("utf-8", "replace")
+    if not text and found:
+        raise not_as_told(f"it holds text, {found!r}, where only blanks may stand", element)
 
 
 def check_metadata(element):
@@ -84,7 +93,7 @@ def check_volume(element):
 def check_model(element):
     kind = MODELS.get(element.value(b"ModelType"))
     if kind is None:
-        raise not_as_told("ModelType")
+        raise not_as_told("the word is no type of model", element, b"ModelType")
     attributes = [b"IndexOffset", b"IndexCount", b"ModelType", b"BrainStructure"]
     listing = b"VoxelIndicesIJK"
     if kind == "S":
@@ -93,7 +102,7 @@ def check_model(element):
     shape(element, attributes, {listing: (1, 1)})
     shape(element.child(listing), [], {}, text=True)
     if element.value(b"BrainStructure") not in STRUCTURES:
-        raise not_as_told("BrainStructure")
+        raise not_as_told("the word is no structure", element, b"BrainStructure")
 
 
 def check_map(element):
@@ -104,7 +113,7 @@ def check_map(element):
                        b"SeriesExponent", b"SeriesUnit"]
         shape(element, attributes, {})
         if element.value(b"SeriesUnit") not in UNITS:
-            raise not_as_told("SeriesUnit")
+            raise not_as_told("the word is no unit", element, b"SeriesUnit")
     elif kind == "scalars":
         shape(element, attributes, {b"NamedMap": (0, MANY)})
         for named in element.children():
@@ -118,9 +127,9 @@ def check_map(element):
             check_model(model)
         voxels = any(MODELS[m.value(b"ModelType")] == "V" for m in models)
         if voxels and not element.children(b"Volume"):
-            raise not_as_told("a voxel model without a Volume")
+            raise not_as_told("it holds a model of voxels and no Volume", element)
     else:
-        raise not_as_told("IndicesMapToDataType")
+        raise not_as_told("the word is no kind of map", element, b"IndicesMapToDataType")
 
 
 def check_elements(root):
@@ -142,19 +151,21 @@ DIMENSIONS = re.compile(rb"[0-9](?:,[0-9])*\Z")
 BETWEEN = re.compile(rb"[ \t\n\r]+")
 
 
-def not_a_number(why):
-    return Refused(7, why)
+def not_a_number(why, word=None):
+    return Refused(7, why, element=getattr(word, "element", None), attribute=getattr(word, "attribute", None), word=word)
 
 
 def whole(word, least, most):
-    if not WHOLE.match(word) or not least <= int(word) <= most:
-        raise not_a_number(repr(word[:20]))
+    if not WHOLE.match(word):
+        raise not_a_number("it must be a whole number of 1 to 7 digits", word)
+    if not least <= int(word) <= most:
+        raise not_a_number(f"it must be from {least} to {most}", word)
     return int(word)
 
 
 def exponent(word):
     if not EXPONENT.match(word) or not -30 <= int(word) <= 30:
-        raise not_a_number(repr(word[:20]))
+        raise not_a_number("it must be a whole number from -30 to 30, of 1 or 2 digits", word)
     return int(word)
 
 
@@ -162,49 +173,63 @@ def decimal(word):
     """(the digits as a signed whole number, the power of ten: the written one less the places after the point)."""
     found = DECIMAL.match(word)
     if not found:
-        raise not_a_number(repr(word[:20]))
+        raise not_a_number("it must be a decimal, as 2.0 or 7.2E-1", word)
     sign, before, after = found.group(1), found.group(2), found.group(3) or b""
     if len(before) + len(after) > 15:
-        raise not_a_number("too many digits")
+        raise not_a_number("it has more than 15 digits", word)
     amount, power = int(before + after), int(found.group(4) or b"0") - len(after)
     if not -45 <= power <= 45:
-        raise not_a_number("power of ten")
+        raise not_a_number("its power of ten, less the places behind the point, is not from -45 to 45", word)
     return (-amount if sign == b"-" else amount), power
 
 
 def dimension_list(word):
     if not DIMENSIONS.match(word):
-        raise not_a_number("dimension list")
+        raise not_a_number("it must be single digits with commas", word)
     return [int(digit) for digit in word.split(b",")]
 
 
 def volume_dimensions(word):
     parts = word.split(b",")
     if len(parts) != 3:
-        raise not_a_number("VolumeDimensions")
-    return tuple(whole(p, 1, VOLUME_LIMIT) for p in parts)
+        raise not_a_number("it must be three numbers with commas", word)
+    if not all(WHOLE.match(p) and 1 <= int(p) <= VOLUME_LIMIT for p in parts):
+        raise not_a_number(f"each of the three must be from 1 to {VOLUME_LIMIT}, without blanks", word)
+    return tuple(map(int, parts))
 
 
 def words(text):
     return [w for w in BETWEEN.split(text) if w]
 
 
-def check_transformation(text):
-    numbers = [decimal(w) for w in words(text)]
+def listed(element, read):
+    """What is read of each word of an element's text; a refusal tells which word it is about, from 0."""
+    found = words(element.text())
+    try:
+        return [read(w) for w in found]
+    except Refused as refused:
+        refused.element = element
+        refused.word = next(n for n, w in enumerate(found) if w is refused.word)
+        raise
+
+
+def check_transformation(element):
+    numbers = listed(element, decimal)
     if len(numbers) != 16:
-        raise not_a_number("not sixteen")
+        raise Refused(7, f"it lists {len(numbers)} numbers, and must list sixteen", element=element)
     for (amount, power), wanted in zip(numbers[12:], (0, 0, 0, 1)):
         if amount * 10 ** max(power, 0) != wanted * 10 ** max(-power, 0):
-            raise not_a_number("the last row")
+            raise Refused(7, "its last row is not 0 0 0 1", element=element)
 
 
-Model = collections.namedtuple("Model", "type structure offset count vertices numbers")
+Model = collections.namedtuple("Model", "type structure offset count vertices numbers element")
 
 
 class Map:
     """A MatrixIndicesMap with its numbers read."""
 
     def __init__(self, element):
+        self.element = element
         self.kind = KINDS[element.value(b"IndicesMapToDataType")]
         self.applies = dimension_list(element.value(b"AppliesToMatrixDimension"))
         self.series_start = self.series_step = (0, 0)
@@ -224,7 +249,7 @@ class Map:
                 self.volume = volume_dimensions(volume.value(b"VolumeDimensions"))
                 matrix = volume.child(TRANSFORMATION)
                 exponent(matrix.value(b"MeterExponent"))
-                check_transformation(matrix.text())
+                check_transformation(matrix)
             self.models = [read_model(m) for m in element.children(b"BrainModel")]
             self.length = sum(m.count for m in self.models)
 
@@ -239,6 +264,6 @@ def read_model(element):
         listing, most = element.child(b"VertexIndices"), VERTEX_LIMIT
     else:
         listing, most = element.child(b"VoxelIndicesIJK"), VOXEL_LIMIT
-    numbers = [whole(w, 0, most) for w in words(listing.text())]
+    numbers = listed(listing, lambda word: whole(word, 0, most))
     structure = STRUCTURES[element.value(b"BrainStructure")]
-    return Model(kind, structure, offset, count, vertices, numbers)
+    return Model(kind, structure, offset, count, vertices, numbers, element)

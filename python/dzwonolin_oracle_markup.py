@@ -6,11 +6,13 @@ import re
 
 
 class Refused(Exception):
-    """Carries the number of refusal."""
+    """Carries the number of refusal and, where they are known, words on it and what it is about: a place of the text,
+    an element, the name of an attribute of it, or which word of its text."""
 
-    def __init__(self, number, why=""):
+    def __init__(self, number, why="", place=None, element=None, attribute=None, word=None):
         super().__init__(number, why)
-        self.number = number
+        self.number, self.why, self.place = number, why, place
+        self.element, self.attribute, self.word = element, attribute, word
 
 
 BLANKS = b" \t\n\r"
@@ -38,6 +40,15 @@ DEPTH_LIMIT = 16
 OUTLINE_LIMIT = 32768
 
 
+class Said(bytes):
+    """The value of an attribute, which knows whose it is."""
+
+    def __new__(cls, value, element, attribute):
+        said = super().__new__(cls, value)
+        said.element, said.attribute = element, attribute
+        return said
+
+
 class Element:
     """A name, attributes in order, contents in order (elements, and runs of
     decoded characters as bytes), and where its contents stand in the text."""
@@ -63,12 +74,19 @@ class Element:
     def value(self, name):
         for key, value in self.attributes:
             if key == name:
-                return value
+                return Said(value, self, name)
         return None
 
 
-def no_document(why):
-    return Refused(3, why)
+def no_document(why, place=None):
+    return Refused(3, why, place)
+
+
+def check_references(raw, at):
+    """No & stands alone in the characters that are written at a place."""
+    alone = LONE_AMPERSAND.search(raw)
+    if alone:
+        raise no_document("a lone &", at + alone.start())
 
 
 def decode(raw):
@@ -89,17 +107,18 @@ def check_characters(text):
     """All of a document is UTF-8 of legal characters, markup and comments too."""
     try:
         text.decode("utf-8", "strict")
-    except UnicodeDecodeError:
-        raise no_document("not UTF-8") from None
-    if FORBIDDEN.search(text):
-        raise no_document("a character that is never allowed")
+    except UnicodeDecodeError as wrong:
+        raise no_document("not UTF-8", wrong.start) from None
+    never = FORBIDDEN.search(text)
+    if never:
+        raise no_document("a character that is never allowed", never.start())
 
 
 def comment_end(text, at):
     """The place after the comment that begins at `at`."""
     dashes = text.find(b"--", at + 4)
     if dashes < 0 or text[dashes + 2:dashes + 3] != b">":
-        raise no_document("a comment that does not end well")
+        raise no_document("a comment that does not end well", at)
     return dashes + 3
 
 
@@ -117,24 +136,26 @@ def start_tag(text, at):
     """The element whose start tag stands at `at`, whether it is empty, and the place after."""
     tag = START_TAG.match(text, at)
     if not tag or len(tag["name"]) > NAME_LIMIT:
-        raise no_document("not a start tag")
+        raise no_document("not a start tag", at)
     attributes = []
     for one in ATTRIBUTE.finditer(tag["attributes"]):
         if len(one["name"]) > NAME_LIMIT:
-            raise no_document("a name too long")
+            raise no_document("a name too long", at)
         value = one["value"][1:-1]
+        check_references(value, tag.start("attributes") + one.start("value") + 1)
         attributes.append((one["name"], decode(line_ends(value).translate(SPACED))))
     if len(attributes) > ATTRIBUTE_LIMIT:
-        raise no_document("too many attributes")
+        raise no_document("too many attributes", at)
     if len({name for name, _ in attributes}) < len(attributes):
-        raise no_document("an attribute twice")
+        raise no_document("an attribute twice", at)
     return Element(tag["name"], attributes, tag.end()), bool(tag["empty"]), tag.end()
 
 
-def add_run(element, raw):
-    """A stretch of text; it joins the run before it, where only comments stand between."""
+def add_run(element, raw, at):
+    """A stretch of text, at a place; it joins the run before it, where only comments stand between."""
     if b"]]>" in raw:
-        raise no_document("]]> in text")
+        raise no_document("]]> in text", at + raw.index(b"]]>"))
+    check_references(raw, at)
     run = decode(line_ends(raw))
     if element.contents and isinstance(element.contents[-1], bytearray):
         element.contents[-1] += run
@@ -156,21 +177,21 @@ def root_element(text, at):
     while stack:
         angle = text.find(b"<", at)
         if angle < 0:
-            raise no_document("an element that does not end")
+            raise no_document(f"the text ends, and {stack[-1].name.decode()} is open", len(text))
         if angle > at:
-            add_run(stack[-1], text[at:angle])
+            add_run(stack[-1], text[at:angle], at)
         if text.startswith(b"<!--", angle):
             at = comment_end(text, angle)
         elif text.startswith(b"</", angle):
             tag = END_TAG.match(text, angle)
             if not tag or tag["name"] != stack[-1].name:
-                raise no_document("a wrong end tag")
+                raise no_document(f"a wrong end tag: {stack[-1].name.decode()} is open", angle)
             close(stack.pop(), angle)
             at = tag.end()
         else:
             element, empty, at = start_tag(text, angle)
             if len(stack) >= DEPTH_LIMIT:
-                raise no_document("too deep")
+                raise no_document("too deep", angle)
             stack[-1].contents.append(element)
             if not empty:
                 stack.append(element)
@@ -183,8 +204,9 @@ def document(text):
     declared = DECLARATION.match(text)
     at = skip_aside(text, declared.end() if declared else 0)
     root, at = root_element(text, at)
-    if skip_aside(text, at) != len(text):
-        raise no_document("something after the root")
+    at = skip_aside(text, at)
+    if at != len(text):
+        raise no_document("something after the root", at)
     return root
 
 

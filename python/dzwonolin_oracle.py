@@ -1,21 +1,21 @@
 """An independent reading of the paper, to compare the proved reader with.
 
-Written from the paper alone, in the paper's order: the markup grammar (oracle_markup), the elements and numbers
-(oracle_rules), and here the conditions 1 to 19, the sheet and the morning card. It builds a whole tree, and each rule
-stands by itself.
+Written from the paper alone, in the paper's order: the markup grammar (dzwonolin_oracle_markup), the elements and numbers
+(dzwonolin_oracle_rules), and here the conditions 1 to 19, the sheet and the morning card. It builds a whole tree, and each rule
+stands by itself. The tests hold the library to it; `dzwonolin why` tells by it where a text breaks a rule.
 
-    python3 tests/oracle.py < INPUT            the morning card of an input
-    python3 tests/oracle.py --cases FILE       hold the card to cases in JSON lines
+    python3 python/dzwonolin_oracle.py < INPUT            the morning card of an input
+    python3 python/dzwonolin_oracle.py --cases FILE       hold the card to cases in JSON lines
 """
 import collections
 import json
 import re
 import sys
 
-import oracle_markup as markup
-import oracle_rules as rules
-from oracle_markup import Refused
-from oracle_rules import LENGTH_LIMIT, VERTEX_LIMIT
+import dzwonolin_oracle_markup as markup
+import dzwonolin_oracle_rules as rules
+from dzwonolin_oracle_markup import Refused
+from dzwonolin_oracle_rules import LENGTH_LIMIT, VERTEX_LIMIT
 
 TEXT_LIMIT = 16777216
 

@@ -1,0 +1,78 @@
+"""Words for the numbers of refusal: written by tools/reasons from include/dzwonolin.h and docs/REFUSALS.md."""
+
+REASONS = {
+    1: "lengths are not 2 or 3, or one is 0 or above 1,048,576",
+    2: "text above 16,777,216 bytes",
+    3: "no document of the markup grammar writes this text",
+    4: "the root is not CIFTI with Version 2",
+    5: "a map of kind PARCELS or LABELS",
+    6: "an element, attribute, child, named word or non-blank text is not as the format says",
+    7: "a number's form, limit or fixed value, or the sixteen of the transformation",
+    8: "some dimension is not listed exactly once, or a listed one does not exist",
+    9: "a map's length is not that of a dimension it applies to",
+    10: "two models of a map share type and structure",
+    11: "a model does not list as many numbers as it says, or an index of the map is in no range or in two",
+    12: "a vertex or voxel is outside its surface or volume",
+    13: "records lent are fewer than all stretches, or work space than the longest",
+    14: "a vertex twice in a model, or a voxel twice in a map",
+    15: "sheet count 0 or above 1,048,576; unpacking: also not a sheet",
+    16: "an illegal record",
+    17: "the slice to be written is too short",
+    18: "map name: no such dimension, it is not scalars, or the index is not below its length",
+    19: "find: no such record; asking a list: no such index or record",
+    20: "a file under 544 bytes; its size field or magic is not NIfTI-2's single file; a data offset below 544",
+    21: "a file's dim[0] is not 6 or 7, one of dim[1] to dim[4] is not 1, or one of dim[5] to dim[dim[0]] is below 1",
+    22: "the extensions up to a file's data offset are no list, or the data offset lies past its bytes",
+    23: "a file has no extension of code 32",
+    26: "making a list: a type and structure comes back after another; asking: a bad list",
+}
+
+WHAT_TO_DO = {
+    1: "If you typed the lengths, give two or three whole numbers with commas and no blanks, as `2,91282`, in the "
+        "header's order: the length of dimension 0 first. If they come from a file, its matrix has a dimension longer "
+        "than is read.",
+    2: "Look whether the file is a header text at all: a whole .nii file goes in without `--lengths`. Nothing longer "
+        "is read.",
+    3: "A tag that is not closed, a bare `&` or `<` and a damaged character are for the sender to mend. Number "
+        "references (`&#65;`), CDATA, DOCTYPE, a byte-order mark and UTF-16 are XML but are not read here: have the "
+        "header written without them, in UTF-8. A compressed file must be unpacked first.",
+    4: "It is a file of another format, or CIFTI-1, which is not read. Convert CIFTI-1 with Workbench: `wb_command "
+        "-file-convert -cifti-version-convert`.",
+    5: "Nothing is wrong with the file. This kind of map is not read by this library.",
+    6: "An element, or an attribute, child or word in it, is misspelt, missing or too many. The sender's program must "
+        "write it as CIFTI-2 says.",
+    7: "Look for signs, blanks beside commas, more than seven digits, and a transformation whose last row is not 0 0 "
+        "0 1. The sender's program must write the number as CIFTI-2 says.",
+    8: "Each dimension of the matrix needs exactly one map. Look at AppliesToMatrixDimension of the maps, and, if you "
+        "typed the lengths, whether there are as many as the matrix has.",
+    9: "The header and the matrix do not belong together, or the lengths were typed in the wrong order.",
+    10: "A structure stands twice as a surface, or twice as voxels, in one map. The sender must join the two models, "
+        "or name them rightly.",
+    11: "Do not use the data: its rows may belong to other places than they seem to. The sender's program must give "
+        "each index of the map one model, and each model as many locations as it says.",
+    12: "A vertex number counts from 0 and is below SurfaceNumberOfVertices; a voxel's three numbers are below "
+        "VolumeDimensions. Often the numbers were counted from 1, or belong to a surface of another resolution.",
+    13: "Lend more room: as many records as the sum of the lengths, and as much work space as the largest, is always "
+        "enough.",
+    14: "One place has two rows of data. The sender must say which one is meant. Comparing sheets: look for the "
+        "location that stands twice in one of them.",
+    15: "Look whether the bytes are a whole sheet: a byte 7 or 5, three bytes of count, then as many bytes a record. A "
+        "cut copy is the usual cause.",
+    16: "The numbers were changed, or are records of an older library, which had 40 bits: keep tables as sheets, and "
+        "unpack those.",
+    17: "Lend a longer slice: 4 bytes and 7 for each record to pack, a place for each record to unpack, 64 models for "
+        "a list.",
+    18: "Ask along the dimension of the named maps, usually 0, with an index below its length. `dzwonolin counts FILE` "
+        "shows the dimensions.",
+    19: "The location is not in this table. Nothing is wrong with it: ask another, or look whether structure and type "
+        "are those meant.",
+    20: "It is no CIFTI-2 file: look whether it is compressed (.nii.gz), an older NIfTI-1 volume, or a header text, "
+        "which needs `--lengths`.",
+    21: "It is a NIfTI-2 file that holds no CIFTI matrix, as a plain volume is. Ask the sender for the file named "
+        ".dscalar.nii, .dtseries.nii or the like.",
+    22: "The file is cut off, or was damaged on its way. Fetch it again and compare its size with the sender's.",
+    23: "The file carries no CIFTI header, perhaps since a program that does not know CIFTI wrote it anew. Ask for the "
+        "original.",
+    26: "Make the list from the records of one brain map's stretch, as they were read; and ask with the list as it was "
+        "made.",
+}

@@ -1,0 +1,3 @@
+/* As stdio.h. */
+#include <stdint.h>
+#define PRIu64 "lu"
