@@ -22,6 +22,9 @@ listsDimension d e = dimensionList (attr "AppliesToMatrixDimension" e) && any (e
 unfoldable pub mapThatLists : (dimension : ℕ) → Element → Bool
 mapThatLists d e = is "MatrixIndicesMap" (nameOf e) && listsDimension d e
 
+unfoldable pub mapWay : (dimension : ℕ) → List Step
+mapWay d = step (ofName "Matrix") 0 ∷ step (mapThatLists d) 0 ∷ []
+
 unfoldable pub inMap : (index : ℕ) → List Step
 inMap i = step (ofName "NamedMap") i ∷ step (ofName "MapName") 0 ∷ []
 
@@ -29,5 +32,5 @@ unfoldable pub nameWay : (dimension index : ℕ) → List Step
 nameWay d i = step (ofName "Matrix") 0 ∷ step (mapThatLists d) 0 ∷ inMap i
 
 unfoldable pub nameWays : Unit {0}
-unfolding ofName listsDimension mapThatLists inMap nameWay
+unfolding ofName listsDimension mapThatLists mapWay inMap nameWay
 nameWays = tt

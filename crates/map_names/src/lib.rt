@@ -13,10 +13,9 @@ use records::Index;
 use ways::behind_tag;
 use ways::child_named;
 ghost use mathlib.Core.Path.{_≡_};
-ghost use mathlib.Core.List.{_∷_};
 ghost use Rattle.ways.specs.Walked.{childAt};
-ghost use Rattle.ways.specs.Treads.{trod, tread};
-ghost use Rattle.map_names.specs.Treads.{listsAt, mapAt, inMapTreads, nameAt};
+ghost use Rattle.ways.specs.Treads.{trod};
+ghost use Rattle.map_names.specs.Treads.{listsAt, mapAt, inMapTreads, mapThere, nameAt};
 ghost use Rattle.map_names.specs.Answered.{Answered};
 
 // The number of the refusal, or 0, and then where the name starts in the text, and its length.
@@ -78,27 +77,26 @@ fn name_on(text: &[u8], at: usize, index: Index) -> Found
     }
 }
 
-// The same in the Matrix at `at`, on the map that lists the dimension.
-fn name_in(text: &[u8], at: usize, dimension: u64, index: Index) -> Found
-    ensures { λ r. ⌜ r ≡ trod (tread (mapAt (now (text .entry)) dimension) 0 ∷ inMapTreads (now (text .entry)) (index .0))
-        (now (text .entry)) at ⌝ }
-{
-    match map_on(text, at, dimension) {
-        Found::At(k) => name_on(text, k, index),
-        Found::Nothing => Found::Nothing,
-    }
-}
-
-// From the root.
-fn name_there(text: &[u8], dimension: u64, index: Index) -> Found
-    ensures { λ r. ⌜ r ≡ nameAt (now (text .entry)) dimension (index .0) ⌝ }
+// The map that lists the dimension, from the root.
+pub fn map_there(text: &[u8], dimension: u64) -> Found
+    ensures { λ r. ⌜ r ≡ mapThere (now (text .entry)) dimension ⌝ }
 {
     match root_of(text) {
         Kid::Child(root) => match child_named(text, root, b"Matrix", 0) {
-            Found::At(m) => name_in(text, m, dimension, index),
+            Found::At(m) => map_on(text, m, dimension),
             Found::Nothing => Found::Nothing,
         },
         Kid::Done => Found::Nothing,
+    }
+}
+
+// The name on it.
+fn name_there(text: &[u8], dimension: u64, index: Index) -> Found
+    ensures { λ r. ⌜ r ≡ nameAt (now (text .entry)) dimension (index .0) ⌝ }
+{
+    match map_there(text, dimension) {
+        Found::At(k) => name_on(text, k, index),
+        Found::Nothing => Found::Nothing,
     }
 }
 

@@ -1,4 +1,4 @@
-use Rattle.map_names.specs.Treads.{from-root}
+use Rattle.map_names.specs.Treads.{from-map}
 use Rattle.map_names.proofs.name_there.Statement.{statement}
 use Rattle.map_names.proofs.name_there.Tie as tie
 
@@ -6,14 +6,9 @@ pub name-there-spec : {M : Type 1} → statement M
 name-there-spec =
     tie.close
     (tie.spec
-    (λ c κs. search from-root)
-    (λ c. search from-root)
-    (λ c. search from-root)
-    (λ c κs. search from-root)
-    (λ c. search from-root)
-    (λ c κs. search from-root)
-    (λ c. search from-root)
-    (λ c. search from-root)
-    (λ c. search from-root)
-    (λ c. search from-root)
-    (λ c. search from-root))
+    (λ c κs. search from-map)
+    (λ c. search from-map)
+    (λ c κs. search from-map)
+    (λ c. search from-map)
+    (λ c. search from-map)
+    (λ c. search from-map))

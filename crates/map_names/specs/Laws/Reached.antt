@@ -108,14 +108,14 @@ on-map i {e} g = go (in-named i (each-named g))
 
 -- ---- Among the maps: the one that lists the dimension.
 
-some-counted : (p : ℕ → Bool) (l : List ℕ) → any p l ≡ true → 1 ≤ count p l
+pub some-counted : (p : ℕ → Bool) (l : List ℕ) → any p l ≡ true → 1 ≤ count p l
 some-counted p l h = go (ℕ-discrete (count p l) 0)
   where
     go : Dec (count p l ≡ 0) → 1 ≤ count p l
     go (yes z) = both-ways h (none-counted p l z)
     go (no z) = omega arith
 
-abbrev lists-it : ℕ → Element → Bool
+abbrev pub lists-it : ℕ → Element → Bool
 lists-it d m = any (eqb d) (dimensionsOf m)
 
 none-holds : (d i : ℕ) (l : List Map) → count (eqb d) (listedDimensions l) ≡ 0
@@ -149,7 +149,7 @@ module _ (d i : ℕ) where
   later-map f (in-none h) = in-none (rw f h)
   later-map f (in-some {x} h q) = in-some {x = x} (rw f h) (rw f q)
 
-  dimensions-split : (e : Element) (l : List Element)
+  pub dimensions-split : (e : Element) (l : List Element)
       → count (eqb d) (listedDimensions (each mapOf (e ∷ l)))
       ≡ count (eqb d) (dimensionsOf e) + count (eqb d) (listedDimensions (each mapOf l))
   unfolding each listedDimensions eachIn mapOf
@@ -188,7 +188,7 @@ unfolding those listsDimension
 those-listed d no-maps = refl
 those-listed d (one-map {e} {l} g m) = rw (map-dimensions g, those-listed d m)
 
-matrix-step : (d : ℕ) {e : Element} → Good matrix e
+pub matrix-step : (d : ℕ) {e : Element} → Good matrix e
     → those (mapThatLists d) (elements (contentsOf e)) ≡ those (lists-it d) (children "MatrixIndicesMap" e)
 unfolding mapThatLists children
 matrix-step d {e} g = those-both (λ x. is "MatrixIndicesMap" (nameOf x)) (listsDimension d) (elements (contentsOf e))
@@ -204,7 +204,7 @@ one-matrix : (e : Element) (o : OnlyChild "Matrix" matrix (elements (contentsOf 
 unfolding children those
 one-matrix e o = rw (o .alone, o .name)
 
-maps-in : (e : Element) (o : OnlyChild "Matrix" matrix (elements (contentsOf e))) → mapElements e ≡ children "MatrixIndicesMap" (o .one)
+pub maps-in : (e : Element) (o : OnlyChild "Matrix" matrix (elements (contentsOf e))) → mapElements e ≡ children "MatrixIndicesMap" (o .one)
 unfolding mapElements eachIn
 maps-in e o = ap (eachIn (children "MatrixIndicesMap")) (one-matrix e o) ∙ append-nil (children "MatrixIndicesMap" (o .one))
 
