@@ -42,6 +42,10 @@
 #include <stddef.h>
 #include <stdint.h>
 
+/* The version of the library that this header is of. A change of the first number is one after which a caller has to be compiled
+   again, and the shared library is named by it. */
+#define DZ_VERSION "1.0.0"
+
 #ifdef __cplusplus
 extern "C" {
 #endif
@@ -102,6 +106,18 @@ uint64_t dz_map_name(const uint8_t *text, size_t text_len,
                      const uint64_t *lengths, size_t lengths_len,
                      uint64_t dimension, uint64_t index,
                      uint64_t *part, size_t part_len);
+
+/* The names of all maps along `dimension` (from 0), in one walk: the n-th is what dz_map_name tells for index n. Refusals 1 to 9,
+   18 (no such dimension, or it is not scalars), then 17.
+
+   places          accepted: two numbers a name from its start, where the name starts in the text, and its length; the rest is
+                   left as it was. Refused: all left as it was. Room for twice the length of the dimension is enough.
+   count           [0] = how many names there are. Refused: 0. */
+uint64_t dz_map_names(const uint8_t *text, size_t text_len,
+                      const uint64_t *lengths, size_t lengths_len,
+                      uint64_t dimension,
+                      uint64_t *places, size_t places_len,
+                      uint64_t *count, size_t count_len);
 
 /* The first place of a number in the records. Refusal 19.
 

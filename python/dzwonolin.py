@@ -30,7 +30,7 @@ import pathlib
 import re
 import sys
 
-__all__ = ["read", "read_file", "front", "file_map_name", "map_name", "find", "pack", "unpack", "unfold", "Answer", "Dimension", "Front",
+__all__ = ["read", "read_file", "front", "file_map_name", "map_name", "map_names", "find", "pack", "unpack", "unfold", "Answer", "Dimension", "Front",
            "STRUCTURES", "UNITS"]
 
 LENGTH_LIMIT = 1048576
@@ -59,6 +59,8 @@ _SLICE = (ctypes.c_void_p, ctypes.c_size_t)
 _FUNCTIONS = {"dz_read": _SLICE * 5, "dz_map_name": _SLICE * 2 + (ctypes.c_uint64,) * 2 + _SLICE,
               "dz_find": _SLICE + (ctypes.c_uint64,) + _SLICE, "dz_pack": _SLICE * 3, "dz_unpack": _SLICE * 3,
               "dz_front": _SLICE * 2, "dz_read_file": _SLICE * 4, "dz_file_map_name": _SLICE + (ctypes.c_uint64,) * 2 + _SLICE}
+# all names of a map
+_FUNCTIONS["dz_map_names"] = _SLICE * 2 + (ctypes.c_uint64,) + _SLICE * 2
 # the short list
 _FUNCTIONS.update({"dz_model_list": _SLICE * 3, "dz_structure_at": _SLICE + (ctypes.c_uint64,) + _SLICE,
                    "dz_index_of": _SLICE * 2 + (ctypes.c_uint64,) + _SLICE})
@@ -67,11 +69,10 @@ _FUNCTIONS.update({"dz_model_list": _SLICE * 3, "dz_structure_at": _SLICE + (cty
 # ----------------------------------------------------------- library and slices
 
 def _places():
-    name = "libdzwonolin.so"
     here = pathlib.Path(__file__).resolve().parent
-    yield here / name
-    for folder in ("lib", "build", "target/native", "target"):
-        yield here.parent / folder / name
+    folders = [here] + [here.parent / folder for folder in ("lib", "build", "target/native", "target")] + [here.parent.parent]
+    for folder in folders:
+        yield from (folder / name for name in ("libdzwonolin.so", "libdzwonolin.so.1"))
 
 
 def _library():
@@ -213,6 +214,16 @@ def map_name(text, lengths, dimension, index):
     part = (ctypes.c_uint64 * 2)()
     number = call_map_name(text, _numbers(lengths), _number(dimension), _number(index), part)
     return number, bytes(text[part[0]:part[0] + part[1]])
+
+
+def map_names(text, lengths, dimension):
+    """(0, the names of all maps along a dimension, each the bytes between its tags, as written) or (number, [])."""
+    text, lengths, dimension = _bytes(text), _numbers(lengths), _number(dimension)
+    wanted = lengths[dimension] if dimension < len(lengths) else 0
+    places, count = (ctypes.c_uint64 * (2 * wanted if wanted <= LENGTH_LIMIT else 0))(), (ctypes.c_uint64 * 1)()
+    number = _library().dz_map_names(text, len(text), lengths, len(lengths), dimension, places, len(places), count, 1)
+    told = places[:2 * count[0]]
+    return number, [text[start:start + length] for start, length in zip(told[::2], told[1::2])]
 
 
 def _front(lent):

@@ -151,6 +151,20 @@ def map_name(text, lengths, dimension, index):
     return number, text[start:start + length]
 
 
+def map_names(text, lengths, dimension, room):
+    """(number, start and length of each name in the text, in a row), with room for so many numbers."""
+    try:
+        maps = maps_of(text, lengths)
+        refuse_if(18, not 0 <= dimension < len(lengths))
+        one = next(m for m in maps if dimension in m.applies)
+        refuse_if(18, one.kind != "scalars")
+        refuse_if(17, room < 2 * one.length)
+        names = [named.child(b"MapName") for named in one.named]
+        return 0, [n for name in names for n in (name.begin, name.end - name.begin)]
+    except Refused as refusal:
+        return refusal.number, []
+
+
 def find(records, number):
     """(0, the first place) or (19, 0)."""
     for place, record in enumerate(records):

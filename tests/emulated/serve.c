@@ -15,7 +15,8 @@ void _exit(int status);
 enum { GUARD = 64, MARK = 0xA5, ARGUMENTS = 5 };
 
 /* b, n: bytes and numbers to be read; B, N: to be written; v: a number. */
-static const char *const SHAPES[] = {"bnNNN", "bnvvN", "nvN", "nBN", "bNN", "bN", "bNNN", "bvvN", "nNN", "nvN", "nnvN"};
+static const char *const SHAPES[] = {"bnNNN", "bnvvN", "nvN", "nBN", "bNN", "bN", "bNNN", "bvvN", "nNN", "nvN", "nnvN",
+                                     "bnvNN"};
 
 struct argument {
     uint64_t count;
@@ -91,7 +92,8 @@ static uint64_t call(uint64_t function, struct argument *a)
     case 7: return dz_file_map_name(BYTES(0), a[1].count, a[2].count, NUMBERS(3));
     case 8: return dz_model_list(NUMBERS(0), NUMBERS(1), NUMBERS(2));
     case 9: return dz_structure_at(NUMBERS(0), a[1].count, NUMBERS(2));
-    default: return dz_index_of(NUMBERS(0), NUMBERS(1), a[2].count, NUMBERS(3));
+    case 10: return dz_index_of(NUMBERS(0), NUMBERS(1), a[2].count, NUMBERS(3));
+    default: return dz_map_names(BYTES(0), NUMBERS(1), a[2].count, NUMBERS(3), NUMBERS(4));
     }
 }
 

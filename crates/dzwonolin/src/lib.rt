@@ -1,4 +1,8 @@
 // The library for C: include/dzwonolin.h says what each function takes and gives. A slice is a pointer and the number of its elements.
+// All names of a map.
+mod names;
+
+pub use names::dz_map_names;
 use flat::tell_answer;
 use flat::tell_one;
 use flat::tell_row;
