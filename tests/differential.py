@@ -117,7 +117,8 @@ class Comparison:
             fine = fine and names == (0, [text[at:at + long] for at, long in zip(told[::2], told[1::2])])
             alone = rng.randrange(len(told) // 2)
             fine = fine and names[1][alone] == dzwonolin.map_name(text, lengths, dimension, alone)[1]
-        self.check(f"{name}: all names of {dimension}: {got}, wanted {wanted}", fine and names[0] in (wanted, 0 if wanted == 17 else wanted))
+        fine = fine and names[0] == (0 if wanted == 17 else wanted)
+        self.check(f"{name}: all names of {dimension}: {got}, wanted {wanted}", fine)
 
     def find(self, rng, name, records):
         asked = [rng.getrandbits(64), 0] + ([rng.choice(records), records[0], records[-1], records[-1] + 1] if records else [])
