@@ -55,10 +55,10 @@ fn map_on(text: &[u8], at: usize, dimension: u64) -> Found
     loop {
         match kid {
             Kid::Child(k) => {
-                kid = next_child(text, k);
                 if map_lists(text, k, dimension) {
                     return Found::At(k);
                 }
+                kid = next_child(text, k);
             }
             Kid::Done => {
                 return Found::Nothing;
