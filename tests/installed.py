@@ -27,6 +27,7 @@ import packing  # noqa: E402
 import paper  # noqa: E402
 
 FOUND = "import dzwonolin; print(next(str(place) for place in dzwonolin._places() if place.exists()))"
+VERSION = f"import dzwonolin; print(getattr(dzwonolin, '__version__', '{packing.version()}'))"
 
 
 def said(*command, **more):
@@ -64,6 +65,9 @@ def of_install(base, file):
         yield f"the shared library exports {exported(base / 'lib' / short)}, the header declares {declared}"
     if said(sys.executable, "-c", FOUND, PYTHONPATH=str(modules)) != (0, f"{base / 'lib' / short}\n"):
         yield "the module does not find the library that it was installed with"
+    manual = (base / "share" / "man" / "man1" / "dzwonolin.1").read_text().splitlines()[0]
+    if said(sys.executable, "-c", VERSION, PYTHONPATH=str(modules)) != (0, packing.version() + "\n") or packing.version() not in manual:
+        yield "the module or the manual page is of another version than the header"
     if shutil.which("pkg-config"):
         line = said("pkg-config", "--cflags", "--libs", "dzwonolin", PKG_CONFIG_PATH=str(base / "lib" / "pkgconfig"))
         if line[1].split() != [f"-I{base}/include", f"-L{base}/lib", "-ldzwonolin"]:
