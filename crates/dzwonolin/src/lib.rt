@@ -2,11 +2,11 @@
 // All names of a map.
 mod names;
 
-pub use names::dz_map_names;
 use flat::tell_answer;
 use flat::tell_one;
 use flat::tell_row;
 use flat::tell_two;
+pub use names::dz_map_names;
 use reader::map_name_place;
 use records::Index;
 ghost use Rattle.dzwonolin.specs.Promises.{ReadsFlat, NamesFlat, FindsFlat, PacksFlat, UnpacksFlat};

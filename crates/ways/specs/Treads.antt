@@ -190,8 +190,18 @@ pub named-found : (word : List ℕ) (n : ℕ) (text : List ℕ) (at : ℕ) {r : 
 unfolding childNamed
 named-found word n text at h = h
 
-pub ruleset seeking = (seeking-start, seeking-done, seeking-less, seeking-off, seeking-here, seeking-left, seeking-on, called-is,
-    named-found, needs)
+pub ruleset seeking = (
+  seeking-start,
+  seeking-done,
+  seeking-less,
+  seeking-off,
+  seeking-here,
+  seeking-left,
+  seeking-on,
+  called-is,
+  named-found,
+  needs,
+)
 
 -- ---- The start tag.
 

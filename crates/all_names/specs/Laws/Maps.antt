@@ -1,25 +1,24 @@
 -- THE MAP THAT LISTS A DIMENSION, in a document to which 6 to 9 do not apply: there is at most one, and its names are the dimension's.
 use mathlib.Core.Path.{_≡_, refl, sym, ap, _∙_, subst}
-use mathlib.Core.List.{List, [], _∷_, _++_, append-nil}
+use mathlib.Core.List.{List, [], _∷_, append-nil}
 use mathlib.Core.Option.{Option, some}
 use mathlib.Core.Option
 use mathlib.Core.Bool.{Bool, true, false, cond, _&&_, _||_, not}
-use Prim.Native.Nat.{ℕ, zero, suc, _+_, _-_, _≤_, _<_}
+use Prim.Native.Nat.{ℕ, _-_, _≤_}
 use native.Mathlib.Omega.{arith}
 use native.Mathlib.Decide.{ℕ-discrete}
 use lib.Dec.{eqb, ltb}
 use lib.ListN.{length, getD}
-use borrow.Author.Tests.{eqb-true, ltb-true, ltb-false, lt-ltb, le-ltb, ne-eqb, not-false}
+use borrow.Author.Tests.{ltb-true, ltb-false, lt-ltb, le-ltb, ne-eqb}
 use Rattle.lists.specs.Lists.{any, count, each, eachIn, those}
-use Rattle.lists.specs.Laws.Booleans.{and-left, and-right, or-left, or-right, or-false, both-ways, clash}
-use Rattle.lists.specs.Laws.Lists.{any-each, length-each}
+use Rattle.lists.specs.Laws.Booleans.{or-left, or-right, or-false, both-ways, clash}
+use Rattle.lists.specs.Laws.Lists.{any-each}
 use Rattle.grammar.specs.Document.{Element}
-use Rattle.grammar.specs.Look.{Word, contentsOf, withinOf, elements, children}
+use Rattle.grammar.specs.Look.{contentsOf, elements, children}
 use Rattle.cifti.specs.Rows.{cifti, matrix}
 use Rattle.cifti.specs.Maps.{Map, mapOf, mapsOf, dimensionsOf, mapElements, lengthOf, lengthBy, isScalars}
-use Rattle.cifti.specs.Conditions.{listedDimensions, dimensionsWrong, lengthWrong}
+use Rattle.cifti.specs.Conditions.{listedDimensions, lengthWrong}
 use Rattle.cifti.specs.Names.{holdsName, noName, namesOn}
-use Rattle.cifti.specs.declared.answer.Kind.{Kind}
 use Rattle.maps.specs.Laws.Good.{Good}
 use Rattle.maps.specs.Laws.Kinds.{OnlyChild, root-child}
 use Rattle.maps.specs.Laws.MapKind.{GoodMap, scalars-kind}
@@ -28,7 +27,7 @@ use Rattle.maps.specs.Listed.{any-some}
 use Rattle.ways.specs.Way.{nth, onward, reached}
 use Rattle.map_names.specs.Way.{ofName, mapThatLists, mapWay}
 use Rattle.map_names.specs.Laws.Held.{namesIn, namesOf, Named, no-named, one-named, each-named, holds-so}
-use Rattle.map_names.specs.Laws.Reached.{listed-once, some-counted, lists-it, dimensions-split, matrix-step, maps-in}
+use Rattle.map_names.specs.Laws.Reached.{some-counted, lists-it, dimensions-split, matrix-step, maps-in}
 
 -- ---- Those that pass.
 

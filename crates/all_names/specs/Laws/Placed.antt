@@ -1,25 +1,25 @@
 -- THE PROMISE IS KEPT: the walk over the NamedMaps of the map that lists the dimension tells the place of each name.
 use mathlib.Core.Path.{_≡_, refl, sym, ap, _∙_, subst}
-use mathlib.Core.List.{List, [], _∷_, _++_}
-use mathlib.Core.Option.{Option, some}
+use mathlib.Core.List.{List, [], _∷_}
+use mathlib.Core.Option.{Option}
 use mathlib.Core.Option
-use mathlib.Core.Bool.{Bool, true, false, cond, not}
+use mathlib.Core.Bool.{Bool, true, false, not}
 use Prim.Native.Nat.{ℕ, zero, suc, _+_, _*_, _≤_, _<_}
 use native.Mathlib.Omega.{arith}
 use native.Mathlib.Nat.{le-of-suc-le-suc}
 use native.Mathlib.Decide.{ℕ-discrete, decLt}
-use lib.Dec.{eqb, ltb}
-use lib.ListN.{length, getD, take, drop, length-append, List·getD-append}
+use lib.Dec.{ltb}
+use lib.ListN.{length, getD, drop, List·getD-append}
 use lib.Seq.{drop-append-seam}
 use borrow.Author.Needs.{needs}
-use borrow.Author.Tests.{eq-eqb, ne-eqb, eqb-true, lt-ltb, le-ltb}
-use Rattle.lists.specs.Lists.{eachIn, those, there}
+use borrow.Author.Tests.{eq-eqb, ne-eqb, lt-ltb, le-ltb}
+use Rattle.lists.specs.Lists.{eachIn, there}
 use Rattle.lists.specs.Refusals.{_when_, first, positive, NoneApplies}
 use Rattle.lists.specs.Laws.Booleans.{clash, both-ways}
 use Rattle.lists.specs.Laws.Refusals.{first-kept, first-none, given-none, none-given}
 use Rattle.grammar.specs.Bytes.{ascii}
 use Rattle.grammar.specs.Document.{Element}
-use Rattle.grammar.specs.Look.{is, nameOf, contentsOf, elements, children}
+use Rattle.grammar.specs.Look.{is, nameOf, children}
 use Rattle.grammar.specs.Parser.{parse}
 use Rattle.records.specs.Fill.{wrote, length-wrote}
 use Rattle.records.specs.Outcome.{unless, outcome}
@@ -30,20 +30,18 @@ use Rattle.nodes.specs.Places.{Stands, the}
 use Rattle.nodes.specs.declared.Found.{Found}
 use Rattle.nodes.specs.declared.Found.the-variants.{At, Nothing}
 use Rattle.cifti.specs.Conditions.{conditionsOfHeader, ofMaps}
-use Rattle.cifti.specs.Maps.{mapElements, mapsOf}
+use Rattle.cifti.specs.Maps.{mapsOf}
 use Rattle.cifti.specs.Names.{noName, namesOn}
 use Rattle.cifti.specs.Laws.Text.{answers-by}
-use Rattle.ways.specs.Way.{reached}
-use Rattle.ways.specs.Walked.{nthPlace, childAt, thence, wayAt, Stood, none, one, those-stood, children-stood, those-same}
+use Rattle.ways.specs.Walked.{nthPlace, childAt, thence, Stood, none, one, those-stood, children-stood, those-same}
 use Rattle.ways.specs.Walked.{Agrees, not-there, stands-there, way-agrees}
 use Rattle.ways.specs.Treads.{called, childNamed, called-alike, tread, trod}
 use Rattle.ways.specs.One.{tagEnd}
 use Rattle.map_names.specs.Way.{nameWay, mapWay}
 use Rattle.map_names.specs.Treads.{inMapTreads, mapThere, nameAt, name-thence, name-way, map-way}
-use Rattle.map_names.specs.Answered.{Answered, answered-found}
+use Rattle.map_names.specs.Answered.{answered-found}
 use Rattle.map_names.specs.Placed.{NamePlaced, placed-name, Fine, fine}
-use Rattle.map_names.specs.Laws.Reached.{NameOf, no-name, a-name, name-of, listed-once, lists-it}
-use Rattle.map_names.specs.declared.NamePlace.{NamePlace}
+use Rattle.map_names.specs.Laws.Reached.{NameOf, no-name, a-name, name-of, listed-once}
 use Rattle.survey.specs.Header.{Surveys}
 use Rattle.survey.specs.declared.header.Survey.{Survey}
 use Rattle.all_names.specs.Names.{nameCount, namesRefusal, namesAnswer, placeIn, MapNamesPlaced}
@@ -207,7 +205,7 @@ module _ (text lengths : List ℕ) (d : ℕ) (h : NoneApplies (conditionsOfHeade
     name-placed n u before =
         let m = many in
         let q = name-below lone n
-            ∙ ap not (lt-ltb n (length (children "NamedMap" (the text k))) (omega arith)) in
+        ∙ ap not (lt-ltb n (length (children "NamedMap" (the text k))) (omega arith)) in
         let (j, f) = name-found n q in
         let there : nameAt text d n ≡ nameIn text (getD (namedAt text k) n 0) =
         name-thence text d n ∙ ap (thence (trod (inMapTreads text n) text)) w ∙ on-nth text k n u in
@@ -274,8 +272,8 @@ module _ {text lengths : List ℕ} {s : Survey} (sv : Surveys text lengths s) (d
   unfolding namesAnswer namesRefusal
   names-refused k {r} a b before =
       let n = first-kept (conditionsOfHeader lengths (length text) (parse text))
-          (18 when ofMaps (noName d 0) (parse text) ∷ 17 when ltb (length before) (2 * nameCount d (parse text)) ∷ []) (s .number) k
-          (sym (sv .number-is)) in
+      (18 when ofMaps (noName d 0) (parse text) ∷ 17 when ltb (length before) (2 * nameCount d (parse text)) ∷ []) (s .number) k
+      (sym (sv .number-is)) in
       kept-all
       ((λ i. record { number = a i; value = b i })
       ∙ sym (ap (λ m. outcome m (nameCount d (parse text))) n ∙ rw (ne-eqb (s .number) 0 k))) b refl

@@ -1,6 +1,6 @@
 -- ONE ANSWER, and one content of the list lent, for every input; and each name is told as it is told alone.
-use mathlib.Core.Path.{_≡_, refl, sym, ap, _∙_, subst}
-use mathlib.Core.List.{List, [], _∷_, _++_}
+use mathlib.Core.Path.{_≡_, sym, ap, _∙_, subst}
+use mathlib.Core.List.{List}
 use Prim.Native.Nat.{ℕ, _+_, _-_, _*_, _/_, _%_, _<_}
 use native.Mathlib.Omega.{arith}
 use native.Mathlib.Decide.{ℕ-discrete, decLt}
@@ -10,7 +10,7 @@ use Rattle.records.specs.declared.outcome.Outcome.{Outcome}
 use Rattle.cifti.specs.Laws.Text.{answers-unique}
 use Rattle.map_names.specs.Placed.{NamePlaced, place-unique}
 use Rattle.map_names.specs.declared.NamePlace.{NamePlace}
-use Rattle.all_names.specs.Names.{placeIn, MapNamesPlaced}
+use Rattle.all_names.specs.Names.{MapNamesPlaced}
 
 module _ {text lengths : List ℕ} {d : ℕ} {before : List ℕ} where
   -- EACH NAME: the n-th two numbers are what `map_name_place` answers for n

@@ -2,11 +2,10 @@
 use mathlib.Core.Path.{_≡_, refl, sym, ap, _∙_, subst}
 use mathlib.Core.Bool.{Bool, true, false, cond}
 use mathlib.Core.List.{List, [], _∷_, _++_}
-use Prim.Native.Nat.{ℕ, zero, suc, _+_, _*_, _/_, _≤_, _<_}
+use Prim.Native.Nat.{ℕ, _+_, _*_, _/_, _≤_, _<_}
 use native.Mathlib.Omega.{arith}
-use native.Mathlib.Numerals.{add-one}
-use lib.Dec.{eqb, ltb}
-use lib.ListN.{length, getD, set, length-set, length-append}
+use lib.Dec.{eqb}
+use lib.ListN.{length, set, length-set}
 use borrow.Author.Needs.{needs}
 use borrow.Author.Tests.{eq-eqb, ne-eqb, lt-ltb, le-ltb}
 use Rattle.lists.specs.Lists.{those, eachIn}
@@ -14,7 +13,6 @@ use Rattle.lists.specs.Refusals.{first}
 use Rattle.lists.specs.Laws.Booleans.{clash}
 use Rattle.grammar.specs.Bytes.{ascii}
 use Rattle.records.specs.Fill.{wrote, wrote-none, wrote-one, wrote-on, length-wrote}
-use Rattle.records.specs.Outcome.{unless, outcome}
 use Rattle.records.specs.declared.outcome.Outcome.{Outcome}
 use Rattle.nodes.specs.Children as Children
 use Rattle.nodes.specs.Inside.{between-tags}
