@@ -11,6 +11,7 @@ pub mod Raised
 pub mod Powered
 pub mod Decimal
 pub mod Exponent
+pub mod Keys
 pub mod Forms
 pub mod Lists
 pub mod Listed
