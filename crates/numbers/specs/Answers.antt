@@ -11,7 +11,7 @@ use Rattle.lists.specs.Lists.{count}
 use Rattle.nodes.specs.TextBytes.{says}
 use Rattle.numbers.specs.Numbers.{digits, value, whole, words, Sign, plus, minus, withSign, dimensionList, commaValues}
 use Rattle.numbers.specs.Numbers.{volumeDimensions, exponent, exponentValue, inPower, decimal, decimalValue, up, down}
-use Rattle.numbers.specs.Numbers.{key, keyValue}
+use Rattle.numbers.specs.Numbers.{key, keyValue, inKeys, inValue, noLess, noMore}
 use Rattle.numbers.specs.Stream.{behind, leading}
 use Rattle.numbers.specs.declared.Source.the-variants.{Contents}
 use Rattle.numbers.specs.declared.Whole.{Whole}
@@ -58,9 +58,21 @@ exponentFrom most s w = cond (digits 1 2 w && leb (value w) most) (exponents.Is 
 unfoldable pub keyIn : Word → Key
 keyIn w = cond (key w) (keys.Is (keyValue w)) keys.No
 
+unfoldable pub keyFrom : Sign → Word → Key
+keyFrom s w = cond (digits 1 10 w && inKeys (withSign s (value w))) (keys.Is (withSign s (value w))) keys.No
+
+-- the greatest number behind a sign
+unfoldable pub keyLimit : Sign → ℕ
+keyLimit plus = 2147483647
+keyLimit minus = 2147483648
+
 -- a decimal
 unfoldable pub decimalIn : Word → Decimals
 decimalIn w = cond (decimal w) (decimals.Is (decimalValue w)) decimals.No
+
+-- an amount with a power of ten, in value from 0 to 1
+unfoldable pub shade : (amount power : ℤ) → Bool
+shade a p = let d : Decimal = record { amount = a; power = p } in inValue noLess 0 d && inValue noMore 1 d
 
 -- a power of ten, within its limit
 unfoldable pub powerIn : ℤ → Exponent

@@ -21,6 +21,7 @@ pub mod Signs
 pub mod Walk
 pub mod Nth
 pub mod InValue
+pub mod Colours
 pub mod Sixteen
 pub mod Spelled
 pub mod Three
