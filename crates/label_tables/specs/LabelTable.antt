@@ -3,16 +3,20 @@
 use mathlib.Core.List.{List}
 use mathlib.Core.Bool.{Bool}
 use lib.IntN.{ℤ}
-use Rattle.lists.specs.Lists.{those, twoOf, each}
+use Rattle.lists.specs.Lists.{all, those, twoOf, each}
 use Rattle.grammar.specs.Document.{Element}
 use Rattle.grammar.specs.Look.{Word, attr, withinOf, children}
-use Rattle.numbers.specs.Numbers.{keyValue, sameKey}
+use Rattle.numbers.specs.Numbers.{key, keyValue, sameKey}
 
 unfoldable pub labelsOf : Element → List Element
 labelsOf e = children "Label" e
 
 unfoldable pub keyOf : Element → ℤ
 keyOf l = keyValue (attr "Key" l)
+
+-- every Key is in form
+unfoldable pub keysRight : Element → Bool
+keysRight e = all (λ l. key (attr "Key" l)) (labelsOf e)
 
 -- the keys of the table
 unfoldable pub tableKeys : Element → List ℤ
@@ -31,5 +35,5 @@ unfoldable pub namesWith : ℤ → Element → List Word
 namesWith k e = each withinOf (labelsWith k e)
 
 unfoldable pub labelWords : Unit {0}
-unfolding labelsOf keyOf tableKeys keyTwice labelsWith namesWith
+unfolding labelsOf keyOf keysRight tableKeys keyTwice labelsWith namesWith
 labelWords = tt
