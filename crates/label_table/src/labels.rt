@@ -31,21 +31,21 @@ fn label_from(text: &[u8], from: Kid) -> Kid
 }
 
 // The first Label of the table at `at`.
-pub(crate) fn first_label(text: &[u8], at: usize) -> Kid
+pub fn first_label(text: &[u8], at: usize) -> Kid
     ensures { λ r. ⌜ r ≡ firstLabel (now (text .entry)) at ⌝ }
 {
     label_from(text, first_child(text, at))
 }
 
 // The next Label behind the one at `at`.
-pub(crate) fn next_label(text: &[u8], at: usize) -> Kid
+pub fn next_label(text: &[u8], at: usize) -> Kid
     ensures { λ r. ⌜ r ≡ nextLabel (now (text .entry)) at ⌝ }
 {
     label_from(text, next_child(text, at))
 }
 
 // The key of the Label at `at`; 0 where it has none that is in form.
-pub(crate) fn key_of(text: &[u8], at: usize) -> i32
+pub fn key_of(text: &[u8], at: usize) -> i32
     ensures { λ r. ⌜ r ≡ keyHere (now (text .entry)) at ⌝ }
 {
     match attribute(text, at, b"Key") {
