@@ -36,7 +36,7 @@ use Rattle.ways.specs.One as One
 use Rattle.ways.specs.One.{tagEnd, place-cut, place-found}
 use Rattle.map_names.specs.Way.{nameWay}
 use Rattle.map_names.specs.Laws.Reached.{NameOf, no-name, a-name, listed-once, name-of}
-use Rattle.map_names.specs.Treads.{nameAt, name-way}
+use Rattle.map_names.specs.Treads.{name-way}
 use Rattle.map_names.specs.Answered.{Is, Answered}
 use Rattle.map_names.specs.declared.NamePlace.{NamePlace}
 
