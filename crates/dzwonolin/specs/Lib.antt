@@ -1,3 +1,4 @@
 pub mod Promises
 pub mod Lists
+pub mod Labels
 pub mod Laws

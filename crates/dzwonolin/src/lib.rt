@@ -1,4 +1,7 @@
 // The library for C: include/dzwonolin.h says what each function takes and gives. A slice is a pointer and the number of its elements.
+// Labels.
+mod labels;
+
 use flat::tell_answer;
 use flat::tell_one;
 use flat::tell_row;

@@ -49,13 +49,13 @@ pub record NamePlaced (text lengths : List ℕ) (dimension index : ℕ) (r : Nam
 
 -- ---- Where no condition before 18 applies, there is a document, and 6, 7 and 8 do not apply to it.
 
-record Fine (lengths : List ℕ) (o : Option Element) : Type 0 where
-  document : Element
-  is : o ≡ some document
-  good : Good cifti document
-  once : dimensionsWrong lengths (mapsOf document) ≡ false
+pub record Fine (lengths : List ℕ) (o : Option Element) : Type 0 where
+  pub document : Element
+  pub is : o ≡ some document
+  pub good : Good cifti document
+  pub once : dimensionsWrong lengths (mapsOf document) ≡ false
 
-fine : (lengths : List ℕ) (size : ℕ) (o : Option Element) → NoneApplies (conditionsOfHeader lengths size o) → Fine lengths o
+pub fine : (lengths : List ℕ) (size : ℕ) (o : Option Element) → NoneApplies (conditionsOfHeader lengths size o) → Fine lengths o
 unfolding conditionsOfHeader noDocument isSome there shapeWrong numberWrong ofMaps
 fine lengths size Option.none h = both-ways refl (row-fails (rows-behind (rows-behind h)))
 fine lengths size (some e) h =

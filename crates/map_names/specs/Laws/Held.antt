@@ -101,7 +101,7 @@ all-without : each (λ k. cond (hasNames k) false (namesChild "NamedMap" (rows (
 unfolding allKinds kindWords caseKind each rowFor rows mapAttributes namesChild rowsName is same
 all-without = refl
 
-no-named-maps : {e : Element} → GoodMap e → hasNames (kindOfMap e) ≡ false → children "NamedMap" e ≡ []
+pub no-named-maps : {e : Element} → GoodMap e → hasNames (kindOfMap e) ≡ false → children "NamedMap" e ≡ []
 no-named-maps {e} g b =
     let h = of-all (λ k. cond (hasNames k) false (namesChild "NamedMap" (rows (rowFor k)))) false allKinds all-without (g .known) in
     childless "NamedMap" (g .good) (rw b at h)

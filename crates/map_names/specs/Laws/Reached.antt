@@ -216,7 +216,7 @@ one-matrix : (e : Element) (o : OnlyChild "Matrix" matrix (elements (contentsOf 
 unfolding children those
 one-matrix e o = rw (o .alone, o .name)
 
-maps-in : (e : Element) (o : OnlyChild "Matrix" matrix (elements (contentsOf e))) → mapElements e ≡ children "MatrixIndicesMap" (o .one)
+pub maps-in : (e : Element) (o : OnlyChild "Matrix" matrix (elements (contentsOf e))) → mapElements e ≡ children "MatrixIndicesMap" (o .one)
 unfolding mapElements eachIn
 maps-in e o = ap (eachIn (children "MatrixIndicesMap")) (one-matrix e o) ∙ append-nil (children "MatrixIndicesMap" (o .one))
 
