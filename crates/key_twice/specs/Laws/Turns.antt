@@ -204,8 +204,18 @@ module _ {text : List ℕ} {at : ℕ} {work₀ work : List ℕ} {low high : ℕ}
       pub seeking-narrow : {work₁ : List ℕ} → length work₁ ≡ length work → Seeking text at work₀ work₁ low next
       seeking-narrow l = record { so = searched-less (go .so) h b; long = l ∙ go .long }
 
-pub ruleset seeking =
-    (seeking-start, seeking-twice, seeking-once, seeking-high, seeking-less, seeking-on, seeking-wide, seeking-shorter, seeking-narrow, needs)
+pub ruleset seeking = (
+  seeking-start,
+  seeking-twice,
+  seeking-once,
+  seeking-high,
+  seeking-less,
+  seeking-on,
+  seeking-wide,
+  seeking-shorter,
+  seeking-narrow,
+  needs,
+)
 
 -- keys that rise, or fall
 pub risen : (text : List ℕ) (at : ℕ) {b : Bool} → b ≡ risesFrom 0 (codesAt text at) → b ≡ true → false ≡ twiceAt text at

@@ -55,7 +55,8 @@ module _ {text : List ℕ} {at least : ℕ} {kid : Kid} (go : Rising text at lea
       (q : (c ≡ codeHere text k) × (c < 2 ^ 32)) where
     splits : risesFrom 0 (codesAt text at) ≡ (leb least c && risesFrom (suc c) (toCome text kid₁))
     unfolding risesFrom
-    splits = go .so-far ∙ ap (risesFrom least) (come-more text is-child e) ∙ ap (λ i. leb least i && risesFrom (suc i) (toCome text kid₁)) (sym (q .0))
+    splits = go .so-far ∙ ap (risesFrom least) (come-more text is-child e)
+        ∙ ap (λ i. leb least i && risesFrom (suc i) (toCome text kid₁)) (sym (q .0))
 
     pub rising-not : c < least → false ≡ risesFrom 0 (codesAt text at)
     rising-not h = sym (splits ∙ rw (lt-leb least c h) refl)
@@ -82,7 +83,8 @@ module _ {text : List ℕ} {at above : ℕ} {kid : Kid} (go : Falling text at ab
       (q : (c ≡ codeHere text k) × (c < 2 ^ 32)) where
     falls-so : fallsFrom 4294967296 (codesAt text at) ≡ (ltb c above && fallsFrom c (toCome text kid₁))
     unfolding fallsFrom
-    falls-so = go .so-far ∙ ap (fallsFrom above) (come-more text is-child e) ∙ ap (λ i. ltb i above && fallsFrom i (toCome text kid₁)) (sym (q .0))
+    falls-so = go .so-far ∙ ap (fallsFrom above) (come-more text is-child e)
+        ∙ ap (λ i. ltb i above && fallsFrom i (toCome text kid₁)) (sym (q .0))
 
     pub falling-not : above ≤ c → false ≡ fallsFrom 4294967296 (codesAt text at)
     falling-not h = sym (falls-so ∙ rw (le-ltb c above h) refl)
@@ -104,7 +106,8 @@ pub gathering-start : (text : List ℕ) (at low high : ℕ) (work : List ℕ) {k
 gathering-start text at low high work e =
     record { so-far = ap (window low high) (come-first text at e); inside = omega arith; long = refl }
 
-module _ {text : List ℕ} {at low high : ℕ} {work₀ work : List ℕ} {n : ℕ} {kid : Kid} (go : Gathering text at low high work₀ work n kid) where
+module _ {text : List ℕ} {at low high : ℕ} {work₀ work : List ℕ} {n : ℕ} {kid : Kid}
+    (go : Gathering text at low high work₀ work n kid) where
   pub gathering-done : kid ≡ Done → Gathered low high (codesAt text at) work n
   unfolding window those
   gathering-done e = record {

@@ -22,7 +22,7 @@ unfoldable asked : {A : Type 0} → A → (Element → A) → String → A
 asked a f s = told a f (parse (ascii s))
 
 unfoldable table : String
-table = "<LabelTable><Label Key='5'>A</Label><!-- B --><Label Key=\"-2147483648\" Red='1'/><Other Key='5'/><Label Key='05'>C &amp; D</Label></LabelTable>"
+table = "<LabelTable><Label Key='5'>A</Label><!-- --><Label Key='-2147483648'/><Other Key='5'/><Label Key='05'>C&lt;D</Label></LabelTable>"
 
 keys : asked [] tableKeys table ≡ pos 5 ∷ negsuc 2147483647 ∷ pos 5 ∷ []
 unfolding told asked table computing lists looks numbers labelWords
@@ -36,7 +36,7 @@ in-form : asked false keysRight table ≡ true
 unfolding told asked table computing lists looks numbers labelWords
 in-form = refl
 
-names : asked [] (namesWith (pos 5)) table ≡ ascii "A" ∷ ascii "C &amp; D" ∷ []
+names : asked [] (namesWith (pos 5)) table ≡ ascii "A" ∷ ascii "C&lt;D" ∷ []
 unfolding told asked table computing lists looks numbers labelWords
 names = refl
 
