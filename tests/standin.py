@@ -6,7 +6,7 @@ import ctypes
 
 import oracle
 
-KINDS = {"brain": 1, "series": 2, "scalars": 3}
+KINDS = {"brain": 1, "series": 2, "scalars": 3, "labels": 4}
 
 
 def numbers(pointer, length):

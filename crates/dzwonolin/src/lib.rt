@@ -1,6 +1,8 @@
 // The library for C: include/dzwonolin.h says what each function takes and gives. A slice is a pointer and the number of its elements.
 // All names of a map.
 mod names;
+// Labels.
+mod labels;
 
 use flat::tell_answer;
 use flat::tell_one;

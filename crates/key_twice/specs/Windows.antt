@@ -3,7 +3,7 @@ use mathlib.Core.Path.{_≡_}
 use mathlib.Core.List.{List, [], _∷_, _++_}
 use mathlib.Core.Bool.{Bool, true, false, _&&_}
 use Prim.Native.Nat.{ℕ, suc, _≤_, _<_}
-use lib.Dec.{eqb, leb}
+use lib.Dec.{eqb, leb, ltb}
 use lib.ListN.{length, take}
 use Rattle.lists.specs.Lists.{those, twoOf}
 use Rattle.grammar.specs.Bytes.{between}
@@ -14,6 +14,11 @@ use Rattle.key_twice.specs.declared.windows.Turn.the-variants.{Twice, Cl
 unfoldable pub risesFrom : (least : ℕ) → List ℕ → Bool
 risesFrom n [] = true
 risesFrom n (c ∷ l) = leb n c && risesFrom (suc c) l
+
+-- each number is below the one before it, and the first is below `above`
+unfoldable pub fallsFrom : (above : ℕ) → List ℕ → Bool
+fallsFrom n [] = true
+fallsFrom n (c ∷ l) = ltb c n && fallsFrom c l
 
 -- the numbers from low to high
 unfoldable pub window : (low high : ℕ) → List ℕ → List ℕ

@@ -1,9 +1,9 @@
-// Whether a key stands twice in the table of labels at a place, with no memory lent: a table whose keys rise is told in one walk, any other
-// in an array of the function's own, by ranges of keys that it has room for.
+// Whether a key stands twice in the table of labels at a place, with no memory lent: a table whose keys rise, or fall, is told in one walk,
+// any other in an array of the function's own, by ranges of keys that it has room for.
 
 // A key as a number that is not below 0, in the order of the keys.
 mod codes;
-// Keys that rise.
+// Keys that rise, or fall.
 mod rising;
 // The keys of a range, and whether one of them stands twice.
 mod windows;
@@ -12,6 +12,7 @@ mod ranges;
 
 use ranges::narrowed;
 use ranges::next_high;
+use rising::falls;
 use rising::rises;
 use windows::Turn;
 use windows::range_told;
@@ -60,6 +61,9 @@ pub fn key_twice(text: &[u8], at: usize) -> bool
     ensures { λ r. ⌜ r ≡ twiceAt (now (text .entry)) at ⌝ }
 {
     if rises(text, at) {
+        return false;
+    }
+    if falls(text, at) {
         return false;
     }
     searched(text, at)

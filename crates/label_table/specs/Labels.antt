@@ -1,5 +1,5 @@
--- A TABLE OF LABELS AT A PLACE, on any bytes: the places of its Labels, and the keys that they write. What is in no form reads as 0; the laws
--- say what it all is where an element stands whose keys are in form.
+-- A TABLE OF LABELS AT A PLACE, on any bytes: the places of its Labels, and the keys that they write. What is in no form reads as 0; the
+-- laws say what it all is where an element stands whose keys are in form.
 use mathlib.Core.List.{List, [], _∷_}
 use mathlib.Core.Bool.{Bool}
 use Prim.Native.Nat.{ℕ}

@@ -1,6 +1,8 @@
-// Conditions 10 to 14, where 1 to 9 do not apply.
+// Conditions 10 to 14, 24 and 25, where 1 to 9 do not apply.
 use describing::room_short;
 use filling::any_twice;
+use labels::key_twice;
+use labels::labels_twice;
 use maps::survey::Maps;
 use models::judge::Judged;
 ghost use Rattle.reader.specs.Later.{Asked, Later};
@@ -24,6 +26,12 @@ pub(crate) fn later_refusal(
     }
     if any_twice(text, maps, judged, work) {
         return 14;
+    }
+    if key_twice(text, maps) {
+        return 24;
+    }
+    if labels_twice(text, maps) {
+        return 25;
     }
     0
 }

@@ -13,7 +13,8 @@ abbrev μ-loop : tie.MeasureT-loop
 
 narrowed-requires : tie.Need-narrowed-requires Inv-loop μ-loop
 narrowed-requires c κs =
-    seeking-wide (c .before .before .before .before .before .before .before .loop .inv) (c .before .before .before .before .before .range-told .ensures) (c .before .enum-told2 .given .1)
+    let told = c .before .before .before .before .before .range-told in
+    seeking-wide (c .before .before .before .before .before .before .before .loop .inv) (told .ensures) (c .before .enum-told2 .given .1)
     (c .before .before .before .before .before .before .before .before .before .before .pre)
 
 loop-again-2 : tie.Need-loop-again-2 Inv-loop μ-loop

@@ -18,9 +18,9 @@ use Rattle.records.specs.Outcome.{ends, applies, passes, gives-first}
 use Rattle.records.specs.Repeat.{repeatRefusal, Checks}
 use Rattle.label_table.specs.Labels.{labels, twiceAt}
 use Rattle.key_twice.specs.Codes.{codeHere, codesAt}
-use Rattle.key_twice.specs.Windows.{risesFrom, window, Gathered, Told, told-twice, told-clear, told-over}
+use Rattle.key_twice.specs.Windows.{risesFrom, fallsFrom, window, Gathered, Told, told-twice, told-clear, told-over}
 use Rattle.key_twice.specs.Laws.Codes.{code-small, twice-codes}
-use Rattle.key_twice.specs.Laws.Windows.{rising-once, split-range, all-those, narrow-twice}
+use Rattle.key_twice.specs.Laws.Windows.{rising-once, falling-once, split-range, all-those, narrow-twice}
 use Rattle.key_twice.specs.declared.windows.Turn.{Turn}
 use Rattle.key_twice.specs.declared.windows.Turn.the-variants.{Twice, Clear, Over}
 
@@ -204,11 +204,24 @@ module _ {text : List ℕ} {at : ℕ} {work₀ work : List ℕ} {low high : ℕ}
       pub seeking-narrow : {work₁ : List ℕ} → length work₁ ≡ length work → Seeking text at work₀ work₁ low next
       seeking-narrow l = record { so = searched-less (go .so) h b; long = l ∙ go .long }
 
-pub ruleset seeking =
-    (seeking-start, seeking-twice, seeking-once, seeking-high, seeking-less, seeking-on, seeking-wide, seeking-shorter, seeking-narrow, needs)
+pub ruleset seeking = (
+  seeking-start,
+  seeking-twice,
+  seeking-once,
+  seeking-high,
+  seeking-less,
+  seeking-on,
+  seeking-wide,
+  seeking-shorter,
+  seeking-narrow,
+  needs,
+)
 
--- keys that rise
+-- keys that rise, or fall
 pub risen : (text : List ℕ) (at : ℕ) {b : Bool} → b ≡ risesFrom 0 (codesAt text at) → b ≡ true → false ≡ twiceAt text at
 risen text at e t = sym (twice-codes text at ∙ rising-once 0 (codesAt text at) (sym e ∙ t))
 
-pub ruleset risings = (risen, needs)
+pub fallen : (text : List ℕ) (at : ℕ) {b : Bool} → b ≡ fallsFrom 4294967296 (codesAt text at) → b ≡ true → false ≡ twiceAt text at
+fallen text at e t = sym (twice-codes text at ∙ falling-once 4294967296 (codesAt text at) (sym e ∙ t))
+
+pub ruleset one-way = (risen, fallen, needs)

@@ -4,11 +4,11 @@ use mathlib.Core.List.{List, [], _∷_, _++_, append-assoc}
 use mathlib.Core.Bool.{Bool, true, false, _&&_, cond}
 use Prim.Native.Nat.{ℕ, zero, suc, _+_, _-_, _^_, _≤_, _<_}
 use native.Mathlib.Omega.{arith}
-use lib.Dec.{eqb, leb}
+use lib.Dec.{eqb, leb, ltb}
 use lib.ListN.{length, take, set, length-set}
 use lib.Seq.{take-suc-set, take-set-le}
 use borrow.Author.Needs.{needs}
-use borrow.Author.Tests.{le-leb, lt-leb}
+use borrow.Author.Tests.{le-leb, lt-leb, le-ltb, lt-ltb}
 use Rattle.lists.specs.Lists.{those, each}
 use Rattle.grammar.specs.Bytes.{between}
 use Rattle.nodes.specs.declared.Kid.{Kid}
@@ -16,7 +16,7 @@ use Rattle.nodes.specs.declared.Kid.the-variants.{Child, Done}
 use Rattle.label_table.specs.Labels.{labels, firstLabel, nextLabel}
 use Rattle.label_table.specs.Laws.Labels.{row, row-first, row-done, row-next}
 use Rattle.key_twice.specs.Codes.{codeHere, codesAt}
-use Rattle.key_twice.specs.Windows.{risesFrom, window, Gathered}
+use Rattle.key_twice.specs.Windows.{risesFrom, fallsFrom, window, Gathered}
 
 -- what is still to come
 abbrev pub toCome : List ℕ → Kid → List ℕ
@@ -55,7 +55,8 @@ module _ {text : List ℕ} {at least : ℕ} {kid : Kid} (go : Rising text at lea
       (q : (c ≡ codeHere text k) × (c < 2 ^ 32)) where
     splits : risesFrom 0 (codesAt text at) ≡ (leb least c && risesFrom (suc c) (toCome text kid₁))
     unfolding risesFrom
-    splits = go .so-far ∙ ap (risesFrom least) (come-more text is-child e) ∙ ap (λ i. leb least i && risesFrom (suc i) (toCome text kid₁)) (sym (q .0))
+    splits = go .so-far ∙ ap (risesFrom least) (come-more text is-child e)
+        ∙ ap (λ i. leb least i && risesFrom (suc i) (toCome text kid₁)) (sym (q .0))
 
     pub rising-not : c < least → false ≡ risesFrom 0 (codesAt text at)
     rising-not h = sym (splits ∙ rw (lt-leb least c h) refl)
@@ -64,6 +65,34 @@ module _ {text : List ℕ} {at least : ℕ} {kid : Kid} (go : Rising text at lea
     rising-more h = let z : suc c ≡ c + 1 = omega arith in record { so-far = splits ∙ rw (le-leb least c h, z) refl }
 
 pub ruleset rising = (rising-start, rising-done, walk-less, rising-not, rising-more, needs)
+
+-- ---- Keys that fall.
+
+pub record Falling (text : List ℕ) (at above : ℕ) (kid : Kid) : Type 0 where
+  pub so-far : fallsFrom 4294967296 (codesAt text at) ≡ fallsFrom above (toCome text kid)
+
+pub falling-start : (text : List ℕ) (at : ℕ) {kid : Kid} → kid ≡ firstLabel text at → Falling text at 4294967296 kid
+falling-start text at e = record { so-far = ap (fallsFrom 4294967296) (sym (come-first text at e)) }
+
+module _ {text : List ℕ} {at above : ℕ} {kid : Kid} (go : Falling text at above kid) where
+  pub falling-done : kid ≡ Done → true ≡ fallsFrom 4294967296 (codesAt text at)
+  unfolding fallsFrom
+  falling-done e = sym (go .so-far ∙ ap (fallsFrom above) (come-done text e))
+
+  module _ {k : ℕ} (is-child : kid ≡ Child k) {kid₁ : Kid} (e : kid₁ ≡ nextLabel text k) {c : ℕ}
+      (q : (c ≡ codeHere text k) × (c < 2 ^ 32)) where
+    falls-so : fallsFrom 4294967296 (codesAt text at) ≡ (ltb c above && fallsFrom c (toCome text kid₁))
+    unfolding fallsFrom
+    falls-so = go .so-far ∙ ap (fallsFrom above) (come-more text is-child e)
+        ∙ ap (λ i. ltb i above && fallsFrom i (toCome text kid₁)) (sym (q .0))
+
+    pub falling-not : above ≤ c → false ≡ fallsFrom 4294967296 (codesAt text at)
+    falling-not h = sym (falls-so ∙ rw (le-ltb c above h) refl)
+
+    pub falling-more : c < above → Falling text at c kid₁
+    falling-more h = record { so-far = falls-so ∙ rw (lt-ltb c above h) refl }
+
+pub ruleset falling = (falling-start, falling-done, walk-less, falling-not, falling-more, needs)
 
 -- ---- The keys of a range.
 
@@ -77,7 +106,8 @@ pub gathering-start : (text : List ℕ) (at low high : ℕ) (work : List ℕ) {k
 gathering-start text at low high work e =
     record { so-far = ap (window low high) (come-first text at e); inside = omega arith; long = refl }
 
-module _ {text : List ℕ} {at low high : ℕ} {work₀ work : List ℕ} {n : ℕ} {kid : Kid} (go : Gathering text at low high work₀ work n kid) where
+module _ {text : List ℕ} {at low high : ℕ} {work₀ work : List ℕ} {n : ℕ} {kid : Kid}
+    (go : Gathering text at low high work₀ work n kid) where
   pub gathering-done : kid ≡ Done → Gathered low high (codesAt text at) work n
   unfolding window those
   gathering-done e = record {

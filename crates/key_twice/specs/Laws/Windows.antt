@@ -1,17 +1,17 @@
--- Numbers that rise are there once; a number that is there twice is so in one range.
+-- Numbers that rise, or fall, are there once; a number that is there twice is so in one range.
 use mathlib.Core.Path.{_≡_, refl, sym, ap, _∙_}
 use mathlib.Core.List.{List, [], _∷_, _++_, append-nil}
 use mathlib.Core.Bool.{Bool, true, false, _&&_, _||_, cond, true≢false}
 use Prim.Native.Nat.{ℕ, zero, suc, _+_, _-_, _^_, _≤_, _<_}
 use native.Mathlib.Omega.{arith}
-use lib.Dec.{eqb, leb}
+use lib.Dec.{eqb, leb, ltb}
 use lib.ListN.{length}
-use borrow.Author.Tests.{eqb-true, eqb-false, eq-eqb, ne-eqb, leb-true, leb-false, le-leb, lt-leb}
+use borrow.Author.Tests.{eqb-true, eqb-false, eq-eqb, ne-eqb, leb-true, leb-false, ltb-true, le-leb, lt-leb}
 use Rattle.lists.specs.Lists.{all, any, those, twoOf}
 use Rattle.lists.specs.Laws.Lists.{all-append}
 use Rattle.lists.specs.Laws.Booleans.{and-left, and-right}
 use Rattle.grammar.specs.Bytes.{between}
-use Rattle.key_twice.specs.Windows.{risesFrom, window}
+use Rattle.key_twice.specs.Windows.{risesFrom, fallsFrom, window}
 
 -- NUMBERS THAT RISE
 none-below : (a n : ℕ) (l : List ℕ) → a < n → risesFrom n l ≡ true → any (eqb a) l ≡ false
@@ -27,6 +27,21 @@ rising-once n [] r = refl
 rising-once n (c ∷ l) r =
     let k = and-right (leb n c) _ r in
     rw (none-below c (suc c) l (omega arith) k) (rising-once (suc c) l k)
+
+-- AND THAT FALL
+none-above : (a n : ℕ) (l : List ℕ) → n ≤ a → fallsFrom n l ≡ true → any (eqb a) l ≡ false
+unfolding fallsFrom any
+none-above a n [] h r = refl
+none-above a n (c ∷ l) h r =
+    let m = ltb-true c n (and-left (ltb c n) _ r) in
+    rw (ne-eqb a c (λ e. omega arith)) (none-above a c l (omega arith) (and-right (ltb c n) _ r))
+
+pub falling-once : (n : ℕ) (l : List ℕ) → fallsFrom n l ≡ true → twoOf eqb l ≡ false
+unfolding fallsFrom twoOf
+falling-once n [] r = refl
+falling-once n (c ∷ l) r =
+    let k = and-right (ltb c n) _ r in
+    rw (none-above c c l (omega arith) k) (falling-once c l k)
 
 -- IN RANGES
 any-those : (a : ℕ) (p : ℕ → Bool) → p a ≡ true → (l : List ℕ) → any (eqb a) (those p l) ≡ any (eqb a) l

@@ -202,7 +202,8 @@ pub record Finding (bits : ℕ) (text : List ℕ) (at : ℕ) (kid : Kid) : Type 
 
 pub finding-start : (bits : ℕ) (text : List ℕ) (at : ℕ) {kid : Kid} → kid ≡ firstLabel text at → Finding bits text at kid
 unfolding labelWith
-finding-start bits text at e = record { found-in = ap (λ l. nthPlace 0 (those (has-key (toZ w32 bits) text) l)) (sym (row-first text at e)) }
+finding-start bits text at e =
+    record { found-in = ap (λ l. nthPlace 0 (those (has-key (toZ w32 bits) text) l)) (sym (row-first text at e)) }
 
 module _ {key : ℤ} (fk : SFits w32 key) {text : List ℕ} {at : ℕ} {kid : Kid} (go : Finding (ofZ w32 key) text at kid) where
   found-so : labelWith key text at ≡ nthPlace 0 (those (has-key key text) (row text kid))
@@ -292,12 +293,14 @@ module _ {text : List ℕ} {at : ℕ} {s₀ s : List ℤ} {n : ℕ} {kid : Kid} 
     pub writing-more : {v : ℤ} → v ≡ keyHere text k → SFits w32 v → n < length s
         → Writing text at s₀ (set s n (toZ w32 (ofZ w32 v))) (n + 1) kid₁
     unfolding each
-    writing-more {v} q f h = record {
-      so-far = go .so-far ∙ ap (λ l. filledFrom n (each (keyHere text) l) s) (row-next text is-child e)
-          ∙ from-more n (keyHere text k) (each (keyHere text) (row text kid₁)) s h
-          ∙ ap (λ i. filledFrom i (each (keyHere text) (row text kid₁)) (set s n (keyHere text k))) (let z : suc n ≡ n + 1 = omega arith in z)
-          ∙ ap (λ x. filledFrom (n + 1) (each (keyHere text) (row text kid₁)) (set s n x)) (sym (toZ-ofZ w32 v f ∙ q));
-      long = length-set s n (toZ w32 (ofZ w32 v)) ∙ go .long;
-    }
+    writing-more {v} q f h =
+        let z : suc n ≡ n + 1 = omega arith in
+        record {
+          so-far = go .so-far ∙ ap (λ l. filledFrom n (each (keyHere text) l) s) (row-next text is-child e)
+              ∙ from-more n (keyHere text k) (each (keyHere text) (row text kid₁)) s h
+              ∙ ap (λ i. filledFrom i (each (keyHere text) (row text kid₁)) (set s n (keyHere text k))) z
+              ∙ ap (λ x. filledFrom (n + 1) (each (keyHere text) (row text kid₁)) (set s n x)) (sym (toZ-ofZ w32 v f ∙ q));
+          long = length-set s n (toZ w32 (ofZ w32 v)) ∙ go .long;
+        }
 
 pub ruleset writing = (writing-start, writing-done, writing-full, writing-less, writing-more, needs)

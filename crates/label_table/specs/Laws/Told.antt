@@ -35,7 +35,8 @@ passed t p {text} (one {k} {ks} {es} st s) h = rw (h k st) (by (p (the text k)) 
 
 pub labels-stood : {text : List ℕ} {at : ℕ} → Stands text at → Stood text (labels text at) (labelsOf (the text at))
 unfolding labels labelsFrom labelsOf children
-labels-stood {text} st = passed (called text (ascii "Label")) (λ d. is "Label" (nameOf d)) (children-stood st) (λ k h. called-alike text "Label" k h)
+labels-stood {text} st =
+    passed (called text (ascii "Label")) (λ d. is "Label" (nameOf d)) (children-stood st) (λ k h. called-alike text "Label" k h)
 
 -- the key of a Label that is in form
 key-told : {text : List ℕ} {k : ℕ} → Stands text k → key (attr "Key" (the text k)) ≡ true → keyHere text k ≡ keyOf (the text k)
