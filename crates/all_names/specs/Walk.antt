@@ -19,8 +19,8 @@ use Rattle.ways.specs.Treads.{called, childNamed}
 use Rattle.ways.specs.One.{tagEnd}
 
 -- where the NamedMaps begin
-unfoldable pub namedAt : List ℕ → ℕ → List ℕ
-namedAt text k = those (called text (ascii "NamedMap")) (placesFrom text (Children.first text k))
+unfoldable pub namedIn : List ℕ → ℕ → List ℕ
+namedIn text k = those (called text (ascii "NamedMap")) (placesFrom text (Children.first text k))
 
 -- where the name starts, and its length
 unfoldable pub startBy : List ℕ → Found → ℕ
@@ -38,14 +38,14 @@ unfoldable pub pairOf : List ℕ → ℕ → List ℕ
 pairOf text c = startBy text (nameIn text c) ∷ sizeBy text (nameIn text c) ∷ []
 
 unfoldable pub pairsAt : List ℕ → ℕ → List ℕ
-pairsAt text k = eachIn (pairOf text) (namedAt text k)
+pairsAt text k = eachIn (pairOf text) (namedIn text k)
 
 -- where there is a NamedMap, there are so many
 pub record Counted (text : List ℕ) (at count : ℕ) : Type 0 where
-  pub many : 1 ≤ length (namedAt text at) → length (namedAt text at) ≡ count
+  pub many : 1 ≤ length (namedIn text at) → length (namedIn text at) ≡ count
 
 unfoldable pub numberOn : List ℕ → (at count room : ℕ) → ℕ
-numberOn text at count room = first (18 when eqb (length (namedAt text at)) 0 ∷ 17 when ltb room (2 * count) ∷ [])
+numberOn text at count room = first (18 when eqb (length (namedIn text at)) 0 ∷ 17 when ltb room (2 * count) ∷ [])
 
 pub record NamesOn (text : List ℕ) (at count : ℕ) (before : List ℕ) (answer : Outcome) (after : List ℕ) : Type 0 where
   pub answers : answer ≡ outcome (numberOn text at count (length before)) count

@@ -14,19 +14,20 @@ use Rattle.lists.specs.Lists.{any, count, each, eachIn, those}
 use Rattle.lists.specs.Laws.Booleans.{or-left, or-right, or-false, both-ways, clash}
 use Rattle.lists.specs.Laws.Lists.{any-each}
 use Rattle.grammar.specs.Document.{Element}
-use Rattle.grammar.specs.Look.{contentsOf, elements, children}
+use Rattle.grammar.specs.Look.{Word, withinOf, contentsOf, elements, children}
 use Rattle.cifti.specs.Rows.{cifti, matrix}
-use Rattle.cifti.specs.Maps.{Map, mapOf, mapsOf, dimensionsOf, mapElements, lengthOf, lengthBy, isScalars}
+use Rattle.cifti.specs.Maps.{Map, mapOf, mapsOf, dimensionsOf, mapElements, lengthOf, lengthBy, isScalars, hasNames, same-kind}
 use Rattle.cifti.specs.Conditions.{listedDimensions, lengthWrong}
 use Rattle.cifti.specs.Names.{holdsName, noName, namesOn}
+use Rattle.cifti.specs.declared.answer.Kind.the-variants.{Scalars, Labels}
 use Rattle.maps.specs.Laws.Good.{Good}
 use Rattle.maps.specs.Laws.Kinds.{OnlyChild, root-child}
-use Rattle.maps.specs.Laws.MapKind.{GoodMap, scalars-kind}
+use Rattle.maps.specs.Laws.MapKind.{GoodMap}
 use Rattle.maps.specs.Ready.{GoodMaps, no-maps, one-map, good-maps}
 use Rattle.maps.specs.Listed.{any-some}
 use Rattle.ways.specs.Way.{nth, onward, reached}
 use Rattle.map_names.specs.Way.{ofName, mapThatLists, mapWay}
-use Rattle.map_names.specs.Laws.Held.{namesIn, namesOf, Named, no-named, one-named, each-named, holds-so}
+use Rattle.map_names.specs.Laws.Held.{Named, no-named, one-named, each-named, holds-so}
 use Rattle.map_names.specs.Laws.Reached.{some-counted, lists-it, dimensions-split, matrix-step, maps-in}
 
 -- ---- Those that pass.
@@ -79,10 +80,10 @@ few-list d (e ∷ l) = go (lists-it d e) refl (few-list d l)
     go : (b : Bool) → lists-it d e ≡ b → length (those (lists-it d) l) ≤ count (eqb d) (listedDimensions (each mapOf l))
         → length (cond b (e ∷ those (lists-it d) l) (those (lists-it d) l)) ≤ count (eqb d) (listedDimensions (each mapOf (e ∷ l)))
     go true t r =
-        let s = dimensions-split d 0 e l in
+        let s = dimensions-split d e l in
         let c = some-counted (eqb d) (dimensionsOf e) t in
         omega arith
-    go false t r = let s = dimensions-split d 0 e l in omega arith
+    go false t r = let s = dimensions-split d e l in omega arith
 
 -- no map lists the dimension; and one alone does
 pub record Unlisted (d : ℕ) (e : Element) : Type 0 where
@@ -137,30 +138,43 @@ pub none-lists : {d : ℕ} {e : Element} → Unlisted d e → (i : ℕ) → noNa
 unfolding any
 none-lists {d} {e} u i = no-name-by d i e ∙ rw (u .none)
 
-named-many : {l : List Element} → Named l → length (namesIn l) ≡ length l
-unfolding namesIn eachIn each
+-- what stands in the MapNames of NamedMaps
+abbrev namesIn : List Element → List Word
+namesIn l = each withinOf (eachIn (children "MapName") l)
+
+named-many : {l : List Element} → Named "MapName" l → length (namesIn l) ≡ length l
+unfolding eachIn each
 named-many no-named = refl
 named-many (one-named {e} {x} {l} h n) = let k = named-many n in rw h (omega arith)
 
+-- a map whose kind has names is as long as it counts
+counted-long : (m : Map) → hasNames (m .kind) ≡ true → lengthOf m ≡ m .counted
+unfolding lengthOf lengthBy
+counted-long m h = by (isScalars (m .kind)) refl
+  where
+    by : (b : Bool) → isScalars (m .kind) ≡ b → lengthBy (m .kind) m ≡ m .counted
+    by true k = rw (same-kind (m .kind) Scalars k) refl
+    by false k = rw (same-kind (m .kind) Labels (rw k at h)) refl
+
 -- a map that holds a name of each index below n, and no other, is n long
 holds-long : (m : Map) (n : ℕ) → ((i : ℕ) → holdsName i m ≡ ltb i n) → 1 ≤ n → lengthOf m ≡ n
-unfolding holdsName lengthOf lengthBy
-holds-long m n h u = by (isScalars (m .kind)) refl
+unfolding holdsName
+holds-long m n h u = by (hasNames (m .kind)) refl
   where
-    by : (b : Bool) → isScalars (m .kind) ≡ b → lengthBy (m .kind) m ≡ n
+    by : (b : Bool) → hasNames (m .kind) ≡ b → lengthOf m ≡ n
     by false k = both-ways (h 0 ∙ lt-ltb 0 n u) (rw k)
     by true k =
         let past : ltb n (m .counted) ≡ false = sym (rw k) ∙ h n ∙ le-ltb n n (omega arith) in
         let last : ltb (n - 1) (m .counted) ≡ true = sym (rw k) ∙ h (n - 1) ∙ lt-ltb (n - 1) n (omega arith) in
         let few = ltb-false n (m .counted) past in
         let many = ltb-true (n - 1) (m .counted) last in
-        let long : lengthBy (m .kind) m ≡ m .counted = rw (scalars-kind (m .kind) k) refl in
+        let long = counted-long m k in
         omega arith
 
 module _ {d : ℕ} {e m : Element} (one : Lone d e m) where
   pub names-many : length (namesOn d e) ≡ length (children "NamedMap" m)
-  unfolding namesOn namesOf namesIn eachIn
-  names-many = rw (one .alone) (ap length (append-nil (namesOf m)) ∙ named-many (each-named (one .good)))
+  unfolding namesOn eachIn
+  names-many = rw (one .alone) (ap length (append-nil (namesIn (children "NamedMap" m))) ∙ named-many (each-named (one .good)))
 
   -- there is a name of each index below their number
   pub name-below : (i : ℕ) → noName d i (mapsOf e) ≡ not (ltb i (length (children "NamedMap" m)))

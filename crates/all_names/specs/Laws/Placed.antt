@@ -38,14 +38,14 @@ use Rattle.ways.specs.Walked.{Agrees, not-there, stands-there, way-agrees}
 use Rattle.ways.specs.Treads.{called, childNamed, called-alike, tread, trod}
 use Rattle.ways.specs.One.{tagEnd}
 use Rattle.map_names.specs.Way.{nameWay, mapWay}
-use Rattle.map_names.specs.Treads.{inMapTreads, mapThere, nameAt, name-thence, name-way, map-way}
+use Rattle.map_names.specs.Treads.{inMapTreads, mapThere, namedAt, name-thence, name-way, map-way}
 use Rattle.map_names.specs.Answered.{answered-found}
 use Rattle.map_names.specs.Placed.{NamePlaced, placed-name, Fine, fine}
 use Rattle.map_names.specs.Laws.Reached.{NameOf, no-name, a-name, name-of, listed-once}
 use Rattle.survey.specs.Header.{Surveys}
 use Rattle.survey.specs.declared.header.Survey.{Survey}
 use Rattle.all_names.specs.Names.{nameCount, namesRefusal, namesAnswer, placeIn, MapNamesPlaced}
-use Rattle.all_names.specs.Walk.{namedAt, startBy, sizeBy, nameIn, pairOf, pairsAt, Counted, numberOn, NamesOn}
+use Rattle.all_names.specs.Walk.{namedIn, startBy, sizeBy, nameIn, pairOf, pairsAt, Counted, numberOn, NamesOn}
 use Rattle.all_names.specs.Laws.Walk.{pairs-at-long}
 use Rattle.all_names.specs.Laws.Maps.{MapOf, no-map, the-map, map-of, Unlisted, Lone, none-lists, names-many, name-below, names-long}
 
@@ -82,12 +82,12 @@ thence-at Nothing = refl
 thence-at (At k) = refl
 
 -- the way goes on from the map to the n-th NamedMap and its MapName
-on-nth : (text : List ℕ) (at n : ℕ) → n < length (namedAt text at)
-    → trod (inMapTreads text n) text at ≡ nameIn text (getD (namedAt text at) n 0)
-unfolding trod inMapTreads childAt nameIn childNamed namedAt thence
+on-nth : (text : List ℕ) (at n : ℕ) → n < length (namedIn text at)
+    → trod (inMapTreads text (ascii "MapName") n) text at ≡ nameIn text (getD (namedIn text at) n 0)
+unfolding trod inMapTreads childAt nameIn childNamed namedIn thence
 on-nth text at n h =
-    ap (thence (trod (tread (called text (ascii "MapName")) 0 ∷ []) text)) (nth-at (namedAt text at) n h)
-    ∙ thence-at (childAt (called text (ascii "MapName")) 0 text (getD (namedAt text at) n 0))
+    ap (thence (trod (tread (called text (ascii "MapName")) 0 ∷ []) text)) (nth-at (namedIn text at) n h)
+    ∙ thence-at (childAt (called text (ascii "MapName")) 0 text (getD (namedIn text at) n 0))
 
 -- what was written is read again
 wrote-read : (v s : List ℕ) (i : ℕ) → i < length v → getD (wrote 0 v s) i 0 ≡ getD v i 0
@@ -102,11 +102,12 @@ stood-long : {text ks : List ℕ} {es : List Element} → Stood text ks es → l
 stood-long none = refl
 stood-long (one st s) = let h = stood-long s in omega arith
 
-named-long : {text : List ℕ} {at : ℕ} → Stands text at → length (namedAt text at) ≡ length (children "NamedMap" (the text at))
-unfolding namedAt children
+named-long : {text : List ℕ} {at : ℕ} → Stands text at → length (namedIn text at) ≡ length (children "NamedMap" (the text at))
+unfolding namedIn children
 named-long {text} {at} st =
     ap length
-    (those-same {t = called text (ascii "NamedMap")} {u = λ k. is "NamedMap" (nameOf (the text k))} (λ k h. called-alike text "NamedMap" k h)
+    (those-same {t = called text (ascii "NamedMap")} {u = λ k. is "NamedMap" (nameOf (the text k))}
+    (λ k h. called-alike text "NamedMap" k h)
     (children-stood st))
     ∙ stood-long (those-stood (λ x. is "NamedMap" (nameOf x)) (children-stood st))
 
@@ -142,14 +143,14 @@ module _ (text lengths : List ℕ) (d : ℕ) (h : NoneApplies (conditionsOfHeade
       by (stands-there st) (the-map z) = stands-here st z
 
   -- the name of an index that is not refused is found
-  name-found : (n : ℕ) → noName d n (mapsOf (known .document)) ≡ false → (m : ℕ) × (nameAt text d n ≡ At m)
+  name-found : (n : ℕ) → noName d n (mapsOf (known .document)) ≡ false → (m : ℕ) × (namedAt text (ascii "MapName") d n ≡ At m)
   name-found n q =
       let k = known in
       by (way-agrees (nameWay d n) text (k .is)) (name-of d n (k .good) (listed-once lengths (mapsOf (k .document)) (k .once) d))
       (name-way text d n (k .is))
     where
-      by : {f : Found} {o : Option Element} → Agrees text f o → NameOf d n (known .document) o → nameAt text d n ≡ f
-          → (m : ℕ) × (nameAt text d n ≡ At m)
+      by : {f : Found} {o : Option Element} → Agrees text f o → NameOf d n (known .document) o → namedAt text (ascii "MapName") d n ≡ f
+          → (m : ℕ) × (namedAt text (ascii "MapName") d n ≡ At m)
       by not-there (no-name z) w = both-ways z q
       by (stands-there {k = m} st) (a-name z x) w = (m, w)
 
@@ -187,7 +188,7 @@ module _ (text lengths : List ℕ) (d : ℕ) (h : NoneApplies (conditionsOfHeade
     lone : Lone d (known .document) (the text k)
     lone = found-map .1
 
-    many : length (namedAt text k) ≡ length (children "NamedMap" (the text k))
+    many : length (namedIn text k) ≡ length (children "NamedMap" (the text k))
     many = named-long (found-map .0)
 
     placed-counted : {c : ℕ} → c ≡ getD lengths d 0 → Counted text k c
@@ -199,7 +200,7 @@ module _ (text lengths : List ℕ) (d : ℕ) (h : NoneApplies (conditionsOfHeade
     }
 
     -- each pair that is written is the place of its name
-    name-placed : (n : ℕ) → n < length (namedAt text k) → (before : List ℕ)
+    name-placed : (n : ℕ) → n < length (namedIn text k) → (before : List ℕ)
         → NamePlaced text lengths d n (placeIn (wrote 0 (pairsAt text k) before) n)
     unfolding pairsAt startBy sizeBy thence
     name-placed n u before =
@@ -207,41 +208,41 @@ module _ (text lengths : List ℕ) (d : ℕ) (h : NoneApplies (conditionsOfHeade
         let q = name-below lone n
         ∙ ap not (lt-ltb n (length (children "NamedMap" (the text k))) (omega arith)) in
         let (j, f) = name-found n q in
-        let there : nameAt text d n ≡ nameIn text (getD (namedAt text k) n 0) =
-        name-thence text d n ∙ ap (thence (trod (inMapTreads text n) text)) w ∙ on-nth text k n u in
-        let is-in : nameIn text (getD (namedAt text k) n 0) ≡ At j = sym there ∙ f in
+        let there : namedAt text (ascii "MapName") d n ≡ nameIn text (getD (namedIn text k) n 0) =
+        name-thence text (ascii "MapName") d n ∙ ap (thence (trod (inMapTreads text (ascii "MapName") n) text)) w ∙ on-nth text k n u in
+        let is-in : nameIn text (getD (namedIn text k) n 0) ≡ At j = sym there ∙ f in
         let l = pairs-at-long text k in
         let s : getD (wrote 0 (pairsAt text k) before) (2 * n) 0 ≡ tagEnd text j =
-        wrote-read (pairsAt text k) before (2 * n) (omega arith) ∙ start-in text (namedAt text k) n u ∙ ap (startBy text) is-in in
+        wrote-read (pairsAt text k) before (2 * n) (omega arith) ∙ start-in text (namedIn text k) n u ∙ ap (startBy text) is-in in
         let z : getD (wrote 0 (pairsAt text k) before) (2 * n + 1) 0 ≡ length (between-tags text j) =
-        wrote-read (pairsAt text k) before (2 * n + 1) (omega arith) ∙ size-in text (namedAt text k) n u ∙ ap (sizeBy text) is-in in
+        wrote-read (pairsAt text k) before (2 * n + 1) (omega arith) ∙ size-in text (namedIn text k) n u ∙ ap (sizeBy text) is-in in
         placed-name text lengths d n (sym (none-given h))
         (answered-found text d n (placeIn (wrote 0 (pairsAt text k) before) n) refl refl f refl refl refl s z)
 
     placed-found : {c : ℕ} → c ≡ getD lengths d 0 → {before after : List ℕ} {r : Outcome} → NamesOn text k c before r after
         → MapNamesPlaced text lengths d before r after
     unfolding numberOn first
-    placed-found {c} e {before} {after} {r} o = by (ℕ-discrete (length (namedAt text k)) 0) (decLt (length before) (2 * c))
+    placed-found {c} e {before} {after} {r} o = by (ℕ-discrete (length (namedIn text k)) 0) (decLt (length before) (2 * c))
       where
-        counted : length (namesOn d (known .document)) ≡ length (namedAt text k)
+        counted : length (namesOn d (known .document)) ≡ length (namedIn text k)
         counted = names-many lone ∙ sym many
 
-        first-named : noName d 0 (mapsOf (known .document)) ≡ not (ltb 0 (length (namedAt text k)))
+        first-named : noName d 0 (mapsOf (known .document)) ≡ not (ltb 0 (length (namedIn text k)))
         first-named = name-below lone 0 ∙ ap (λ n. not (ltb 0 n)) (sym many)
 
-        by : Dec (length (namedAt text k) ≡ 0) → Dec (length before < 2 * c) → MapNamesPlaced text lengths d before r after
+        by : Dec (length (namedIn text k) ≡ 0) → Dec (length before < 2 * c) → MapNamesPlaced text lengths d before r after
         by (yes z) u =
-            let w : numberOn text k c (length before) ≡ 18 = rw (eq-eqb (length (namedAt text k)) 0 z) in
+            let w : numberOn text k c (length before) ≡ 18 = rw (eq-eqb (length (namedIn text k)) 0 z) in
             let is : r ≡ outcome 18 c = o .answers ∙ ap (λ n. outcome n c) w in
-            let q : noName d 0 (mapsOf (known .document)) ≡ true = first-named ∙ rw (le-ltb 0 (length (namedAt text k)) (omega arith)) in
+            let q : noName d 0 (mapsOf (known .document)) ≡ true = first-named ∙ rw (le-ltb 0 (length (namedIn text k)) (omega arith)) in
             kept-all (is ∙ sym (number-by (length before) q counted)) (ap (λ (x : Outcome). x .value) is)
             (o .holds ∙ ap (λ (x : Outcome). unless (x .number) (wrote 0 (pairsAt text k) before) before) is)
         by (no z) (yes u) =
             let m = placed-counted e .many (omega arith) in
             let w : numberOn text k c (length before) ≡ 17 =
-            rw (ne-eqb (length (namedAt text k)) 0 z, lt-ltb (length before) (2 * c) u) in
+            rw (ne-eqb (length (namedIn text k)) 0 z, lt-ltb (length before) (2 * c) u) in
             let is : r ≡ outcome 17 c = o .answers ∙ ap (λ n. outcome n c) w in
-            let q : noName d 0 (mapsOf (known .document)) ≡ false = first-named ∙ rw (lt-ltb 0 (length (namedAt text k)) (omega arith)) in
+            let q : noName d 0 (mapsOf (known .document)) ≡ false = first-named ∙ rw (lt-ltb 0 (length (namedIn text k)) (omega arith)) in
             kept-all (is ∙ sym (number-by (length before) q (counted ∙ m) ∙ rw (lt-ltb (length before) (2 * c) u)))
             (ap (λ (x : Outcome). x .value) is)
             (o .holds ∙ ap (λ (x : Outcome). unless (x .number) (wrote 0 (pairsAt text k) before) before) is)
@@ -249,9 +250,9 @@ module _ (text lengths : List ℕ) (d : ℕ) (h : NoneApplies (conditionsOfHeade
             let m = placed-counted e .many (omega arith) in
             let v : 2 * c ≤ length before = omega arith in
             let w : numberOn text k c (length before) ≡ 0 =
-            rw (ne-eqb (length (namedAt text k)) 0 z, le-ltb (length before) (2 * c) v) in
+            rw (ne-eqb (length (namedIn text k)) 0 z, le-ltb (length before) (2 * c) v) in
             let is : r ≡ outcome 0 c = o .answers ∙ ap (λ n. outcome n c) w in
-            let q : noName d 0 (mapsOf (known .document)) ≡ false = first-named ∙ rw (lt-ltb 0 (length (namedAt text k)) (omega arith)) in
+            let q : noName d 0 (mapsOf (known .document)) ≡ false = first-named ∙ rw (lt-ltb 0 (length (namedIn text k)) (omega arith)) in
             let value : r .value ≡ c = ap (λ (x : Outcome). x .value) is in
             let all : after ≡ wrote 0 (pairsAt text k) before =
             o .holds ∙ ap (λ (x : Outcome). unless (x .number) (wrote 0 (pairsAt text k) before) before) is in
@@ -292,7 +293,8 @@ module _ {text lengths : List ℕ} {s : Survey} (sv : Surveys text lengths s) (d
         pub names-counted : Counted text k c
         names-counted = placed-counted text lengths d none-applies (sym w ∙ q) e
 
-        pub names-found : {before after : List ℕ} {r : Outcome} → NamesOn text k c before r after → MapNamesPlaced text lengths d before r after
+        pub names-found : {before after : List ℕ} {r : Outcome} → NamesOn text k c before r after
+            → MapNamesPlaced text lengths d before r after
         names-found o = placed-found text lengths d none-applies (sym w ∙ q) e o
 
 pub ruleset placingAll = (names-refused, names-nowhere, names-counted, names-found, needs)

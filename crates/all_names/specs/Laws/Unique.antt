@@ -24,7 +24,8 @@ module _ {text lengths : List ℕ} {d : ℕ} {before : List ℕ} where
         ap (λ (x : NamePlace). x .length) e,
       )
 
-  module _ {r q : Outcome} {s t : List ℕ} (a : MapNamesPlaced text lengths d before r s) (b : MapNamesPlaced text lengths d before q t) where
+  module _ {r q : Outcome} {s t : List ℕ} (a : MapNamesPlaced text lengths d before r s)
+      (b : MapNamesPlaced text lengths d before q t) where
     answer-same : r ≡ q
     answer-same = answers-unique (a .answered) (b .answered)
 

@@ -24,7 +24,7 @@ use Rattle.nodes.specs.declared.Found.the-variants.{At, Nothing}
 use Rattle.ways.specs.Walked.{placesFrom, nthPlace, childAt}
 use Rattle.ways.specs.Treads.{called, childNamed, ahead, next-ahead, places-done, places-child}
 use Rattle.ways.specs.One.{tagEnd}
-use Rattle.all_names.specs.Walk.{namedAt, startBy, sizeBy, nameIn, pairOf, pairsAt, Counted, numberOn, NamesOn}
+use Rattle.all_names.specs.Walk.{namedIn, startBy, sizeBy, nameIn, pairOf, pairsAt, Counted, numberOn, NamesOn}
 
 -- ---- Two stores.
 
@@ -35,7 +35,8 @@ two-stored n a b s h =
     ∙ ap (wrote (n + 1) (b ∷ [])) (wrote-one n a s (omega arith))
     ∙ wrote-on n (n + 1) (a ∷ []) (b ∷ []) s refl (omega arith)
 
-module _ (text : List ℕ) (at n : ℕ) (s : List ℕ) (room : n + 2 ≤ length s) {f : Found} (e : f ≡ childNamed (ascii "MapName") 0 text at) where
+module _ (text : List ℕ) (at n : ℕ) (s : List ℕ) (room : n + 2 ≤ length s) {f : Found}
+    (e : f ≡ childNamed (ascii "MapName") 0 text at) where
   pub put-found : {k : ℕ} → f ≡ At k → {a : ℕ} → a ≡ tagEnd text k → {l : List ℕ} → l ≡ between-tags text k
       → set (set s n a) (n + 1) (length l) ≡ wrote n (pairOf text at) s
   unfolding pairOf nameIn startBy sizeBy
@@ -66,7 +67,7 @@ pub record Filling (text : List ℕ) (at : ℕ) (start : List ℕ) (n : ℕ) (pl
 
 module _ {text : List ℕ} {at : ℕ} {start : List ℕ} where
   pub fill-start : {kid : Kid} → kid ≡ Children.first text at → length (pairsAt text at) ≤ length start → Filling text at start 0 start kid
-  unfolding pairsAt namedAt namedFrom
+  unfolding pairsAt namedIn namedFrom
   fill-start e h = rw e (record { room = omega arith; same-long = refl; rest = refl })
 
   module _ {n : ℕ} {places : List ℕ} {kid : Kid} (go : Filling text at start n places kid) where
@@ -142,9 +143,9 @@ unfolding eachIn pairOf
 pairs-long text [] = refl
 pairs-long text (c ∷ l) = let h = pairs-long text l in omega arith
 
-pub pairs-at-long : (text : List ℕ) (at : ℕ) → length (pairsAt text at) ≡ 2 * length (namedAt text at)
+pub pairs-at-long : (text : List ℕ) (at : ℕ) → length (pairsAt text at) ≡ 2 * length (namedIn text at)
 unfolding pairsAt
-pairs-at-long text at = pairs-long text (namedAt text at)
+pairs-at-long text at = pairs-long text (namedIn text at)
 
 -- the first of places
 nth-some : (ks : List ℕ) {k : ℕ} → nthPlace 0 ks ≡ At k → 1 ≤ length ks
@@ -160,22 +161,22 @@ nth-none (c ∷ ks) h = clash (cc)
 module _ {text : List ℕ} {at count : ℕ} (c : Counted text at count) {f : Found} (e : f ≡ childNamed (ascii "NamedMap") 0 text at)
     (before : List ℕ) where
   pub on-none : f ≡ Nothing → {r : Outcome} → r .number ≡ 18 → r .value ≡ 0 → NamesOn text at count before r before
-  unfolding numberOn first childNamed childAt namedAt
+  unfolding numberOn first childNamed childAt namedIn
   on-none h {r} a b =
-      let z : length (namedAt text at) ≡ 0 = nth-none (namedAt text at) (sym e ∙ h) in
-      let w : numberOn text at count (length before) ≡ 18 = rw (eq-eqb (length (namedAt text at)) 0 z) in
+      let z : length (namedIn text at) ≡ 0 = nth-none (namedIn text at) (sym e ∙ h) in
+      let w : numberOn text at count (length before) ≡ 18 = rw (eq-eqb (length (namedIn text at)) 0 z) in
       record {
         answers = rw w (λ i. record { number = a i; value = b i });
         holds = rw a;
       }
 
   module _ {k : ℕ} (h : f ≡ At k) where
-    some-there : 1 ≤ length (namedAt text at)
-    unfolding childNamed childAt namedAt
-    some-there = nth-some (namedAt text at) (sym e ∙ h)
+    some-there : 1 ≤ length (namedIn text at)
+    unfolding childNamed childAt namedIn
+    some-there = nth-some (namedIn text at) (sym e ∙ h)
 
-    eighteen-no : eqb (length (namedAt text at)) 0 ≡ false
-    eighteen-no = let u = some-there in ne-eqb (length (namedAt text at)) 0 (λ z. omega arith)
+    eighteen-no : eqb (length (namedIn text at)) 0 ≡ false
+    eighteen-no = let u = some-there in ne-eqb (length (namedIn text at)) 0 (λ z. omega arith)
 
     pub on-short : length before / 2 < count → {r : Outcome} → r .number ≡ 17 → r .value ≡ 0 → NamesOn text at count before r before
     unfolding numberOn first
