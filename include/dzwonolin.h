@@ -11,9 +11,9 @@
      2  text above 16,777,216 bytes
      3  no document of the markup grammar writes this text
      4  the root is not CIFTI with Version 2
-     5  a map of kind PARCELS or LABELS
+     5  a map of kind PARCELS
      6  an element, attribute, child, named word or non-blank text is not as the format says
-     7  a number's form, limit or fixed value, or the sixteen of the transformation
+     7  a number's form, limit or fixed value, or the sixteen of the transformation; a colour outside 0 to 1
      8  some dimension is not listed exactly once, or a listed one does not exist
      9  a map's length is not that of a dimension it applies to
     10  two models of a map share type and structure
@@ -24,12 +24,15 @@
     15  sheet count 0 or above 1,048,576; unpacking: also not a sheet
     16  an illegal record
     17  the slice to be written is too short
-    18  map name: no such dimension, it is not scalars, or the index is not below its length
-    19  find: no such record; asking a list: no such index or record
+    18  map name: no such dimension, it is neither scalars nor labels, or the index is not below its length; keys and label
+        names: the same of a dimension that is not labels
+    19  find: no such record; asking a list: no such index or record; label name: no such key
     20  a file under 544 bytes; its size field or magic is not NIfTI-2's single file; a data offset below 544
     21  a file's dim[0] is not 6 or 7, one of dim[1] to dim[4] is not 1, or one of dim[5] to dim[dim[0]] is below 1
     22  the extensions up to a file's data offset are no list, or the data offset lies past its bytes
     23  a file has no extension of code 32
+    24  a key twice in one label table
+    25  the labels maps together list more than one dimension
     26  making a list: a type and structure comes back after another; asking: a bad list
    In a call on a file 20 to 23 come first, in this order, and then those of the read.
 
@@ -41,6 +44,10 @@
 
 #include <stddef.h>
 #include <stdint.h>
+
+/* The version of the library that this header is of. A change of the first number is one after which a caller has to be compiled
+   again, and the shared library is named by it. */
+#define DZ_VERSION "1.0.0"
 
 #ifdef __cplusplus
 extern "C" {
@@ -95,7 +102,7 @@ enum { DZ_NUMBER = 0 };
    CHANGED: DZ_START_POWER and DZ_STEP_POWER stand where DZ_START_PLACES and DZ_STEP_PLACES stood. One place is power -1,
    so a caller that still reads them as places gets the sign wrong; the old names are gone, so that it does not compile. */
 enum {
-    DZ_KIND = 0,         /* one of the four kinds below; 0 where there is no such dimension */
+    DZ_KIND = 0,         /* one of the five kinds below; 0 where there is no such dimension */
     DZ_LENGTH = 1,       /* length of the map */
     DZ_START = 2,        /* brain: where its stretch starts in the records; else 0 */
     DZ_START_AMOUNT = 3, /* series: SeriesStart; else 0, as the five below */
@@ -105,9 +112,9 @@ enum {
     DZ_EXPONENT = 7,     /* series: SeriesExponent */
     DZ_UNIT = 8          /* series: 0 second, 1 hertz, 2 meter, 3 radian */
 };
-enum { DZ_NONE = 0, DZ_BRAIN = 1, DZ_SERIES = 2, DZ_SCALARS = 3 };
+enum { DZ_NONE = 0, DZ_BRAIN = 1, DZ_SERIES = 2, DZ_SCALARS = 3, DZ_LABELS = 4 };
 
-/* Reads a text with the lengths of its matrix into records. Refusals 1 to 14.
+/* Reads a text with the lengths of its matrix into records. Refusals 1 to 14, 24 and 25.
 
    text, lengths   read only.
    records         accepted: each brain map fills one stretch, in text order of maps, from place 0 on, index n
@@ -135,6 +142,41 @@ uint64_t dz_map_name(const uint8_t *text, size_t text_len,
                      const uint64_t *lengths, size_t lengths_len,
                      uint64_t dimension, uint64_t index,
                      uint64_t *part, size_t part_len);
+
+/* The names of all maps along `dimension` (from 0), in one walk: the n-th is what dz_map_name tells for index n. Refusals 1 to 9,
+   18 (no such dimension, or it is neither scalars nor labels), then 17.
+
+   places          accepted: two numbers a name from its start, where the name starts in the text, and its length; the rest is
+                   left as it was. Refused: all left as it was. Room for twice the length of the dimension is enough.
+   count           [0] = how many names there are. Refused: 0. */
+uint64_t dz_map_names(const uint8_t *text, size_t text_len,
+                      const uint64_t *lengths, size_t lengths_len,
+                      uint64_t dimension,
+                      uint64_t *places, size_t places_len,
+                      uint64_t *count, size_t count_len);
+
+/* The keys of the label table of map `index` (from 0) along `dimension` (from 0), in text order. Refusals 1 to 9, 24, 25,
+   18, then 17 where the list lent is short.
+
+   keys            accepted: the keys, from the start; places past the last are left as they were. Refused: all left as
+                   it was.
+   count           [0] = how many keys were written. Refused: 0. */
+uint64_t dz_label_keys(const uint8_t *text, size_t text_len,
+                       const uint64_t *lengths, size_t lengths_len,
+                       uint64_t dimension, uint64_t index,
+                       int32_t *keys, size_t keys_len,
+                       uint64_t *count, size_t count_len);
+
+/* The name of a key in that table: the part of the caller's text between the tags of its Label, as written. Refusals 1 to
+   9, 24, 25, 18, then 19 where no Label has the key.
+
+   part            [0], [1] = where the part starts in the text, and its length; the part of <Label ../> is empty and
+                   starts behind that tag. Refused: 0, 0. */
+uint64_t dz_label_name(const uint8_t *text, size_t text_len,
+                       const uint64_t *lengths, size_t lengths_len,
+                       uint64_t dimension, uint64_t index,
+                       int32_t key,
+                       uint64_t *part, size_t part_len);
 
 /* The first place of a number in the records. Refusal 19.
 

@@ -24,6 +24,8 @@ refusal, and raise nothing for a bad text:
 
     dzwonolin.read(text, [2, 91282])               .number, .dimensions, and .records, a whole number of 54 bits for each location
     dzwonolin.map_name(text, [2, 91282], 0, 1)     (0, b'the second name')
+    dzwonolin.label_keys(text, [2, 91282], 0, 1)   (0, the keys of the second label table)
+    dzwonolin.label_name(text, [2, 91282], 0, 1, 7)    (0, b'the name of key 7 in it')
     dzwonolin.read_file("brain.dscalar.nii")       the same of a NIfTI-2 file, by its path or its bytes
     dzwonolin.front("brain.dscalar.nii")           its number, lengths, and where the header text starts and how long it is
     dzwonolin.file_map_name("brain.dscalar.nii", 0, 1)
@@ -51,15 +53,15 @@ import platform
 import sys
 from dzwonolin_slices import TEXT_LIMIT, NoLibrary, _bytes, _Lent, _machine_of, _number, _numbers, _room, _Shared  # noqa: F401
 
-__all__ = ["read", "read_file", "front", "file_map_name", "map_name", "find", "pack", "unpack", "unfold", "compare", "Answer",
-           "Dimension", "Front", "STRUCTURES", "UNITS"]
+__all__ = ["read", "read_file", "front", "file_map_name", "map_name", "map_names", "label_keys", "label_name", "find", "pack", "unpack",
+           "unfold", "compare", "Answer", "Dimension", "Front", "STRUCTURES", "UNITS"]
 __all__ += ["open", "File", "Refused", "NoLibrary", "reason", "has"]
 __version__ = "1.0.0"
 
 LENGTH_LIMIT = 1048576
 # An answer of dz_read, by the names of include/dzwonolin.h: a head, then the numbers of three dimensions.
 HEAD, DIMENSION, ANSWER = 4, 16, 52
-KINDS = (None, "brain", "series", "scalars")
+KINDS = (None, "brain", "series", "scalars", "labels")
 UNITS = ("SECOND", "HERTZ", "METER", "RADIAN")
 STRUCTURES = (
     "ACCUMBENS_LEFT ACCUMBENS_RIGHT ALL_WHITE_MATTER ALL_GREY_MATTER AMYGDALA_LEFT AMYGDALA_RIGHT "
@@ -82,21 +84,25 @@ _SLICE = (ctypes.c_void_p, ctypes.c_size_t)
 _FUNCTIONS = {"dz_read": _SLICE * 5, "dz_map_name": _SLICE * 2 + (ctypes.c_uint64,) * 2 + _SLICE,
               "dz_find": _SLICE + (ctypes.c_uint64,) + _SLICE, "dz_pack": _SLICE * 3, "dz_unpack": _SLICE * 3,
               "dz_front": _SLICE * 2, "dz_read_file": _SLICE * 4, "dz_file_map_name": _SLICE + (ctypes.c_uint64,) * 2 + _SLICE}
+# all names of a map
+_FUNCTIONS["dz_map_names"] = _SLICE * 2 + (ctypes.c_uint64,) + _SLICE * 2
 # the short list
 _FUNCTIONS.update({"dz_model_list": _SLICE * 3, "dz_structure_at": _SLICE + (ctypes.c_uint64,) + _SLICE,
                    "dz_index_of": _SLICE * 2 + (ctypes.c_uint64,) + _SLICE})
 # two sheets side by side
 _FUNCTIONS.update({"dz_compare": _SLICE * 4, "dz_tail": _SLICE * 4})
+# labels
+_FUNCTIONS.update({"dz_label_keys": _SLICE * 2 + (ctypes.c_uint64,) * 2 + _SLICE * 2,
+                   "dz_label_name": _SLICE * 2 + (ctypes.c_uint64,) * 2 + (ctypes.c_int32,) + _SLICE})
 
 
 # ----------------------------------------------------------- library and slices
 
 def _places():
-    name = "libdzwonolin.so"
     here = pathlib.Path(__file__).resolve().parent
-    yield here / name
-    for folder in ("lib", "build", "target/native", "target"):
-        yield here.parent / folder / name
+    folders = [here] + [here.parent / folder for folder in ("lib", "build", "target/native", "target")] + [here.parent.parent]
+    for folder in folders:
+        yield from (folder / name for name in ("libdzwonolin.so", "libdzwonolin.so.1"))
 
 
 def _found():
@@ -183,6 +189,42 @@ def map_name(text, lengths, dimension: int, index: int) -> tuple[int, bytes]:
     part = (ctypes.c_uint64 * 2)()
     number = call_map_name(text, _numbers(lengths, "a length"), _number(dimension, "a dimension"), _number(index, "an index"), part)
     return number, bytes(memoryview(text)[part[0]:part[0] + part[1]])
+
+
+def map_names(text, lengths, dimension):
+    """(0, the names of all maps along a dimension, each the bytes between its tags, as written) or (number, [])."""
+    text, lengths, dimension = _bytes(text), _numbers(lengths), _number(dimension)
+    wanted = lengths[dimension] if dimension < len(lengths) else 0
+    places, count = (ctypes.c_uint64 * (2 * wanted if wanted <= LENGTH_LIMIT else 0))(), (ctypes.c_uint64 * 1)()
+    number = _library().dz_map_names(text, len(text), lengths, len(lengths), dimension, places, len(places), count, 1)
+    told = places[:2 * count[0]]
+    return number, [text[start:start + length] for start, length in zip(told[::2], told[1::2])]
+
+
+def call_label_keys(text, lengths, dimension, index, keys, count):
+    """dz_label_keys on slices as they are; its number."""
+    text = _bytes(text)
+    return _library().dz_label_keys(text, len(text), lengths, len(lengths), dimension, index, keys, len(keys), count, len(count))
+
+
+def label_keys(text, lengths, dimension, index):
+    """(0, the keys of that label table in text order) or (number, []). Room is made here, so 17 is not given."""
+    room, count = 1024, (ctypes.c_uint64 * 1)()
+    while True:
+        keys = (ctypes.c_int32 * room)()
+        number = call_label_keys(text, _numbers(lengths), _number(dimension), _number(index), keys, count)
+        if number != 17:
+            return number, keys[:count[0]]
+        room = len(text)
+
+
+def label_name(text, lengths, dimension, index, key):
+    """(0, the bytes between the tags of the Label with that key, as written) or (number, b'')."""
+    if not -(1 << 31) <= key < 1 << 31:
+        raise ValueError("a key is a whole number of 32 bits with a sign")
+    data, sizes, part = _bytes(text), _numbers(lengths), (ctypes.c_uint64 * 2)()
+    number = _library().dz_label_name(data, len(data), sizes, len(sizes), _number(dimension), _number(index), key, part, 2)
+    return number, bytes(text[part[0]:part[0] + part[1]])
 
 
 def _front(lent):

@@ -19,7 +19,7 @@ from dzwonolin_oracle_rules import LENGTH_LIMIT, VERTEX_LIMIT
 
 TEXT_LIMIT = 16777216
 
-# One dimension of an accepted answer; kind is 'brain', 'series' or 'scalars'.
+# One dimension of an accepted answer; kind is 'brain', 'series', 'scalars' or 'labels'.
 Dimension = collections.namedtuple("Dimension", "kind length start series_start series_step exponent unit")
 # number 0 or the refusal; a refused answer has no dimensions and no records.
 Answer = collections.namedtuple("Answer", "number dimensions records")
@@ -98,6 +98,14 @@ def map_records(one):
     return records
 
 
+def check_labels(maps):
+    """Conditions 24 and 25."""
+    for one in maps:
+        for table in one.tables:
+            refuse_if(24, len({key for key, _ in table}) < len(table))
+    refuse_if(25, sum(len(one.applies) for one in maps if one.kind == "labels") > 1)
+
+
 def accepted(text, lengths, records_room, work_room, text_limit):
     maps = maps_of(text, lengths, text_limit)
     brains = [m for m in maps if m.kind == "brain"]
@@ -116,6 +124,7 @@ def accepted(text, lengths, records_room, work_room, text_limit):
         refuse_if(14, len(set(map(location, stretch))) < len(stretch))
         starts[id(one)] = len(records)
         records += stretch
+    check_labels(maps)
     dimensions = []
     for number in range(len(lengths)):
         one = next(m for m in maps if number in m.applies)
@@ -138,7 +147,7 @@ def map_name_place(text, lengths, dimension, index):
         maps = maps_of(text, lengths)
         refuse_if(18, not 0 <= dimension < len(lengths))
         one = next(m for m in maps if dimension in m.applies)
-        refuse_if(18, one.kind != "scalars" or not 0 <= index < one.length)
+        refuse_if(18, one.kind not in ("scalars", "labels") or not 0 <= index < one.length)
         name = one.named[index].child(b"MapName")
         return 0, name.begin, name.end - name.begin
     except Refused as refusal:
@@ -149,6 +158,20 @@ def map_name(text, lengths, dimension, index):
     """(number, the bytes between the MapName tags as written)."""
     number, start, length = map_name_place(text, lengths, dimension, index)
     return number, text[start:start + length]
+
+
+def map_names(text, lengths, dimension, room):
+    """(number, start and length of each name in the text, in a row), with room for so many numbers."""
+    try:
+        maps = maps_of(text, lengths)
+        refuse_if(18, not 0 <= dimension < len(lengths))
+        one = next(m for m in maps if dimension in m.applies)
+        refuse_if(18, one.kind not in ("scalars", "labels"))
+        refuse_if(17, room < 2 * one.length)
+        names = [named.child(b"MapName") for named in one.named]
+        return 0, [n for name in names for n in (name.begin, name.end - name.begin)]
+    except Refused as refusal:
+        return refusal.number, []
 
 
 def find(records, number):

@@ -12,8 +12,8 @@ VOLUME_LIMIT = 65536
 # ---------------------------------------------------------- elements, rule 6
 
 KIND = b"CIFTI_INDEX_TYPE_"
-KINDS = {KIND + b"BRAIN_MODELS": "brain", KIND + b"SERIES": "series", KIND + b"SCALARS": "scalars"}
-LATER_KINDS = (KIND + b"PARCELS", KIND + b"LABELS")
+KINDS = {KIND + b"BRAIN_MODELS": "brain", KIND + b"SERIES": "series", KIND + b"SCALARS": "scalars", KIND + b"LABELS": "labels"}
+LATER_KINDS = (KIND + b"PARCELS",)
 MODEL = b"CIFTI_MODEL_TYPE_"
 MODELS = {MODEL + b"SURFACE": "S", MODEL + b"VOXELS": "V"}
 UNITS = (b"SECOND", b"HERTZ", b"METER", b"RADIAN")
@@ -82,6 +82,20 @@ def check_named_map(element):
         check_metadata(data)
 
 
+COLOURS = (b"Red", b"Green", b"Blue", b"Alpha")
+
+
+def check_labelled_map(element):
+    shape(element, [], {b"MapName": (1, 1), b"LabelTable": (1, 1), b"MetaData": (0, 1)})
+    shape(element.child(b"MapName"), [], {}, text=True)
+    table = element.child(b"LabelTable")
+    shape(table, [], {b"Label": (0, MANY)})
+    for label in table.children():
+        shape(label, [b"Key", *COLOURS], {}, text=True)
+    for data in element.children(b"MetaData"):
+        check_metadata(data)
+
+
 TRANSFORMATION = b"TransformationMatrixVoxelIndicesIJKtoXYZ"
 
 
@@ -118,6 +132,10 @@ def check_map(element):
         shape(element, attributes, {b"NamedMap": (0, MANY)})
         for named in element.children():
             check_named_map(named)
+    elif kind == "labels":
+        shape(element, attributes, {b"NamedMap": (0, MANY)})
+        for named in element.children():
+            check_labelled_map(named)
     elif kind == "brain":
         shape(element, attributes, {b"BrainModel": (1, MANY), b"Volume": (0, 1)})
         for volume in element.children(b"Volume"):
@@ -145,6 +163,7 @@ def check_elements(root):
 # ------------------------------------------------------------ numbers, rule 7
 
 WHOLE = re.compile(rb"[0-9]{1,7}\Z")
+KEY = re.compile(rb"-?[0-9]{1,10}\Z")
 EXPONENT = re.compile(rb"-?[0-9]{1,2}\Z")
 DECIMAL = re.compile(rb"([+-]?)([0-9]+)(?:\.([0-9]+))?(?:[eE]([+-]?[0-9]{1,2}))?\Z")
 DIMENSIONS = re.compile(rb"[0-9](?:,[0-9])*\Z")
@@ -181,6 +200,18 @@ def decimal(word):
     if not -45 <= power <= 45:
         raise not_a_number("its power of ten, less the places behind the point, is not from -45 to 45", word)
     return (-amount if sign == b"-" else amount), power
+
+
+def key_of(label):
+    """The key of a label, whose colours are from 0 to 1."""
+    word = label.value(b"Key")
+    if not KEY.match(word) or not -2 ** 31 <= int(word) < 2 ** 31:
+        raise not_a_number("a key")
+    for colour in COLOURS:
+        amount, power = decimal(label.value(colour))
+        if amount < 0 or amount * 10 ** max(power, 0) > 10 ** max(-power, 0):
+            raise not_a_number("a colour")
+    return int(word)
 
 
 def dimension_list(word):
@@ -234,7 +265,7 @@ class Map:
         self.applies = dimension_list(element.value(b"AppliesToMatrixDimension"))
         self.series_start = self.series_step = (0, 0)
         self.exponent = self.unit = 0
-        self.models, self.volume, self.named = [], None, []
+        self.models, self.volume, self.named, self.tables = [], None, [], []
         if self.kind == "series":
             self.length = whole(element.value(b"NumberOfSeriesPoints"), 1, LENGTH_LIMIT)
             self.series_start = decimal(element.value(b"SeriesStart"))
@@ -244,6 +275,10 @@ class Map:
         elif self.kind == "scalars":
             self.named = element.children(b"NamedMap")
             self.length = len(self.named)
+        elif self.kind == "labels":
+            self.named = element.children(b"NamedMap")
+            self.length = len(self.named)
+            self.tables = [[(key_of(label), label) for label in n.child(b"LabelTable").children()] for n in self.named]
         else:
             for volume in element.children(b"Volume"):
                 self.volume = volume_dimensions(volume.value(b"VolumeDimensions"))

@@ -82,6 +82,31 @@ def map_name(text, lengths, dimension, index):
     return {"number": number, "part": part.decode("latin-1")}
 
 
+def map_names(text, lengths, dimension, places):
+    """How many names there are, and the list lent with two numbers a name; each name as map_name tells it alone."""
+    given, lent, count = text.encode("latin-1"), lent_numbers(places), lent_numbers([0])
+    sizes = dzwonolin._numbers(lengths)
+    number = dzwonolin._library().dz_map_names(given, len(given), sizes, len(sizes), dimension, lent, len(lent), count, 1)
+    for n in range(count[0]):
+        if dzwonolin.map_name(given, lengths, dimension, n) != (0, given[lent[2 * n]:lent[2 * n] + lent[2 * n + 1]]):
+            raise ValueError(f"name {n} is told otherwise alone")
+    return {"number": number, "count": count[0], "places": list(lent)}
+
+
+def label_keys(text, lengths, dimension, index, keys):
+    lent, count = (ctypes.c_int32 * len(keys))(*keys), lent_numbers([7])
+    sizes = lent_numbers(lengths)
+    number = dzwonolin.call_label_keys(text.encode("latin-1"), sizes, dimension, index, lent, count)
+    if number != 17 and dzwonolin.label_keys(text.encode("latin-1"), lengths, dimension, index) != (number, lent[:count[0]]):
+        raise ValueError("with room of its own the keys are answered otherwise")
+    return {"number": number, "count": count[0], "keys": list(lent)}
+
+
+def label_name(text, lengths, dimension, index, key):
+    number, part = dzwonolin.label_name(text.encode("latin-1"), lengths, dimension, index, key)
+    return {"number": number, "part": part.decode("latin-1")}
+
+
 def find(records, number):
     refusal, place = dzwonolin.find([fold(r) for r in records], number)
     return {"number": refusal, "place": place}

@@ -44,7 +44,7 @@ def version(rng, doc):
 
 
 def later_kind(rng, doc):
-    rng.choice(doc.maps()).put("IndicesMapToDataType", "CIFTI_INDEX_TYPE_" + rng.choice(["PARCELS", "LABELS"]))
+    rng.choice(doc.maps()).put("IndicesMapToDataType", "CIFTI_INDEX_TYPE_PARCELS")
     return True
 
 

@@ -99,6 +99,26 @@ class Comparison:
             number, taken = dzwonolin.map_name(text, lengths, dimension, index)
             fine = fine and (number, taken) == (wanted[0], text[wanted[1]:wanted[1] + wanted[2]])
             self.check(f"{name}: map name {dimension}, {index}: {got}, wanted {wanted[0]}", fine)
+            if index < 2 ** 32:
+                self.all_names(rng, name, text, lengths, dimension)
+
+    def all_names(self, rng, name, text, lengths, dimension):
+        """dz_map_names with marked slices, each of its names as dz_map_name tells it alone, and the module's map_names."""
+        many = min(lengths[dimension], 4096) if dimension < len(lengths) else 1
+        places, count = Lent(rng, max(0, 2 * many + rng.choice([0, 0, 1, 5, -1]))), Lent(rng, rng.choice([1, 1, 2, 0]))
+        wanted, told = oracle.map_names(text, lengths, dimension, places.length)
+        self.numbers[17] += wanted == 17
+        size = dzwonolin._numbers(lengths)
+        got = dzwonolin._library().dz_map_names(text, len(text), size, len(size), dimension, places.slice, places.length,
+                                                count.slice, count.length)
+        fine = got == wanted and places.holds(told) and count.holds([len(told) // 2][:count.length])
+        names = dzwonolin.map_names(text, lengths, dimension)
+        if told:
+            fine = fine and names == (0, [text[at:at + long] for at, long in zip(told[::2], told[1::2])])
+            alone = rng.randrange(len(told) // 2)
+            fine = fine and names[1][alone] == dzwonolin.map_name(text, lengths, dimension, alone)[1]
+        fine = fine and names[0] == (0 if wanted == 17 else wanted)
+        self.check(f"{name}: all names of {dimension}: {got}, wanted {wanted}", fine)
 
     def find(self, rng, name, records):
         asked = [rng.getrandbits(64), 0] + ([rng.choice(records), records[0], records[-1], records[-1] + 1] if records else [])

@@ -62,6 +62,7 @@ class Document:
         self.rng = rng
         self.lengths = [0] * rng.choice([2, 2, 3])
         self.records = self.longest = 0
+        self.labelled = False
         maps = [self.one_map(dims, size) for dims in self.shares()]
         rng.shuffle(maps)
         if rng.random() < 0.4:
@@ -85,11 +86,11 @@ class Document:
         return shares
 
     def one_map(self, dimensions, size):
-        kind = self.rng.choice(["BRAIN_MODELS"] * 3 + ["SERIES", "SCALARS", "SCALARS"])
+        kind = self.rng.choice(["BRAIN_MODELS"] * 3 + ["SERIES", "SCALARS", "SCALARS"] + ["LABELS"] * self.may_label(dimensions))
         self.rng.shuffle(dimensions)
         one = Node("MatrixIndicesMap", [("AppliesToMatrixDimension", ",".join(map(str, dimensions))),
                                         ("IndicesMapToDataType", "CIFTI_INDEX_TYPE_" + kind)])
-        length = {"BRAIN_MODELS": self.brain, "SERIES": self.series, "SCALARS": self.scalars}[kind](one, size)
+        length = {"BRAIN_MODELS": self.brain, "SERIES": self.series, "SCALARS": self.scalars, "LABELS": self.labels}[kind](one, size)
         for dimension in dimensions:
             self.lengths[dimension] = length
         return one
@@ -100,6 +101,25 @@ class Document:
         count = self.rng.randint(1, min(size, 12))
         for _ in range(count):
             named = [Node("MapName", (), [self.phrase()])]
+            if self.rng.random() < 0.3:
+                named.append(self.metadata())
+            self.rng.shuffle(named)
+            one.contents.append(Node("NamedMap", (), named))
+        return count
+
+    def may_label(self, dimensions):
+        """Labels stand on one dimension; how often they are to be chosen."""
+        return 0 if self.labelled or len(dimensions) > 1 else 2
+
+    def labels(self, one, size):
+        self.labelled = True
+        count = self.rng.randint(1, min(size, 4))
+        for _ in range(count):
+            keys = self.rng.sample(range(-40, 40), self.rng.choice([0, 1, 2, 9])) + self.rng.sample([-2 ** 31, 2 ** 31 - 1], 1)
+            self.rng.shuffle(keys)
+            table = [Node("Label", [("Key", str(key))] + [(c, self.rng.choice(["0", "1", "0.5", "+1.0", "-0", "1e-3", "0.25"]))
+                                                          for c in ("Red", "Green", "Blue", "Alpha")], [self.phrase()]) for key in keys]
+            named = [Node("MapName", (), [self.phrase()]), Node("LabelTable", (), table)]
             if self.rng.random() < 0.3:
                 named.append(self.metadata())
             self.rng.shuffle(named)

@@ -19,6 +19,7 @@ import paper  # noqa: E402
 CALLS = {
     "dz_read": [paper.CASE_A, [2, 3], 3, 3, dzwonolin.ANSWER],
     "dz_map_name": [paper.CASE_A, [2, 3], (0,), (1,), 2],
+    "dz_map_names": [paper.CASE_A, [2, 3], (0,), 4, 1],
     "dz_find": [paper.RECORDS_A, (paper.RECORDS_A[1],), 1],
     "dz_pack": [paper.RECORDS_A, bytearray(len(paper.SHEET_A)), 1],
     "dz_unpack": [paper.SHEET_A, 3, 1],
@@ -35,6 +36,7 @@ CALLS = {
 NUMBERS = {
     ("dz_read", (0,)): 3, ("dz_read", (1,)): 1, ("dz_read", (2,)): 13, ("dz_read", (3,)): 13, ("dz_read", (4,)): 0,
     ("dz_map_name", (0,)): 3, ("dz_map_name", (1,)): 1, ("dz_map_name", (4,)): 0,
+    ("dz_map_names", (0,)): 3, ("dz_map_names", (1,)): 1, ("dz_map_names", (3,)): 17, ("dz_map_names", (4,)): 0,
     ("dz_find", (0,)): 19, ("dz_find", (2,)): 0,
     ("dz_pack", (0,)): 15, ("dz_pack", (1,)): 17, ("dz_pack", (2,)): 0,
     ("dz_unpack", (0,)): 15, ("dz_unpack", (1,)): 17, ("dz_unpack", (2,)): 0,

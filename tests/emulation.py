@@ -15,7 +15,7 @@ ROOT = HERE.parent
 SHAPES = {"dz_read": "bnNNN", "dz_map_name": "bnvvN", "dz_find": "nvN", "dz_pack": "nBN", "dz_unpack": "bNN",
           "dz_front": "bN", "dz_read_file": "bNNN", "dz_file_map_name": "bvvN",
           "dz_model_list": "nNN", "dz_structure_at": "nvN", "dz_index_of": "nnvN",
-          "dz_compare": "bbNN", "dz_tail": "bbNN"}
+          "dz_compare": "bbNN", "dz_tail": "bbNN", "dz_map_names": "bnvNN"}
 
 
 def needed():

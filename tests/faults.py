@@ -143,9 +143,19 @@ def name_past_nine(o):
     o.map_name_place = lambda text, lengths, d, i: (18, 0, 0) if d >= len(lengths) else whole(text, lengths, d, i)
 
 
+def names_from_one(o):
+    whole = o.map_names
+
+    def names(text, lengths, d, room):
+        number, told = whole(text, lengths, d, room)
+        return number, told[2:] + told[:2]
+    o.map_names = names
+
+
 FAULTS = [only_refuses, no_records, fills_in_text_order, counts_by_sum, decodes_twice, voxels_by_structure,
           first_model_only, first_map_only, room_last, signs_in_wholes, seven_before_six, depth_seventeen, long_names,
-          overlong_utf8, comment_parts_numbers, power_dropped, written_power_only, limit_off_by_one, name_past_nine]
+          overlong_utf8, comment_parts_numbers, power_dropped, written_power_only, limit_off_by_one, name_past_nine,
+          names_from_one]
 # Shown by few texts: tried where there are so many.
 RARE = {limit_off_by_one: 3000}
 

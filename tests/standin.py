@@ -6,7 +6,7 @@ import ctypes
 
 import dzwonolin_oracle as oracle
 
-KINDS = {"brain": 1, "series": 2, "scalars": 3}
+KINDS = {"brain": 1, "series": 2, "scalars": 3, "labels": 4}
 
 
 def numbers(pointer, length):
@@ -46,6 +46,13 @@ def dz_map_name(text, text_len, lengths, lengths_len, dimension, index, part, pa
     return number
 
 
+def dz_map_names(text, text_len, lengths, lengths_len, dimension, places, places_len, count, count_len):
+    number, told = oracle.map_names(ctypes.string_at(text, text_len), list(numbers(lengths, lengths_len)), dimension, places_len)
+    store(numbers(places, places_len), told)
+    store(numbers(count, count_len), [len(told) // 2])
+    return number
+
+
 def dz_find(records, records_len, number, place, place_len):
     refusal, found = oracle.find(list(numbers(records, records_len)), number)
     store(numbers(place, place_len), [found])
@@ -67,10 +74,10 @@ def dz_unpack(sheet, sheet_len, records, records_len, count, count_len):
 
 
 class Library:
-    """Has the five functions, each behind a C function pointer."""
+    """Has the six functions, each behind a C function pointer."""
 
     def __init__(self, signatures):
-        for function in (dz_read, dz_map_name, dz_find, dz_pack, dz_unpack):
+        for function in (dz_read, dz_map_name, dz_map_names, dz_find, dz_pack, dz_unpack):
             kind = ctypes.CFUNCTYPE(ctypes.c_uint64, *signatures[function.__name__])
             callback = kind(function)
             setattr(self, function.__name__ + "_kept", callback)

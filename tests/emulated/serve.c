@@ -16,7 +16,7 @@ enum { GUARD = 64, MARK = 0xA5, ARGUMENTS = 5 };
 
 /* b, n: bytes and numbers to be read; B, N: to be written; v: a number. */
 static const char *const SHAPES[] = {"bnNNN", "bnvvN", "nvN", "nBN", "bNN", "bN", "bNNN", "bvvN", "nNN", "nvN", "nnvN",
-                                     "bbNN", "bbNN"};
+                                     "bbNN", "bbNN", "bnvNN"};
 
 struct argument {
     uint64_t count;
@@ -94,7 +94,8 @@ static uint64_t call(uint64_t function, struct argument *a)
     case 9: return dz_structure_at(NUMBERS(0), a[1].count, NUMBERS(2));
     case 10: return dz_index_of(NUMBERS(0), NUMBERS(1), a[2].count, NUMBERS(3));
     case 11: return dz_compare(BYTES(0), BYTES(1), NUMBERS(2), NUMBERS(3));
-    default: return dz_tail(BYTES(0), BYTES(1), NUMBERS(2), NUMBERS(3));
+    case 12: return dz_tail(BYTES(0), BYTES(1), NUMBERS(2), NUMBERS(3));
+    default: return dz_map_names(BYTES(0), NUMBERS(1), a[2].count, NUMBERS(3), NUMBERS(4));
     }
 }
 

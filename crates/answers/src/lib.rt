@@ -6,7 +6,7 @@ use cifti::Series;
 use numbers::Decimal;
 use records::Place;
 ghost use mathlib.Core.Path.{_≡_};
-ghost use Rattle.cifti.specs.Maps.{kindNumber, kindPlace, isBrain, isSeries};
+ghost use Rattle.cifti.specs.Maps.{kindNumber, kindPlace, isBrain, isSeries, isLabels};
 ghost use Rattle.cifti.specs.declared.answer.Kind.the-variants as kinds;
 ghost use Prim.Native.Nat.{min};
 ghost use Rattle.cifti.specs.Answer.{noSeries, dimensionBy, refusedWith};
@@ -32,6 +32,7 @@ pub fn kind_number(kind: Kind) -> u64
         Kind::Brain => 1,
         Kind::Series => 2,
         Kind::Scalars => 3,
+        Kind::Labels => 4,
     }
 }
 
@@ -48,6 +49,9 @@ pub fn kind_at(place: u64) -> Kind
     if place == 2 {
         return Kind::Scalars;
     }
+    if place == 3 {
+        return Kind::Labels;
+    }
     Kind::None
 }
 
@@ -62,6 +66,13 @@ pub fn is_series(kind: Kind) -> bool
     ensures { λ r. ⌜ r ≡ isSeries kind ⌝ }
 {
     kind_number(kind) == 2
+}
+
+// A map of labels has a table for each of its names.
+pub fn is_labels(kind: Kind) -> bool
+    ensures { λ r. ⌜ r ≡ isLabels kind ⌝ }
+{
+    kind_number(kind) == 4
 }
 
 pub fn no_series() -> Series

@@ -65,6 +65,10 @@ fn kind_word(kind: Kind) -> Letters
             letters: *b"scalars ",
             count: 7,
         },
+        Kind::Labels => Letters {
+            letters: *b"labels  ",
+            count: 6,
+        },
     }
 }
 

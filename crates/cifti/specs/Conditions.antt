@@ -1,4 +1,4 @@
--- THE NUMBERS OF REFUSAL, 1 to 14, over the lengths, the size of the text, its document (or that there is none), and the room lent.
+-- THE NUMBERS OF REFUSAL, 1 to 14, 24 and 25, over the lengths, the size of the text, its document (or that there is none), and the room lent.
 use mathlib.Core.List.{List, [], _∷_, _++_}
 use mathlib.Core.Option.{Option}
 use mathlib.Core.Bool.{Bool, true, false, _&&_, _||_, not}
@@ -11,10 +11,11 @@ unfoldable pub use Rattle.lists.specs.Refusals.{first}
 use Rattle.grammar.specs.Bytes.{between}
 use Rattle.grammar.specs.Document.{Element}
 use Rattle.grammar.specs.Look.{is, nameOf, has}
+use Rattle.numbers.specs.Numbers.{sameKey}
 use Rattle.schema.specs.Schema.{everywhere, shaped, numbered}
 use Rattle.cifti.specs.Rows.{cifti, rows}
 use Rattle.cifti.specs.Maps.{Voxel, Listed, vertices, voxels, Model, Map, mapElements, mapsOf, brainMaps, lengthOf, vertexNumbers}
-use Rattle.cifti.specs.Maps.{voxelsOf, sameVoxel, covers}
+use Rattle.cifti.specs.Maps.{voxelsOf, sameVoxel, covers, labelsMaps}
 
 -- 1: lengths are not 2 or 3, or one is 0 or above 1,048,576
 unfoldable pub lengthsWrong : List ℕ → Bool
@@ -32,10 +33,9 @@ noDocument d = not (isSome d)
 unfoldable pub rootWrong : Element → Bool
 rootWrong e = not (is "CIFTI" (nameOf e) && has "Version" "2" e)
 
--- 5: a MatrixIndicesMap in a Matrix in the root is of kind PARCELS or LABELS
+-- 5: a MatrixIndicesMap in a Matrix in the root is of kind PARCELS
 unfoldable pub kindNotRead : Element → Bool
-kindNotRead e = any (λ m. has "IndicesMapToDataType" "CIFTI_INDEX_TYPE_PARCELS" m
-    || has "IndicesMapToDataType" "CIFTI_INDEX_TYPE_LABELS" m) (mapElements e)
+kindNotRead e = any (has "IndicesMapToDataType" "CIFTI_INDEX_TYPE_PARCELS") (mapElements e)
 
 -- 6: an element, attribute, child, named word or non-blank text is not as above
 unfoldable pub shapeWrong : Element → Bool
@@ -108,13 +108,21 @@ repeats l =
 unfoldable pub locationTwice : List Map → Bool
 locationTwice l = any (λ m. repeats (m .models)) l
 
+-- 24: a key twice in one table of a labels map
+unfoldable pub keyTwice : List Map → Bool
+keyTwice l = any (λ m. any (twoOf sameKey) (m .tables)) (labelsMaps l)
+
+-- 25: the labels maps together list more than one dimension
+unfoldable pub labelsTwice : List Map → Bool
+labelsTwice l = ltb 1 (length (listedDimensions (labelsMaps l)))
+
 -- ---- THE ORDER OF REFUSALS: rows of a number and whether its condition applies. Where there is no document, the conditions on one do
 -- not arise.
 
 unfoldable pub ofMaps : (List Map → Bool) → Option Element → Bool
 ofMaps p d = there (λ e. p (mapsOf e)) d
 
--- 1 to 9, which the map name checks too
+-- 1 to 9, which map names and labels check too
 unfoldable pub conditionsOfHeader : (lengths : List ℕ) (size : ℕ) → Option Element → List Refusal
 conditionsOfHeader lengths size d =
     1 when lengthsWrong lengths
@@ -137,8 +145,13 @@ conditionsOfTable room work d =
     ∷ 14 when ofMaps locationTwice d
     ∷ []
 
+-- 24 and 25, which labels check too
+unfoldable pub conditionsOfLabels : Option Element → List Refusal
+conditionsOfLabels d = 24 when ofMaps keyTwice d ∷ 25 when ofMaps labelsTwice d ∷ []
+
 unfoldable pub conditions : (lengths : List ℕ) (size room work : ℕ) → Option Element → List Refusal
-conditions lengths size room work d = conditionsOfHeader lengths size d ++ conditionsOfTable room work d
+conditions lengths size room work d =
+    conditionsOfHeader lengths size d ++ (conditionsOfTable room work d ++ conditionsOfLabels d)
 
 -- The number is that of the first row that applies; 0 where none does.
 unfoldable pub refusal : (lengths : List ℕ) (size room work : ℕ) → Option Element → ℕ
@@ -146,6 +159,6 @@ refusal lengths size room work d = first (conditions lengths size room work d)
 
 unfoldable pub conditionWords : Unit {0}
 unfolding lengthsWrong textTooLong noDocument rootWrong kindNotRead shapeWrong numberWrong listedDimensions dimensionsWrong lengthWrong
-    sameType alike modelsShare listsCount uneven rangesWrong outside beyond numbersOutside roomShort repeats locationTwice ofMaps
-    conditionsOfHeader conditionsOfTable conditions first refusal
+    sameType alike modelsShare listsCount uneven rangesWrong outside beyond numbersOutside roomShort repeats locationTwice keyTwice
+    labelsTwice ofMaps conditionsOfHeader conditionsOfTable conditionsOfLabels conditions first refusal
 conditionWords = tt

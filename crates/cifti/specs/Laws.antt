@@ -10,3 +10,4 @@ pub mod Places
 pub mod Repeats
 pub mod Keys
 pub mod Demand
+pub mod Labels

@@ -5,5 +5,6 @@ pub mod Conditions
 pub mod Text
 pub mod Names
 pub mod Answer
+pub mod Labels
 pub mod Laws
 pub mod Tests

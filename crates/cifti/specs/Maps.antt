@@ -1,7 +1,7 @@
 -- WHAT A HEADER SAYS: the maps of a document, in text order, with their numbers read. It means something for documents that pass
 -- conditions 4 to 7.
 use mathlib.Core.List.{List, [], _∷_}
-use mathlib.Core.Bool.{Bool, true, false, _&&_, cond}
+use mathlib.Core.Bool.{Bool, true, false, _&&_, _||_, cond}
 use mathlib.Core.Path.{_≡_, refl, sym, ap, _∙_}
 use Prim.Native.Nat.{ℕ, _+_, _%_}
 use Prim.Native.String.{String}
@@ -17,10 +17,11 @@ use Rattle.numbers.specs.Numbers.{value, values, commaValues, exponentValue, de
 use Rattle.numbers.specs.declared.Decimal.{Decimal}
 use Rattle.records.specs.Record.{Location, onSurface, inVolume}
 use Rattle.schema.specs.Schema.{Case, _⇒_}
-use Rattle.cifti.specs.Rows.{ElementKind, words, brainModels, series, scalars}
+use Rattle.label_tables.specs.LabelTable.{tableKeys}
+use Rattle.cifti.specs.Rows.{ElementKind, words, brainModels, series, scalars, labels}
 use Rattle.cifti.specs.Words.{structures, units, numberIn}
 use Rattle.cifti.specs.declared.answer.Kind.{Kind}
-use Rattle.cifti.specs.declared.answer.Kind.the-variants.{None, Brain, Series, Scalars}
+use Rattle.cifti.specs.declared.answer.Kind.the-variants.{None, Brain, Series, Scalars, Labels}
 
 -- Three numbers: a voxel, or the sizes of a volume.
 pub record Voxel : Type 0 where
@@ -49,7 +50,7 @@ pub record SeriesValues : Type 0 where
   pub exponent : ℤ
   pub unit : ℕ
 
--- A map is what it holds. A map of another kind holds no models, and its volume and series are of no meaning.
+-- A map is what it holds. A map of another kind holds no models or tables, and its volume and series are of no meaning.
 pub record Map : Type 0 where
   pub dimensions : List ℕ
   pub kind : Kind
@@ -57,6 +58,8 @@ pub record Map : Type 0 where
   pub volume : Voxel
   pub series : SeriesValues
   pub counted : ℕ
+  -- the keys of each label table
+  pub tables : List (List ℤ)
 
 -- ---- THE KINDS: the words of IndicesMapToDataType, each beside the kind that it names. No other word names one.
 
@@ -65,6 +68,7 @@ kindWords =
     "CIFTI_INDEX_TYPE_BRAIN_MODELS" ⇒ Brain
     ∷ "CIFTI_INDEX_TYPE_SERIES" ⇒ Series
     ∷ "CIFTI_INDEX_TYPE_SCALARS" ⇒ Scalars
+    ∷ "CIFTI_INDEX_TYPE_LABELS" ⇒ Labels
     ∷ []
 
 unfoldable pub kindIn : List (Case Kind) → Word → Kind
@@ -89,6 +93,7 @@ kindNumber None = 0
 kindNumber Brain = 1
 kindNumber Series = 2
 kindNumber Scalars = 3
+kindNumber Labels = 4
 
 -- the word of each kind on the card; no line is of kind None
 abbrev pub kindWord : Kind → Word
@@ -96,6 +101,7 @@ kindWord None = []
 kindWord Brain = ascii "brain"
 kindWord Series = ascii "series"
 kindWord Scalars = ascii "scalars"
+kindWord Labels = ascii "labels"
 
 -- the same, byte by byte, as the code has it
 abbrev pub kindBytes : Kind → Word
@@ -103,16 +109,18 @@ kindBytes None = []
 kindBytes Brain = 98 ∷ 114 ∷ 97 ∷ 105 ∷ 110 ∷ []
 kindBytes Series = 115 ∷ 101 ∷ 114 ∷ 105 ∷ 101 ∷ 115 ∷ []
 kindBytes Scalars = 115 ∷ 99 ∷ 97 ∷ 108 ∷ 97 ∷ 114 ∷ 115 ∷ []
+kindBytes Labels = 108 ∷ 97 ∷ 98 ∷ 101 ∷ 108 ∷ 115 ∷ []
 
 pub kind-bytes : (k : Kind) → kindBytes k ≡ kindWord k
 kind-bytes None = refl
 kind-bytes Brain = refl
 kind-bytes Series = refl
 kind-bytes Scalars = refl
+kind-bytes Labels = refl
 
 -- the place of a kind's word in the table, from 0, by its number; None stands behind the last
 abbrev pub placeOf : (number : ℕ) → ℕ
-placeOf n = (n + 3) % 4
+placeOf n = (n + 4) % 5
 
 abbrev pub kindPlace : Kind → ℕ
 kindPlace k = placeOf (kindNumber k)
@@ -123,6 +131,7 @@ rowFor None = words
 rowFor Brain = brainModels
 rowFor Series = series
 rowFor Scalars = scalars
+rowFor Labels = labels
 
 -- the name of the children that make up the length of a map: a model adds its IndexCount, any other child 1. No element has the empty name.
 abbrev pub countedName : Kind → String
@@ -130,6 +139,7 @@ countedName None = ""
 countedName Brain = "BrainModel"
 countedName Series = ""
 countedName Scalars = "NamedMap"
+countedName Labels = "NamedMap"
 
 -- the same, byte by byte, as the code has it
 abbrev pub countedBytes : Kind → List ℕ
@@ -137,12 +147,14 @@ countedBytes None = []
 countedBytes Brain = 66 ∷ 114 ∷ 97 ∷ 105 ∷ 110 ∷ 77 ∷ 111 ∷ 100 ∷ 101 ∷ 108 ∷ []
 countedBytes Series = []
 countedBytes Scalars = 78 ∷ 97 ∷ 109 ∷ 101 ∷ 100 ∷ 77 ∷ 97 ∷ 112 ∷ []
+countedBytes Labels = 78 ∷ 97 ∷ 109 ∷ 101 ∷ 100 ∷ 77 ∷ 97 ∷ 112 ∷ []
 
 pub counted-bytes : (k : Kind) → countedBytes k ≡ ascii (countedName k)
 counted-bytes None = refl
 counted-bytes Brain = refl
 counted-bytes Series = refl
 counted-bytes Scalars = refl
+counted-bytes Labels = refl
 
 -- such a map holds models, and fills a stretch of the records
 abbrev pub isBrain : Kind → Bool
@@ -154,6 +166,13 @@ isSeries k = eqb (kindNumber k) 2
 abbrev pub isScalars : Kind → Bool
 isScalars k = eqb (kindNumber k) 3
 
+abbrev pub isLabels : Kind → Bool
+isLabels k = eqb (kindNumber k) 4
+
+-- the maps of such a kind have names
+abbrev pub hasNames : Kind → Bool
+hasNames k = isScalars k || isLabels k
+
 -- no two kinds have one number
 pub kind-placed : (k : Kind) → getD allKinds (kindPlace k) None ≡ k
 unfolding allKinds each caseKind kindWords
@@ -161,6 +180,7 @@ kind-placed None = refl
 kind-placed Brain = refl
 kind-placed Series = refl
 kind-placed Scalars = refl
+kind-placed Labels = refl
 
 pub same-kind : (j k : Kind) → eqb (kindNumber j) (kindNumber k) ≡ true → j ≡ k
 same-kind j k h =
@@ -207,6 +227,10 @@ kindOfMap e = kindIn kindWords (attr "IndicesMapToDataType" e)
 unfoldable pub dimensionsOf : Element → List ℕ
 dimensionsOf e = commaValues (attr "AppliesToMatrixDimension" e)
 
+-- the LabelTables of a map, in order
+unfoldable pub tablesIn : Element → List Element
+tablesIn e = eachIn (children "LabelTable") (children "NamedMap" e)
+
 unfoldable pub mapOf : Element → Map
 mapOf e = record {
   dimensions = dimensionsOf e;
@@ -215,6 +239,7 @@ mapOf e = record {
   volume = sizesOf e;
   series = seriesOf e;
   counted = length (children (countedName (kindOfMap e)) e);
+  tables = each tableKeys (tablesIn e);
 }
 
 -- every MatrixIndicesMap in a Matrix in the root
@@ -271,8 +296,11 @@ lengthOf m = lengthBy (m .kind) m
 unfoldable pub brainMaps : List Map → List Map
 brainMaps l = those (λ m. isBrain (m .kind)) l
 
+unfoldable pub labelsMaps : List Map → List Map
+labelsMaps l = those (λ m. isLabels (m .kind)) l
+
 unfoldable pub mapWords : Unit {0}
 unfolding kindWords kindIn caseWord caseKind wordsOfKinds allKinds rowFor listedBy modelOf sizesBy sizesOf seriesOf kindOfMap
-    dimensionsOf mapOf mapElements mapsOf vertexNumbers threes voxelsOf sameVoxel voxelAt locationsBy locations covers lengthBy lengthOf
-    brainMaps
+    dimensionsOf tablesIn mapOf mapElements mapsOf vertexNumbers threes voxelsOf sameVoxel voxelAt locationsBy locations covers lengthBy
+    lengthOf brainMaps labelsMaps
 mapWords = tt

@@ -11,13 +11,13 @@ use lib.ListN.{length, getD}
 use Rattle.lists.specs.Lists.{any, those, each, eachIn}
 use Rattle.grammar.specs.Document.{Element}
 use Rattle.grammar.specs.Look.{Word, withinOf, children}
-use Rattle.cifti.specs.Maps.{Map, isScalars, dimensionsOf, mapElements}
+use Rattle.cifti.specs.Maps.{Map, hasNames, dimensionsOf, mapElements}
 use Rattle.cifti.specs.Conditions.{_when_, conditionsOfHeader, ofMaps, first}
 use Rattle.cifti.specs.Text.{Answers}
 
--- 18: no such dimension, it is not scalars, or the index is not below its length
+-- 18: no such dimension, it is neither scalars nor labels, or the index is not below its length
 unfoldable pub holdsName : (index : ℕ) → Map → Bool
-holdsName i m = isScalars (m .kind) && ltb i (m .counted)
+holdsName i m = hasNames (m .kind) && ltb i (m .counted)
 
 unfoldable pub noName : (dimension index : ℕ) → List Map → Bool
 noName d i l = not (any (λ m. any (eqb d) (m .dimensions) && holdsName i m) l)

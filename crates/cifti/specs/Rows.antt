@@ -3,7 +3,7 @@ use mathlib.Core.List.{List, [], _∷_, _++_}
 use mathlib.Core.Path.{_≡_, refl}
 use Prim.Native.Nat.{ℕ}
 use lib.ListN.{getD}
-use Rattle.numbers.specs.Numbers.{whole, volumeDimensions, dimensionList, exponent, decimal, wholes, sixteen}
+use Rattle.numbers.specs.Numbers.{whole, volumeDimensions, dimensionList, exponent, decimal, key, colour, wholes, sixteen}
 use Rattle.schema.specs.Schema.{anyValue, word, number, AttributeRow, required, anyText, numbers, once, atMostOnce, anyTimes, atLeastOnce}
 use Rattle.schema.specs.Schema.{neededBelow, Case, _⇒_, always, chosen, child, anyOrder, Row, branch, leaf}
 use Rattle.cifti.specs.Words.{structures, units, mostLength, mostVoxel}
@@ -13,6 +13,7 @@ pub data ElementKind : Type 0 where
   cifti matrix metaData md words : ElementKind
   brainModels series scalars namedMap : ElementKind
   volume transform surface voxels vertexIndices voxelIndices : ElementKind
+  labels labelledMap labelTable label : ElementKind
 
 -- all of them, each at its number
 unfoldable pub elementKinds : List ElementKind
@@ -20,6 +21,7 @@ elementKinds =
     cifti ∷ matrix ∷ metaData ∷ md ∷ words
     ∷ brainModels ∷ series ∷ scalars ∷ namedMap
     ∷ volume ∷ transform ∷ surface ∷ voxels ∷ vertexIndices ∷ voxelIndices
+    ∷ labels ∷ labelledMap ∷ labelTable ∷ label
     ∷ []
 
 unfoldable pub elementNumber : ElementKind → ℕ
@@ -38,6 +40,10 @@ elementNumber surface = 11
 elementNumber voxels = 12
 elementNumber vertexIndices = 13
 elementNumber voxelIndices = 14
+elementNumber labels = 15
+elementNumber labelledMap = 16
+elementNumber labelTable = 17
+elementNumber label = 18
 
 pub at-number : (k : ElementKind) → getD elementKinds (elementNumber k) cifti ≡ k
 unfolding elementKinds elementNumber
@@ -56,12 +62,17 @@ at-number surface = refl
 at-number voxels = refl
 at-number vertexIndices = refl
 at-number voxelIndices = refl
+at-number labels = refl
+at-number labelledMap = refl
+at-number labelTable = refl
+at-number label = refl
 
 unfoldable pub mapKinds : List (Case ElementKind)
 mapKinds =
     "CIFTI_INDEX_TYPE_BRAIN_MODELS" ⇒ brainModels
     ∷ "CIFTI_INDEX_TYPE_SERIES" ⇒ series
     ∷ "CIFTI_INDEX_TYPE_SCALARS" ⇒ scalars
+    ∷ "CIFTI_INDEX_TYPE_LABELS" ⇒ labels
     ∷ []
 
 unfoldable pub modelTypes : List (Case ElementKind)
@@ -93,6 +104,15 @@ modelAttributes =
     ∷ required "IndexCount" (number (whole 1 1048576))
     ∷ required "ModelType" anyValue
     ∷ required "BrainStructure" (word structures)
+    ∷ []
+
+unfoldable pub labelAttributes : List AttributeRow
+labelAttributes =
+    required "Key" (number key)
+    ∷ required "Red" (number colour)
+    ∷ required "Green" (number colour)
+    ∷ required "Blue" (number colour)
+    ∷ required "Alpha" (number colour)
     ∷ []
 
 unfoldable pub rows : ElementKind → Row ElementKind
@@ -129,7 +149,18 @@ rows voxels = branch modelAttributes anyOrder
     (child "VoxelIndicesIJK" once (always voxelIndices) ∷ [])
 rows vertexIndices = leaf [] (numbers (wholes 1048575))
 rows voxelIndices = leaf [] (numbers (wholes mostVoxel))
+-- a NamedMap of labels has a LabelTable, one of scalars has none
+rows labels = branch mapAttributes anyOrder
+    (child "NamedMap" anyTimes (always labelledMap) ∷ [])
+rows labelledMap = branch [] anyOrder
+    (child "MapName" once (always words)
+    ∷ child "LabelTable" once (always labelTable)
+    ∷ child "MetaData" atMostOnce (always metaData)
+    ∷ [])
+rows labelTable = branch [] anyOrder
+    (child "Label" anyTimes (always label) ∷ [])
+rows label = leaf labelAttributes anyText
 
 unfoldable pub rowTable : Unit {0}
-unfolding structures units mapKinds modelTypes mapAttributes seriesAttributes modelAttributes rows
+unfolding structures units mapKinds modelTypes mapAttributes seriesAttributes modelAttributes labelAttributes rows
 rowTable = tt

@@ -8,6 +8,7 @@ pub enum Kind {
     Brain,
     Series,
     Scalars,
+    Labels,
 }
 
 // All zero where the dimension is no series. The unit: 0 second, 1 hertz, 2 meter, 3 radian.

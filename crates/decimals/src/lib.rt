@@ -2,8 +2,8 @@
 
 // What stands behind a mantissa.
 mod power;
-// The tests of the last row.
-mod value;
+// A decimal beside 0 and 1.
+pub mod value;
 // A decimal at a place.
 mod written;
 

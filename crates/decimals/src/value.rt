@@ -18,7 +18,7 @@ fn amount_is(a: i64, n: u64) -> bool
 }
 
 // A power from -18 to 0, without its sign.
-fn places_of(power: i64) -> Whole
+pub fn places_of(power: i64) -> Whole
     ensures { λ r. ⌜ r ≡ placesIn power ⌝ }
 {
     if 0 < power {
@@ -31,7 +31,7 @@ fn places_of(power: i64) -> Whole
 }
 
 // 10 to the power of `places`.
-fn ten_to(places: u64) -> u64
+pub fn ten_to(places: u64) -> u64
     requires { ⌜ places ≤ 18 ⌝ }
     ensures { λ r. ⌜ r ≡ 10 ^ places ⌝ }
 {

@@ -17,7 +17,7 @@ pub record AppliesTo (text : List ℕ) (rows : Option Element → List Refusal) 
   pub of : DocumentOf text document
   pub applies : Applies (rows document) number
 
--- one of 1 to 14 applies to the text, with these lengths, and so many records and so much work space lent
+-- one of 1 to 14, 24 or 25 applies to the text, with these lengths, and so many records and so much work space lent
 abbrev pub Condition : (text lengths : List ℕ) (room work number : ℕ) → Type 0
 Condition text lengths room work number = AppliesTo text (conditions lengths (length text) room work) number
 

@@ -1,3 +1,5 @@
 pub mod Unique
 pub mod Lists
 pub mod Sides
+pub mod AllNames
+pub mod Labels

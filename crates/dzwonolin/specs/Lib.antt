@@ -1,4 +1,6 @@
 pub mod Promises
 pub mod Lists
 pub mod Sides
+pub mod AllNames
+pub mod Labels
 pub mod Laws

@@ -1,8 +1,14 @@
 // The library for C: include/dzwonolin.h says what each function takes and gives. A slice is a pointer and the number of its elements.
+// All names of a map.
+mod names;
+// Labels.
+mod labels;
+
 use flat::tell_answer;
 use flat::tell_one;
 use flat::tell_row;
 use flat::tell_two;
+pub use names::dz_map_names;
 use reader::map_name_place;
 use records::Index;
 ghost use Rattle.dzwonolin.specs.Promises.{ReadsFlat, NamesFlat, FindsFlat, PacksFlat, UnpacksFlat};

@@ -7,11 +7,12 @@ use native.Mathlib.Decide.{ℕ-discrete}
 use lib.ListN.{length}
 use borrow.Author.Needs.{needs}
 use Rattle.lists.specs.Laws.Booleans.{clash}
+use Rattle.grammar.specs.Bytes.{ascii}
 use Rattle.nodes.specs.Inside.{between-tags}
 use Rattle.nodes.specs.declared.Found.{Found}
 use Rattle.nodes.specs.declared.Found.the-variants.{At, Nothing}
 use Rattle.ways.specs.One.{tagEnd}
-use Rattle.map_names.specs.Treads.{nameAt}
+use Rattle.map_names.specs.Treads.{namedAt}
 use Rattle.map_names.specs.declared.NamePlace.{NamePlace}
 
 pub record Is (r : NamePlace) (number start size : ℕ) : Type 0 where
@@ -22,8 +23,8 @@ pub record Is (r : NamePlace) (number start size : ℕ) : Type 0 where
 -- the refusal that is given; else 18 where nothing is found; else the place behind the tag, and the length of what stands between the tags
 pub record Answered (text : List ℕ) (number dimension index : ℕ) (r : NamePlace) : Type 0 where
   pub refused : (number ≡ 0 → ⊥) → Is r number 0 0
-  pub missing : number ≡ 0 → nameAt text dimension index ≡ Nothing → Is r 18 0 0
-  pub found : number ≡ 0 → (k : ℕ) → nameAt text dimension index ≡ At k → Is r 0 (tagEnd text k) (length (between-tags text k))
+  pub missing : number ≡ 0 → namedAt text (ascii "MapName") dimension index ≡ Nothing → Is r 18 0 0
+  pub found : number ≡ 0 → (k : ℕ) → namedAt text (ascii "MapName") dimension index ≡ At k → Is r 0 (tagEnd text k) (length (between-tags text k))
 
 module _ (text : List ℕ) {n : ℕ} (d i : ℕ) (r : NamePlace) where
   pub answered-refused : (n ≡ 0 → ⊥) → r .number ≡ n → r .start ≡ 0 → r .length ≡ 0 → Answered text n d i r
@@ -33,7 +34,7 @@ module _ (text : List ℕ) {n : ℕ} (d i : ℕ) (r : NamePlace) where
     found = λ z. absurd (k z);
   }
 
-  module _ (z : n ≡ 0) {f : Found} (q : f ≡ nameAt text d i) where
+  module _ (z : n ≡ 0) {f : Found} (q : f ≡ namedAt text (ascii "MapName") d i) where
     pub answered-missing : f ≡ Nothing → r .number ≡ 18 → r .start ≡ 0 → r .length ≡ 0 → Answered text n d i r
     answered-missing h a b c = record {
       refused = λ k. absurd (k z);
@@ -63,12 +64,12 @@ same-place p q = λ k. record {
 pub answered-unique : {text : List ℕ} {n d i : ℕ} {a b : NamePlace} → Answered text n d i a → Answered text n d i b → a ≡ b
 answered-unique {text} {n} {d} {i} {a} {b} p q = by (ℕ-discrete n 0)
   where
-    found-or : n ≡ 0 → (f : Found) → nameAt text d i ≡ f → a ≡ b
+    found-or : n ≡ 0 → (f : Found) → namedAt text (ascii "MapName") d i ≡ f → a ≡ b
     found-or z Nothing e = same-place (p .missing z e) (q .missing z e)
     found-or z (At k) e = same-place (p .found z k e) (q .found z k e)
 
     by : Dec (n ≡ 0) → a ≡ b
-    by (yes z) = found-or z (nameAt text d i) refl
+    by (yes z) = found-or z (namedAt text (ascii "MapName") d i) refl
     by (no k) = same-place (p .refused k) (q .refused k)
 
 pub ruleset answering = (answered-refused, answered-missing, answered-found, needs)

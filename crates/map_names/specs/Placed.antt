@@ -23,7 +23,7 @@ use Rattle.nodes.specs.Places.{the}
 use Rattle.nodes.specs.Inside.{between-tags, within-law}
 use Rattle.nodes.specs.declared.Found.{Found}
 use Rattle.nodes.specs.declared.Found.the-variants.{At, Nothing}
-use Rattle.cifti.specs.Conditions.{conditionsOfHeader, ofMaps, shapeWrong, numberWrong, noDocument, dimensionsWrong}
+use Rattle.cifti.specs.Conditions.{conditionsOfHeader, ofMaps, shapeWrong, numberWrong, noDocument, dimensionsWrong, lengthWrong}
 use Rattle.cifti.specs.Maps.{mapsOf}
 use Rattle.cifti.specs.Names.{noName, nameRefusal, namesOn, partBy, namePart, NameNumber, NamePart}
 use Rattle.cifti.specs.Rows.{cifti}
@@ -36,7 +36,7 @@ use Rattle.ways.specs.One as One
 use Rattle.ways.specs.One.{tagEnd, place-cut, place-found}
 use Rattle.map_names.specs.Way.{nameWay}
 use Rattle.map_names.specs.Laws.Reached.{NameOf, no-name, a-name, listed-once, name-of}
-use Rattle.map_names.specs.Treads.{nameAt, name-way}
+use Rattle.map_names.specs.Treads.{name-way}
 use Rattle.map_names.specs.Answered.{Is, Answered}
 use Rattle.map_names.specs.declared.NamePlace.{NamePlace}
 
@@ -47,15 +47,16 @@ pub record NamePlaced (text lengths : List ℕ) (dimension index : ℕ) (r : Nam
   pub placed : r .number ≡ 0 → Place (nameWay dimension index) (take (r .length) (drop (r .start) text)) text (r .start)
   pub refused : (r .number ≡ 0 → ⊥) → (r .start ≡ 0) × (r .length ≡ 0)
 
--- ---- Where no condition before 18 applies, there is a document, and 6, 7 and 8 do not apply to it.
+-- ---- Where no condition before 18 applies, there is a document, and 6 to 9 do not apply to it.
 
-record Fine (lengths : List ℕ) (o : Option Element) : Type 0 where
-  document : Element
-  is : o ≡ some document
-  good : Good cifti document
-  once : dimensionsWrong lengths (mapsOf document) ≡ false
+pub record Fine (lengths : List ℕ) (o : Option Element) : Type 0 where
+  pub document : Element
+  pub is : o ≡ some document
+  pub good : Good cifti document
+  pub once : dimensionsWrong lengths (mapsOf document) ≡ false
+  pub agree : lengthWrong lengths (mapsOf document) ≡ false
 
-fine : (lengths : List ℕ) (size : ℕ) (o : Option Element) → NoneApplies (conditionsOfHeader lengths size o) → Fine lengths o
+pub fine : (lengths : List ℕ) (size : ℕ) (o : Option Element) → NoneApplies (conditionsOfHeader lengths size o) → Fine lengths o
 unfolding conditionsOfHeader noDocument isSome there shapeWrong numberWrong ofMaps
 fine lengths size Option.none h = both-ways refl (row-fails (rows-behind (rows-behind h)))
 fine lengths size (some e) h =
@@ -66,6 +67,7 @@ fine lengths size (some e) h =
       is = refl;
       good = record { shape = not-false _ (row-fails six); number = not-false _ (row-fails seven) };
       once = row-fails (rows-behind seven);
+      agree = row-fails (rows-behind (rows-behind seven));
     }
 
 -- ---- The answer.

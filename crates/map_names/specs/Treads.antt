@@ -34,7 +34,7 @@ use Rattle.cifti.specs.Maps.{dimensionsOf}
 use Rattle.ways.specs.Walked.{childAt, thence, wayAt}
 use Rattle.ways.specs.Treads.{Seeking, seeking-start, seeking-done, seeking-less, seeking-off, seeking-found, called, called-alike}
 use Rattle.ways.specs.Treads.{childNamed, Tread, tread, trod, trodFrom, Alike, alike-none, alike-more, trod-way}
-use Rattle.map_names.specs.Way.{ofName, listsDimension, mapThatLists, inMap, nameWay}
+use Rattle.map_names.specs.Way.{ofName, listsDimension, mapThatLists, mapWay, inMap, wayInMap, nameWay}
 
 -- ---- A map that lists the dimension.
 
@@ -88,59 +88,79 @@ pub ruleset first-map = (seeking-start, seeking-done, seeking-less, seeking-off,
 
 -- ---- The treads.
 
-unfoldable pub inMapTreads : List ℕ → ℕ → List Tread
-inMapTreads text i = tread (called text (ascii "NamedMap")) i ∷ tread (called text (ascii "MapName")) 0 ∷ []
+unfoldable pub inMapTreads : (text word : List ℕ) → ℕ → List Tread
+inMapTreads text w i = tread (called text (ascii "NamedMap")) i ∷ tread (called text w) 0 ∷ []
 
-unfoldable pub nameTreads : List ℕ → ℕ → ℕ → List Tread
-nameTreads text d i = tread (called text (ascii "Matrix")) 0 ∷ tread (mapAt text d) 0 ∷ inMapTreads text i
+unfoldable pub nameTreads : (text word : List ℕ) → ℕ → ℕ → List Tread
+nameTreads text w d i = tread (called text (ascii "Matrix")) 0 ∷ tread (mapAt text d) 0 ∷ inMapTreads text w i
 
--- where the name stands; any bytes
-unfoldable pub nameAt : (text : List ℕ) (dimension index : ℕ) → Found
-nameAt text d i = trodFrom (nameTreads text d i) text (root text)
+unfoldable pub mapTreads : List ℕ → ℕ → List Tread
+mapTreads text d = tread (called text (ascii "Matrix")) 0 ∷ tread (mapAt text d) 0 ∷ []
+
+-- where the map that lists the dimension stands, and where the child of that name stands; any bytes
+unfoldable pub mapThere : (text : List ℕ) (dimension : ℕ) → Found
+mapThere text d = trodFrom (mapTreads text d) text (root text)
+
+unfoldable pub namedAt : (text word : List ℕ) (dimension index : ℕ) → Found
+namedAt text w d i = trodFrom (nameTreads text w d i) text (root text)
 
 thence-at : (f : Found) → thence (λ k. At k) f ≡ f
 unfolding thence
 thence-at Nothing = refl
 thence-at (At k) = refl
 
-module _ (text : List ℕ) (at i : ℕ) {f : Found} (e : f ≡ childNamed (ascii "NamedMap") i text at) where
-  pub on-found : {k : ℕ} → f ≡ At k → {r : Found} → r ≡ childNamed (ascii "MapName") 0 text k → r ≡ trod (inMapTreads text i) text at
+module _ (text w : List ℕ) (at i : ℕ) {f : Found} (e : f ≡ childNamed (ascii "NamedMap") i text at) where
+  pub on-found : {k : ℕ} → f ≡ At k → {r : Found} → r ≡ childNamed w 0 text k → r ≡ trod (inMapTreads text w i) text at
   unfolding trod inMapTreads childNamed thence
-  on-found {k} h q = q ∙ sym (rw (sym e ∙ h) (thence-at (childAt (called text (ascii "MapName")) 0 text k)))
+  on-found {k} h q = q ∙ sym (rw (sym e ∙ h) (thence-at (childAt (called text w) 0 text k)))
 
-  pub on-none : f ≡ Nothing → Nothing ≡ trod (inMapTreads text i) text at
+  pub on-none : f ≡ Nothing → Nothing ≡ trod (inMapTreads text w i) text at
   unfolding trod inMapTreads childNamed thence
   on-none h = sym (rw (sym e ∙ h))
 
 pub ruleset on-map = (on-found, on-none, needs)
 
-module _ (text : List ℕ) (at d i : ℕ) {f : Found} (e : f ≡ childAt (mapAt text d) 0 text at) where
-  pub in-found : {k : ℕ} → f ≡ At k → {r : Found} → r ≡ trod (inMapTreads text i) text k
-      → r ≡ trod (tread (mapAt text d) 0 ∷ inMapTreads text i) text at
-  unfolding trod thence
-  in-found h q = q ∙ sym (rw (sym e ∙ h))
-
-  pub in-none : f ≡ Nothing → Nothing ≡ trod (tread (mapAt text d) 0 ∷ inMapTreads text i) text at
-  unfolding trod thence
-  in-none h = sym (rw (sym e ∙ h))
-
-pub ruleset in-matrix = (in-found, in-none, needs)
-
-module _ (text : List ℕ) (d i : ℕ) {kid : Kid} (e : kid ≡ root text) where
-  pub root-none : kid ≡ Done → Nothing ≡ nameAt text d i
-  unfolding nameAt trodFrom
+module _ (text : List ℕ) (d : ℕ) {kid : Kid} (e : kid ≡ root text) where
+  pub root-none : kid ≡ Done → Nothing ≡ mapThere text d
+  unfolding mapThere trodFrom
   root-none h = sym (rw (sym e ∙ h))
 
   module _ {r : ℕ} (h : kid ≡ Child r) {f : Found} (q : f ≡ childNamed (ascii "Matrix") 0 text r) where
-    pub root-found : {m : ℕ} → f ≡ At m → {x : Found} → x ≡ trod (tread (mapAt text d) 0 ∷ inMapTreads text i) text m → x ≡ nameAt text d i
-    unfolding nameAt trodFrom nameTreads trod thence childNamed
-    root-found k p = p ∙ sym (rw (sym e ∙ h, sym q ∙ k))
+    pub root-found : {m : ℕ} → f ≡ At m → {x : Found} → x ≡ childAt (mapAt text d) 0 text m → x ≡ mapThere text d
+    unfolding mapThere trodFrom mapTreads trod thence childNamed
+    root-found {m} k p = p ∙ sym (rw (sym e ∙ h, sym q ∙ k) (thence-at (childAt (mapAt text d) 0 text m)))
 
-    pub root-lost : f ≡ Nothing → Nothing ≡ nameAt text d i
-    unfolding nameAt trodFrom nameTreads trod thence childNamed
+    pub root-lost : f ≡ Nothing → Nothing ≡ mapThere text d
+    unfolding mapThere trodFrom mapTreads trod thence childNamed
     root-lost k = sym (rw (sym e ∙ h, sym q ∙ k))
 
 pub ruleset from-root = (root-none, root-found, root-lost, needs)
+
+-- from the map that lists the dimension
+pub name-thence : (text w : List ℕ) (d i : ℕ) → namedAt text w d i ≡ thence (trod (inMapTreads text w i) text) (mapThere text d)
+unfolding namedAt mapThere trodFrom nameTreads mapTreads trod thence
+name-thence text w d i = by (root text)
+  where
+    from : (f : Found) → thence (λ m. thence (trod (inMapTreads text w i) text) (childAt (mapAt text d) 0 text m)) f
+        ≡ thence (trod (inMapTreads text w i) text) (thence (λ m. thence (λ k. At k) (childAt (mapAt text d) 0 text m)) f)
+    from Nothing = refl
+    from (At m) = ap (thence (trod (inMapTreads text w i) text)) (sym (thence-at (childAt (mapAt text d) 0 text m)))
+
+    by : (kid : Kid) → trodFrom (nameTreads text w d i) text kid
+        ≡ thence (trod (inMapTreads text w i) text) (trodFrom (mapTreads text d) text kid)
+    by Done = refl
+    by (Child r) = from (childAt (called text (ascii "Matrix")) 0 text r)
+
+module _ (text w : List ℕ) (d i : ℕ) {f : Found} (e : f ≡ mapThere text d) where
+  pub there-found : {k : ℕ} → f ≡ At k → {r : Found} → r ≡ trod (inMapTreads text w i) text k → r ≡ namedAt text w d i
+  unfolding thence
+  there-found h q = q ∙ sym (name-thence text w d i ∙ rw (sym e ∙ h))
+
+  pub there-none : f ≡ Nothing → Nothing ≡ namedAt text w d i
+  unfolding thence
+  there-none h = sym (name-thence text w d i ∙ rw (sym e ∙ h))
+
+pub ruleset from-map = (there-found, there-none, needs)
 
 -- ---- Where elements stand, the treads are the steps of the way.
 
@@ -199,14 +219,28 @@ named-alike : (text : List ℕ) (s : String) (k : ℕ) → Stands text k → cal
 unfolding ofName
 named-alike text s k st = called-alike text s k st
 
-alike : (text : List ℕ) (d i : ℕ) → Alike text (nameTreads text d i) (nameWay d i)
-unfolding nameTreads inMapTreads nameWay inMap
-alike text d i =
+alike : (text : List ℕ) (s : String) (d i : ℕ) → Alike text (nameTreads text (ascii s) d i) (wayInMap s d i)
+unfolding nameTreads inMapTreads wayInMap inMap
+alike text s d i =
     alike-more 0 (named-alike text "Matrix")
     (alike-more 0 (map-alike text d)
     (alike-more i (named-alike text "NamedMap")
-    (alike-more 0 (named-alike text "MapName") alike-none)))
+    (alike-more 0 (named-alike text s) alike-none)))
 
-pub name-way : (text : List ℕ) (d i : ℕ) {e : Element} → parse text ≡ some e → nameAt text d i ≡ wayAt (nameWay d i) text
-unfolding nameAt
-name-way text d i h = trod-way (alike text d i) h
+map-alike-way : (text : List ℕ) (d : ℕ) → Alike text (mapTreads text d) (mapWay d)
+unfolding mapTreads mapWay
+map-alike-way text d = alike-more 0 (named-alike text "Matrix") (alike-more 0 (map-alike text d) alike-none)
+
+pub map-way : (text : List ℕ) (d : ℕ) {e : Element} → parse text ≡ some e → mapThere text d ≡ wayAt (mapWay d) text
+unfolding mapThere
+map-way text d h = trod-way (map-alike-way text d) h
+
+pub way-in-map : (text : List ℕ) (s : String) (d i : ℕ) {e : Element} → parse text ≡ some e
+    → namedAt text (ascii s) d i ≡ wayAt (wayInMap s d i) text
+unfolding namedAt
+way-in-map text s d i h = trod-way (alike text s d i) h
+
+pub name-way : (text : List ℕ) (d i : ℕ) {e : Element} → parse text ≡ some e
+    → namedAt text (ascii "MapName") d i ≡ wayAt (nameWay d i) text
+unfolding nameWay
+name-way text d i h = way-in-map text "MapName" d i h

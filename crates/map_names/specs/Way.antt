@@ -22,12 +22,19 @@ listsDimension d e = dimensionList (attr "AppliesToMatrixDimension" e) && any (e
 unfoldable pub mapThatLists : (dimension : ℕ) → Element → Bool
 mapThatLists d e = is "MatrixIndicesMap" (nameOf e) && listsDimension d e
 
-unfoldable pub inMap : (index : ℕ) → List Step
-inMap i = step (ofName "NamedMap") i ∷ step (ofName "MapName") 0 ∷ []
+unfoldable pub mapWay : (dimension : ℕ) → List Step
+mapWay d = step (ofName "Matrix") 0 ∷ step (mapThatLists d) 0 ∷ []
+
+-- the first child of a name, in the NamedMap of the index
+unfoldable pub inMap : (name : String) (index : ℕ) → List Step
+inMap s i = step (ofName "NamedMap") i ∷ step (ofName s) 0 ∷ []
+
+unfoldable pub wayInMap : (name : String) (dimension index : ℕ) → List Step
+wayInMap s d i = step (ofName "Matrix") 0 ∷ step (mapThatLists d) 0 ∷ inMap s i
 
 unfoldable pub nameWay : (dimension index : ℕ) → List Step
-nameWay d i = step (ofName "Matrix") 0 ∷ step (mapThatLists d) 0 ∷ inMap i
+nameWay d i = wayInMap "MapName" d i
 
 unfoldable pub nameWays : Unit {0}
-unfolding ofName listsDimension mapThatLists inMap nameWay
+unfolding ofName listsDimension mapThatLists mapWay inMap wayInMap nameWay
 nameWays = tt

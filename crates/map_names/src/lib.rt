@@ -1,4 +1,4 @@
-// Where a map name stands in the text: the way of map_names/specs/Way, step by step.
+// Where a map name stands in the text: the way of map_names/specs/Way, step by step, and so for any child of a NamedMap.
 use elements::children::first_child;
 use elements::children::next_child;
 use elements::children::root_of;
@@ -13,10 +13,9 @@ use records::Index;
 use ways::behind_tag;
 use ways::child_named;
 ghost use mathlib.Core.Path.{_≡_};
-ghost use mathlib.Core.List.{_∷_};
 ghost use Rattle.ways.specs.Walked.{childAt};
-ghost use Rattle.ways.specs.Treads.{trod, tread};
-ghost use Rattle.map_names.specs.Treads.{listsAt, mapAt, inMapTreads, nameAt};
+ghost use Rattle.ways.specs.Treads.{trod};
+ghost use Rattle.map_names.specs.Treads.{listsAt, mapAt, inMapTreads, mapThere, namedAt};
 ghost use Rattle.map_names.specs.Answered.{Answered};
 
 // The number of the refusal, or 0, and then where the name starts in the text, and its length.
@@ -56,10 +55,10 @@ fn map_on(text: &[u8], at: usize, dimension: u64) -> Found
     loop {
         match kid {
             Kid::Child(k) => {
-                kid = next_child(text, k);
                 if map_lists(text, k, dimension) {
                     return Found::At(k);
                 }
+                kid = next_child(text, k);
             }
             Kid::Done => {
                 return Found::Nothing;
@@ -68,37 +67,36 @@ fn map_on(text: &[u8], at: usize, dimension: u64) -> Found
     }
 }
 
-// The MapName of the NamedMap of this index, in the map at `at`.
-fn name_on(text: &[u8], at: usize, index: Index) -> Found
-    ensures { λ r. ⌜ r ≡ trod (inMapTreads (now (text .entry)) (index .0)) (now (text .entry)) at ⌝ }
+// The first child of this name in the NamedMap of this index, in the map at `at`.
+fn name_on(text: &[u8], at: usize, index: Index, word: &[u8]) -> Found
+    ensures { λ r. ⌜ r ≡ trod (inMapTreads (now (text .entry)) (now (word .entry)) (index .0)) (now (text .entry)) at ⌝ }
 {
     match child_named(text, at, b"NamedMap", index.0) {
-        Found::At(k) => child_named(text, k, b"MapName", 0),
+        Found::At(k) => child_named(text, k, word, 0),
         Found::Nothing => Found::Nothing,
     }
 }
 
-// The same in the Matrix at `at`, on the map that lists the dimension.
-fn name_in(text: &[u8], at: usize, dimension: u64, index: Index) -> Found
-    ensures { λ r. ⌜ r ≡ trod (tread (mapAt (now (text .entry)) dimension) 0 ∷ inMapTreads (now (text .entry)) (index .0))
-        (now (text .entry)) at ⌝ }
-{
-    match map_on(text, at, dimension) {
-        Found::At(k) => name_on(text, k, index),
-        Found::Nothing => Found::Nothing,
-    }
-}
-
-// From the root.
-fn name_there(text: &[u8], dimension: u64, index: Index) -> Found
-    ensures { λ r. ⌜ r ≡ nameAt (now (text .entry)) dimension (index .0) ⌝ }
+// The map that lists the dimension, from the root.
+pub fn map_there(text: &[u8], dimension: u64) -> Found
+    ensures { λ r. ⌜ r ≡ mapThere (now (text .entry)) dimension ⌝ }
 {
     match root_of(text) {
         Kid::Child(root) => match child_named(text, root, b"Matrix", 0) {
-            Found::At(m) => name_in(text, m, dimension, index),
+            Found::At(m) => map_on(text, m, dimension),
             Found::Nothing => Found::Nothing,
         },
         Kid::Done => Found::Nothing,
+    }
+}
+
+// The child of that name on it.
+pub fn named_there(text: &[u8], dimension: u64, index: Index, word: &[u8]) -> Found
+    ensures { λ r. ⌜ r ≡ namedAt (now (text .entry)) (now (word .entry)) dimension (index .0) ⌝ }
+{
+    match map_there(text, dimension) {
+        Found::At(k) => name_on(text, k, index, word),
+        Found::Nothing => Found::Nothing,
     }
 }
 
@@ -113,7 +111,7 @@ pub fn place_of(text: &[u8], number: u64, dimension: u64, index: Index) -> NameP
             length: 0,
         };
     }
-    match name_there(text, dimension, index) {
+    match named_there(text, dimension, index, b"MapName") {
         Found::At(k) => {
             let part = written(text, k);
             NamePlace {

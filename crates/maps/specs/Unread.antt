@@ -52,32 +52,22 @@ pub ruleset rooting = (root-other, root-version, needs)
 -- ---- Condition 5.
 
 unfoldable pub notRead : Element → Bool
-notRead m = has "IndicesMapToDataType" "CIFTI_INDEX_TYPE_PARCELS" m || has "IndicesMapToDataType" "CIFTI_INDEX_TYPE_LABELS" m
+notRead m = has "IndicesMapToDataType" "CIFTI_INDEX_TYPE_PARCELS" m
 
 unfoldable pub anyNotRead : Element → Bool
 anyNotRead e = any notRead (children "MatrixIndicesMap" e)
 
--- the word is one of the two
-unfoldable pub unreadWord : List ℕ → Bool
-unreadWord w = same w (ascii "CIFTI_INDEX_TYPE_PARCELS") || same w (ascii "CIFTI_INDEX_TYPE_LABELS")
-
-module _ (w : List ℕ) {b : Bool} (p : b ≡ same w (ascii "CIFTI_INDEX_TYPE_PARCELS")) where
-  pub unread-parcels : b ≡ true → true ≡ unreadWord w
-  unfolding unreadWord
-  unread-parcels t = rw (sym p ∙ t)
-
-  pub unread-labels : b ≡ false → {c : Bool} → c ≡ same w (ascii "CIFTI_INDEX_TYPE_LABELS") → c ≡ unreadWord w
-  unfolding unreadWord
-  unread-labels f q = rw (sym p ∙ f) q
-
-pub ruleset unread-words = (unread-parcels, unread-labels, needs)
+unfoldable unreadWord : List ℕ → Bool
+unreadWord w = same w (ascii "CIFTI_INDEX_TYPE_PARCELS")
 
 module _ {text : List ℕ} {at : ℕ} (st : Stands text at) {f : Found} (e : f ≡ place text at (ascii "IndicesMapToDataType")) where
   not-read-so : notRead (the text at) ≡ unreadWord (value-at-name text at (ascii "IndicesMapToDataType"))
   unfolding notRead unreadWord has is
   not-read-so = rw (attr-law "IndicesMapToDataType" st)
 
-  pub unread-found : {v : ℕ} → f ≡ At v → {b : Bool} → b ≡ unreadWord (value-there text v) → b ≡ notRead (the text at)
+  pub unread-found : {v : ℕ} → f ≡ At v → {b : Bool} → b ≡ same (value-there text v) (ascii "CIFTI_INDEX_TYPE_PARCELS")
+      → b ≡ notRead (the text at)
+  unfolding unreadWord
   unread-found h p = sym (not-read-so ∙ ap unreadWord (value-found text at (ascii "IndicesMapToDataType") e h) ∙ sym p)
 
   pub unread-missing : f ≡ Nothing → false ≡ notRead (the text at)
@@ -150,10 +140,10 @@ matrix-is e h = h
 pub root-is : (e : Element) {b : Bool} → b ≡ any anyNotRead (children "Matrix" e) → b ≡ kindNotRead e
 root-is e h = h ∙ sym (not-read-by e)
 
--- ---- A root that passes 6 and 7 has no such map: no kind is chosen by their words.
+-- ---- A root that passes 6 and 7 has no such map: no kind is chosen by its word.
 
 unfoldable isUnread : Word → Bool
-isUnread w = is "CIFTI_INDEX_TYPE_PARCELS" w || is "CIFTI_INDEX_TYPE_LABELS" w
+isUnread w = is "CIFTI_INDEX_TYPE_PARCELS" w
 
 unfoldable caseUnread : Case ElementKind → Bool
 caseUnread (s ⇒ k) = isUnread (ascii s)
@@ -173,8 +163,7 @@ chosen-in ((s ⇒ j) ∷ l) v {k} h n = go (is s v) refl h (λ q. chosen-in l v 
     go true x q ih = rw (is-word s v x) (or-left _ _ n)
     go false x q ih = ih q
 
-chosen-read : (v : Word) {k : ElementKind} → kindChosen mapKinds (some v) ≡ some k
-    → (is "CIFTI_INDEX_TYPE_PARCELS" v || is "CIFTI_INDEX_TYPE_LABELS" v) ≡ false
+chosen-read : (v : Word) {k : ElementKind} → kindChosen mapKinds (some v) ≡ some k → is "CIFTI_INDEX_TYPE_PARCELS" v ≡ false
 unfolding kindChosen isUnread
 chosen-read v h = chosen-in mapKinds v h none-unread
 
@@ -182,10 +171,7 @@ map-read : (e : Element) → GoodAs matrixRows e → is "MatrixIndicesMap" (name
 unfolding notRead
 map-read e (good-as q g) n =
     let w = map-word e q n in
-    rw (
-      has-value "IndicesMapToDataType" "CIFTI_INDEX_TYPE_PARCELS" e (w .word) (w .said),
-      has-value "IndicesMapToDataType" "CIFTI_INDEX_TYPE_LABELS" e (w .word) (w .said),
-    ) (chosen-read (w .word) (w .chooses))
+    has-value "IndicesMapToDataType" "CIFTI_INDEX_TYPE_PARCELS" e (w .word) (w .said) ∙ chosen-read (w .word) (w .chooses)
 
 maps-read : (l : List Element) → AllGood matrixRows l → any notRead (those (λ e. is "MatrixIndicesMap" (nameOf e)) l) ≡ false
 unfolding any those

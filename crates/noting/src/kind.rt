@@ -48,6 +48,10 @@ fn counted_name(kind: Kind) -> Letters
             letters: *b"NamedMap        ",
             count: 8,
         },
+        Kind::Labels => Letters {
+            letters: *b"NamedMap        ",
+            count: 8,
+        },
     }
 }
 

@@ -21,7 +21,7 @@ ghost use Rattle.numbers.specs.Answers.{wholeIn, listedIn, betweenIn, threeIn, 
 ghost use Rattle.numbers.specs.Parted.{Parted};
 
 // The number at `at` up to a comma or the end.
-fn part_at(text: &[u8], at: usize, source: Source, most: u64, lo: u64, hi: u64) -> Part
+pub fn part_at(text: &[u8], at: usize, source: Source, most: u64, lo: u64, hi: u64) -> Part
     requires { ⌜ most ≤ 15 ⌝ }
     ensures { λ r. ⌜ Parted source (now (text .entry)) most lo hi at r ⌝ }
 {

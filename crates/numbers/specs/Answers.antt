@@ -11,6 +11,7 @@ use Rattle.lists.specs.Lists.{count}
 use Rattle.nodes.specs.TextBytes.{says}
 use Rattle.numbers.specs.Numbers.{digits, value, whole, words, Sign, plus, minus, withSign, dimensionList, commaValues}
 use Rattle.numbers.specs.Numbers.{volumeDimensions, exponent, exponentValue, inPower, decimal, decimalValue, up, down}
+use Rattle.numbers.specs.Numbers.{key, keyValue, inKeys, inValue, noLess, noMore}
 use Rattle.numbers.specs.Stream.{behind, leading}
 use Rattle.numbers.specs.declared.Source.the-variants.{Contents}
 use Rattle.numbers.specs.declared.Whole.{Whole}
@@ -20,6 +21,8 @@ use Rattle.numbers.specs.declared.Three.{Three}
 use Rattle.numbers.specs.declared.Three.the-variants as three
 use Rattle.numbers.specs.declared.Exponent.{Exponent}
 use Rattle.numbers.specs.declared.Exponent.the-variants as exponents
+use Rattle.numbers.specs.declared.Key.{Key}
+use Rattle.numbers.specs.declared.Key.the-variants as keys
 use Rattle.numbers.specs.declared.Decimal.{Decimal}
 use Rattle.numbers.specs.declared.Decimals.{Decimals}
 use Rattle.numbers.specs.declared.Decimals.the-variants as decimals
@@ -51,9 +54,25 @@ exponentIn most w = cond (exponent most w) (exponents.Is (exponentValue w)) expo
 unfoldable pub exponentFrom : (most : ℕ) → Sign → Word → Exponent
 exponentFrom most s w = cond (digits 1 2 w && leb (value w) most) (exponents.Is (withSign s (value w))) exponents.No
 
+-- a key
+unfoldable pub keyIn : Word → Key
+keyIn w = cond (key w) (keys.Is (keyValue w)) keys.No
+
+unfoldable pub keyFrom : Sign → Word → Key
+keyFrom s w = cond (digits 1 10 w && inKeys (withSign s (value w))) (keys.Is (withSign s (value w))) keys.No
+
+-- the greatest number behind a sign
+unfoldable pub keyLimit : Sign → ℕ
+keyLimit plus = 2147483647
+keyLimit minus = 2147483648
+
 -- a decimal
 unfoldable pub decimalIn : Word → Decimals
 decimalIn w = cond (decimal w) (decimals.Is (decimalValue w)) decimals.No
+
+-- an amount with a power of ten, in value from 0 to 1
+unfoldable pub shade : (amount power : ℤ) → Bool
+shade a p = let d : Decimal = record { amount = a; power = p } in inValue noLess 0 d && inValue noMore 1 d
 
 -- a power of ten, within its limit
 unfoldable pub powerIn : ℤ → Exponent

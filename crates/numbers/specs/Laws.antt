@@ -11,6 +11,7 @@ pub mod Raised
 pub mod Powered
 pub mod Decimal
 pub mod Exponent
+pub mod Keys
 pub mod Forms
 pub mod Lists
 pub mod Listed
@@ -20,6 +21,7 @@ pub mod Signs
 pub mod Walk
 pub mod Nth
 pub mod InValue
+pub mod Colours
 pub mod Sixteen
 pub mod Spelled
 pub mod Three

@@ -4,6 +4,7 @@ use mathlib.Core.Bool.{Bool, true, false, _&&_, _||_, not, cond}
 use Prim.Native.Nat.{ℕ, zero, suc, _+_, _*_, _-_, _^_}
 use lib.Dec.{eqb, leb}
 use lib.IntN.{ℤ, pos, negsuc, negℤ, natAbs, _-ℤ_, _*ℤ_}
+use lib.Signed.{leZ}
 use lib.ListN.{length, drop}
 use Rattle.grammar.specs.Bytes.{between, blank}
 use Rattle.grammar.specs.Document.{together}
@@ -97,6 +98,23 @@ exponent most w = let u = (unsigned false w) .rest in digits 1 2 u && leb (value
 unfoldable pub exponentValue : Word → ℤ
 exponentValue w = let u = unsigned false w in withSign (u .sign) (value (u .rest))
 
+-- Keys of labels: optional `-`, 1 to 10 digits, leading zeros count; from -2,147,483,648 to 2,147,483,647. Compared by value: `5` and `05`
+-- are one key, and so are `0` and `-0`.
+unfoldable pub keyValue : Word → ℤ
+keyValue w = let u = unsigned false w in withSign (u .sign) (value (u .rest))
+
+unfoldable pub inKeys : ℤ → Bool
+inKeys z = leZ (withSign minus 2147483648) z && leZ z (withSign plus 2147483647)
+
+unfoldable pub key : Word → Bool
+key w = digits 1 10 ((unsigned false w) .rest) && inKeys (keyValue w)
+
+unfoldable pub sameKey : ℤ → ℤ → Bool
+sameKey (pos m) (pos n) = eqb m n
+sameKey (pos m) (negsuc n) = false
+sameKey (negsuc m) (pos n) = false
+sameKey (negsuc m) (negsuc n) = eqb m n
+
 -- Decimals: optional `+` or `-`; 1 to 15 digits, at most one point with a digit on each side; then optionally `e` or `E`, an optional
 -- sign, one or two digits. Read as a whole number and one power of ten: the digits without the point, and the written power less the
 -- places. Nothing is shortened: `7.2E-1` is 72 with power -2, `2.0` is 20 with power -1.
@@ -171,11 +189,22 @@ unfoldable pub noMore : ℕ → ℤ → Bool
 noMore n (pos m) = leb m n
 noMore n (negsuc m) = true
 
+unfoldable pub noLess : ℕ → ℤ → Bool
+noLess n (pos m) = leb n m
+noLess n (negsuc m) = false
+
 unfoldable pub equalTo : ℕ → Word → Bool
 equalTo n w = inValue isWhole n (decimalValue w)
 
 unfoldable pub atMost : ℕ → Word → Bool
 atMost n w = inValue noMore n (decimalValue w)
+
+unfoldable pub atLeast : ℕ → Word → Bool
+atLeast n w = inValue noLess n (decimalValue w)
+
+-- Colours: a decimal, in value from 0 to 1.
+unfoldable pub colour : Word → Bool
+colour w = decimal w && (atLeast 0 w && atMost 1 w)
 
 -- Whole numbers up to n, parted by blanks.
 unfoldable pub wholes : ℕ → Word → Bool
@@ -198,6 +227,7 @@ sixteen w = let l = words w in all decimal l && lastRow (drop 12 l)
 
 unfoldable pub numbers : Unit {0}
 unfolding blank digit digits number value onFirst parts comma point filled words whole three volumeDimensions dimensionList commaValues
-    unsigned withSign exponent exponentValue mark decimalParts mantissa places powerParts writtenPower power inPower scaled scaledValue
-    decimal decimalValue up down inValue isWhole noMore equalTo atMost wholes values lastRow sixteen
+    unsigned withSign exponent exponentValue keyValue inKeys key sameKey mark decimalParts mantissa places powerParts writtenPower power
+    inPower scaled scaledValue decimal decimalValue up down inValue isWhole noMore noLess equalTo atMost atLeast colour wholes values
+    lastRow sixteen
 numbers = tt

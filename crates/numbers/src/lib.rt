@@ -24,6 +24,12 @@ pub enum Exponent {
     No,
 }
 
+// The key of a label.
+pub enum Key {
+    Is(i32),
+    No,
+}
+
 // A decimal as it is written: its digits with the sign, and one power of ten, the written one less the places. 2.0 is 20 with power -1.
 pub struct Decimal {
     pub amount: i64,

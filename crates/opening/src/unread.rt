@@ -1,4 +1,4 @@
-// Condition 5: a MatrixIndicesMap in a Matrix in the root is of kind PARCELS or LABELS.
+// Condition 5: a MatrixIndicesMap in a Matrix in the root is of kind PARCELS.
 use elements::children::first_child;
 use elements::children::next_child;
 use inside::attributes::attribute;
@@ -10,26 +10,16 @@ ghost use mathlib.Core.Path.{_≡_};
 ghost use Rattle.grammar.specs.Bytes.{ascii};
 ghost use Rattle.nodes.specs.Names.{named};
 ghost use Rattle.nodes.specs.Places.{Stands, the};
-ghost use Rattle.nodes.specs.Values.{value-there};
 ghost use Rattle.cifti.specs.Conditions.{kindNotRead};
-ghost use Rattle.maps.specs.Unread.{unreadWord, notRead};
+ghost use Rattle.maps.specs.Unread.{notRead};
 ghost use Rattle.opening.specs.Unread.{levelName, levelNotRead};
-
-fn kind_unread(text: &[u8], v: usize) -> bool
-    ensures { λ r. ⌜ r ≡ unreadWord (value-there (now (text .entry)) v) ⌝ }
-{
-    if value_is(text, v, b"CIFTI_INDEX_TYPE_PARCELS") {
-        return true;
-    }
-    value_is(text, v, b"CIFTI_INDEX_TYPE_LABELS")
-}
 
 fn map_not_read(text: &[u8], at: usize) -> bool
     requires { ⌜ Stands (now text) at ⌝ }
     ensures { λ r. ⌜ r ≡ notRead (the (now (text .entry)) at) ⌝ }
 {
     match attribute(text, at, b"IndicesMapToDataType") {
-        Found::At(v) => kind_unread(text, v),
+        Found::At(v) => value_is(text, v, b"CIFTI_INDEX_TYPE_PARCELS"),
         Found::Nothing => false,
     }
 }

@@ -1,4 +1,4 @@
--- CONDITIONS 10 TO 14, where 1 to 9 do not apply.
+-- CONDITIONS 10 TO 14, 24 AND 25, where 1 to 9 do not apply.
 use mathlib.Core.Path.{_≡_, refl, sym, ap, _∙_}
 use mathlib.Core.List.{List, [], _∷_, _++_}
 use mathlib.Core.Bool.{Bool, true, false, cond, _||_}
@@ -14,7 +14,7 @@ use Rattle.lists.specs.Refusals.{Refusal, positive}
 use Rattle.lists.specs.Laws.Refusals.{first-append}
 use Rattle.cifti.specs.Maps.{Map, lengthOf, brainMaps}
 use Rattle.cifti.specs.Conditions as C
-use Rattle.cifti.specs.Conditions.{_when_, roomShort, locationTwice}
+use Rattle.cifti.specs.Conditions.{_when_, roomShort, locationTwice, keyTwice, labelsTwice}
 use Rattle.maps.specs.Ready.{Ready, mapsAt}
 use Rattle.maps.specs.declared.survey.Maps.{Maps}
 use Rattle.models.specs.Judged.{modelRows, modelRefusal, Judges}
@@ -23,7 +23,8 @@ use Rattle.models.specs.declared.judge.Judged.{Judged}
 use Rattle.table.specs.Twice.{AllFine, ToldAll}
 
 abbrev pub rulesAfter : (room work : ℕ) → List Map → List Refusal
-rulesAfter room work l = 13 when roomShort room work l ∷ 14 when locationTwice l ∷ []
+rulesAfter room work l =
+    13 when roomShort room work l ∷ 14 when locationTwice l ∷ 24 when keyTwice l ∷ 25 when labelsTwice l ∷ []
 
 abbrev pub tableRules : (room work : ℕ) → List Map → List Refusal
 tableRules room work l = modelRows l ++ rulesAfter room work l
@@ -97,14 +98,32 @@ module _ {text : List ℕ} {maps : Maps} {j : Judged} (a : Asked text maps j) wh
             long = s .long;
           }
 
-          pub later-none : c ≡ false → Later text maps room work 0 after
-          unfolding C.first
-          later-none t = record {
-            told = sym (rule-all room (length work) (mapsAt text maps) ∙ rw (none, sym q ∙ f, sym (s .told) ∙ t));
-            long = s .long;
-          }
+          module _ (n : c ≡ false) {k : Bool} (key : k ≡ keyTwice (mapsAt text maps)) where
+            pub later-key : k ≡ true → Later text maps room work 24 after
+            unfolding C.first
+            later-key t = record {
+              told = sym (rule-all room (length work) (mapsAt text maps) ∙ rw (none, sym q ∙ f, sym (s .told) ∙ n, sym key ∙ t));
+              long = s .long;
+            }
 
-pub ruleset latering = (later-ready, later-judged, later-short, later-asks, later-twice, later-none, needs)
+            module _ (y : k ≡ false) {l : Bool} (labels : l ≡ labelsTwice (mapsAt text maps)) where
+              pub later-labels : l ≡ true → Later text maps room work 25 after
+              unfolding C.first
+              later-labels t = record {
+                told = sym (rule-all room (length work) (mapsAt text maps)
+                    ∙ rw (none, sym q ∙ f, sym (s .told) ∙ n, sym key ∙ y, sym labels ∙ t));
+                long = s .long;
+              }
+
+              pub later-none : l ≡ false → Later text maps room work 0 after
+              unfolding C.first
+              later-none t = record {
+                told = sym (rule-all room (length work) (mapsAt text maps)
+                    ∙ rw (none, sym q ∙ f, sym (s .told) ∙ n, sym key ∙ y, sym labels ∙ t));
+                long = s .long;
+              }
+
+pub ruleset latering = (later-ready, later-judged, later-short, later-asks, later-twice, later-key, later-labels, later-none, needs)
 
 -- ---- 14, decided already or not.
 

@@ -1,6 +1,8 @@
-// Conditions 10 to 14, where 1 to 9 do not apply.
+// Conditions 10 to 14, 24 and 25, where 1 to 9 do not apply.
 use describing::room_short;
 use filling::any_twice;
+use labels::key_twice;
+use labels::labels_twice;
 use maps::survey::Maps;
 use models::judge::Judged;
 ghost use lib.ListN.{length};
@@ -37,6 +39,12 @@ pub(crate) fn later_refusal(
     }
     if location_twice(text, maps, judged, work) {
         return 14;
+    }
+    if key_twice(text, maps) {
+        return 24;
+    }
+    if labels_twice(text, maps) {
+        return 25;
     }
     0
 }

@@ -10,7 +10,8 @@ use Rattle.grammar.specs.Document.{Attribute, Element}
 use Rattle.grammar.specs.Look.{Word, is, attributesOf, contentsOf, elements, textOf}
 use Rattle.schema.specs.Schema.{AttributeRow, rowName, isNamed, isWord, isNumber, attributeShaped, attributeNumbered, isText, childShaped}
 use Rattle.schema.specs.Schema.{orderly, kindOf, shaped, numbered}
-use Rattle.numbers.specs.Numbers.{whole, volumeDimensions, dimensionList, exponent, decimal}
+use Rattle.numbers.specs.Numbers as numbers
+use Rattle.numbers.specs.Numbers.{whole, volumeDimensions, dimensionList, exponent, decimal, colour}
 use Rattle.nodes.specs.Attributes.{Key, key}
 use Rattle.schema.specs.Walk.{atChild}
 use Rattle.shape.specs.Table.{rowsOf, textAt, orderAt, orderBy, textFormAt, formAt, attributeAt, attributesOfKind, linesOfKind}
@@ -30,7 +31,10 @@ nameListed r n = any (λ row. is (rowName row) n) r
 unfoldable pub keyListed : List AttributeRow → Key → Bool
 keyListed r (key n v) = nameListed r n
 
--- numbers by a form and its limits
+-- numbers by a form and its limits; those of labels, which have none
+unfoldable pub labelBy : (form : ℕ) → Word → Bool
+labelBy f w = cond (eqb f 7) (numbers.key w) (cond (eqb f 8) (colour w) true)
+
 unfoldable pub numberBy : (form low high third : ℕ) → Word → Bool
 numberBy f a b c w =
     cond (eqb f 2) (dimensionList w)
@@ -38,7 +42,7 @@ numberBy f a b c w =
     (cond (eqb f 4) (decimal w)
     (cond (eqb f 5) (exponent a w)
     (cond (eqb f 6) (volumeDimensions a b c w)
-    true))))
+    (labelBy f w)))))
 
 -- the fault of the attributes in the rows
 unfoldable pub attributesFault : List AttributeRow → List Attribute → ℕ

@@ -6,7 +6,7 @@ use Prim.Native.String.{String}
 use lib.Dec.{eqb, leb}
 use lib.ListN.{getD, length, take, drop}
 use Rattle.lists.specs.Lists.{countUp}
-use Rattle.numbers.specs.Numbers.{whole, volumeDimensions, dimensionList, exponent, decimal, wholes, sixteen}
+use Rattle.numbers.specs.Numbers.{whole, volumeDimensions, dimensionList, exponent, decimal, wholes, sixteen, key, colour}
 use Rattle.schema.specs.Schema.{Form, anyValue, word, number, AttributeRow, required, optional, TextForm, anyText, numbers, Times, once}
 use Rattle.schema.specs.Schema.{atMostOnce, anyTimes, atLeastOnce, neededBelow, Case, _⇒_, Which, always, chosen, chosenElse, ChildRow}
 use Rattle.schema.specs.Schema.{child, Order, anyOrder, inOrder, Row, branch, leaf}
@@ -121,7 +121,9 @@ module _ (t l : List ℕ) where
       (cond (eqb f 4) (number decimal)
       (cond (eqb f 5) (number (exponent a))
       (cond (eqb f 6) (number (volumeDimensions a b c))
-      anyValue)))))
+      (cond (eqb f 7) (number key)
+      (cond (eqb f 8) (number colour)
+      anyValue)))))))
 
   unfoldable pub formAt : ℕ → Form
   formAt f = formBy (formCell t f 0) (formCell t f 1) (formCell t f 2) (formCell t f 3)

@@ -6,7 +6,7 @@ ghost use Prim.Native.Nat.{_<_};
 ghost use Rattle.schema.specs.Schema.{isWord, isNumber};
 ghost use Rattle.nodes.specs.Values.{value-there};
 ghost use Rattle.shape.specs.Table.{formAt};
-ghost use Rattle.shape.specs.Parts.{valueFault, numberBy};
+ghost use Rattle.shape.specs.Parts.{valueFault, numberBy, labelBy};
 
 // The value is one of the named words, where its form is one of words.
 fn word_right(text: &[u8], v: usize, table: &[u32], letters: &[u8], form: usize) -> bool
@@ -18,6 +18,19 @@ fn word_right(text: &[u8], v: usize, table: &[u32], letters: &[u8], form: usize)
         let to = table::form_cell(table, form, 2);
         let front = table::form_cell(table, form, 3);
         return words::word_place(text, v, table, letters, front, from, to) < to;
+    }
+    true
+}
+
+// The value is a number of a label, of a form.
+fn label_by(text: &[u8], v: usize, form: usize) -> bool
+    ensures { λ r. ⌜ r ≡ labelBy form (value-there (now (text .entry)) v) ⌝ }
+{
+    if form == 7 {
+        return keys::is_key(text, v);
+    }
+    if form == 8 {
+        return keys::is_colour(text, v);
     }
     true
 }
@@ -41,7 +54,7 @@ fn number_by(text: &[u8], v: usize, form: usize, a: usize, b: usize, c: usize) -
     if form == 6 {
         return forms::are_lengths(text, v, a as u64, b as u64, c as u64);
     }
-    true
+    label_by(text, v, form)
 }
 
 // The value is a number or numbers of its form.

@@ -27,6 +27,10 @@ kinds =
     ∷ 10 ∷ 14 ∷ 13 ∷ 14 ∷ 0 ∷ 0  -- voxels
     ∷ 15 ∷ 15 ∷ 14 ∷ 14 ∷ 11 ∷ 0  -- vertexIndices
     ∷ 15 ∷ 15 ∷ 14 ∷ 14 ∷ 12 ∷ 0  -- voxelIndices
+    ∷ 1 ∷ 3 ∷ 14 ∷ 15 ∷ 0 ∷ 0  -- labels
+    ∷ 15 ∷ 15 ∷ 15 ∷ 18 ∷ 0 ∷ 0  -- labelledMap
+    ∷ 15 ∷ 15 ∷ 18 ∷ 19 ∷ 0 ∷ 0  -- labelTable
+    ∷ 15 ∷ 20 ∷ 19 ∷ 19 ∷ 1 ∷ 0  -- label
     ∷ []
 
 -- word; form; whether it may be left out
@@ -47,6 +51,11 @@ attributes =
     ∷ 10 ∷ 0 ∷ 0  -- ModelType
     ∷ 11 ∷ 8 ∷ 0  -- BrainStructure
     ∷ 12 ∷ 3 ∷ 0  -- SurfaceNumberOfVertices
+    ∷ 34 ∷ 13 ∷ 0  -- Key
+    ∷ 35 ∷ 14 ∷ 0  -- Red
+    ∷ 36 ∷ 14 ∷ 0  -- Green
+    ∷ 37 ∷ 14 ∷ 0  -- Blue
+    ∷ 38 ∷ 14 ∷ 0  -- Alpha
     ∷ []
 
 -- word; times; choice; kind
@@ -66,13 +75,18 @@ children =
     ∷ 25 ∷ 0 ∷ 0 ∷ 10  -- TransformationMatrixVoxelIndicesIJKtoXYZ
     ∷ 26 ∷ 0 ∷ 0 ∷ 13  -- VertexIndices
     ∷ 27 ∷ 0 ∷ 0 ∷ 14  -- VoxelIndicesIJK
+    ∷ 23 ∷ 2 ∷ 0 ∷ 16  -- NamedMap, of labels
+    ∷ 24 ∷ 0 ∷ 0 ∷ 4  -- MapName
+    ∷ 39 ∷ 0 ∷ 0 ∷ 17  -- LabelTable
+    ∷ 16 ∷ 1 ∷ 0 ∷ 2  -- MetaData
+    ∷ 40 ∷ 2 ∷ 0 ∷ 18  -- Label
     ∷ []
 
 -- word of the attribute; cases from, up to; else
 choices : List ℕ
 choices =
-    2 ∷ 0 ∷ 3 ∷ 0  -- the kind of a map
-    ∷ 10 ∷ 3 ∷ 5 ∷ 0  -- the kind of a model
+    2 ∷ 0 ∷ 4 ∷ 0  -- the kind of a map
+    ∷ 10 ∷ 4 ∷ 6 ∷ 0  -- the kind of a model
     ∷ []
 
 -- word; kind
@@ -81,8 +95,9 @@ cases =
     28 ∷ 5  -- brainModels
     ∷ 29 ∷ 6  -- series
     ∷ 30 ∷ 7  -- scalars
-    ∷ 31 ∷ 11  -- surface
-    ∷ 32 ∷ 12  -- voxels
+    ∷ 31 ∷ 15  -- labels
+    ∷ 32 ∷ 11  -- surface
+    ∷ 33 ∷ 12  -- voxels
     ∷ []
 
 -- what it is; limits, or of words from, up to, and their front part and 1
@@ -95,12 +110,14 @@ forms =
     ∷ 4 ∷ 0 ∷ 0 ∷ 0  -- a decimal
     ∷ 5 ∷ 30 ∷ 0 ∷ 0  -- an exponent
     ∷ 6 ∷ 65536 ∷ 65536 ∷ 65536  -- the sizes of a volume
-    ∷ 1 ∷ 33 ∷ 37 ∷ 0  -- a unit
-    ∷ 1 ∷ 38 ∷ 70 ∷ 38  -- a structure, behind word 37
+    ∷ 1 ∷ 41 ∷ 45 ∷ 0  -- a unit
+    ∷ 1 ∷ 46 ∷ 78 ∷ 46  -- a structure, behind word 45
     ∷ 1 ∷ 0 ∷ 0 ∷ 0  -- text: the sixteen
     ∷ 2 ∷ 1048575 ∷ 0 ∷ 0  -- text: vertices
     ∷ 2 ∷ 65535 ∷ 0 ∷ 0  -- text: voxels
-    ∷ 1 ∷ 28 ∷ 31 ∷ 0  -- a kind of map
+    ∷ 1 ∷ 28 ∷ 32 ∷ 0  -- a kind of map
+    ∷ 7 ∷ 0 ∷ 0 ∷ 0  -- a key
+    ∷ 8 ∷ 0 ∷ 0 ∷ 0  -- a colour
     ∷ []
 
 -- what stands in front of every name of a structure, and the rest of each name
@@ -121,8 +138,9 @@ vocabulary =
     ∷ "Matrix" ∷ "MetaData" ∷ "MatrixIndicesMap" ∷ "MD" ∷ "Name" ∷ "Value" ∷ "BrainModel" ∷ "Volume"  -- 15
     ∷ "NamedMap" ∷ "MapName" ∷ "TransformationMatrixVoxelIndicesIJKtoXYZ" ∷ "VertexIndices"  -- 23
     ∷ "VoxelIndicesIJK" ∷ "CIFTI_INDEX_TYPE_BRAIN_MODELS" ∷ "CIFTI_INDEX_TYPE_SERIES"  -- 27
-    ∷ "CIFTI_INDEX_TYPE_SCALARS" ∷ "CIFTI_MODEL_TYPE_SURFACE" ∷ "CIFTI_MODEL_TYPE_VOXELS"  -- 30
-    ∷ (units ++ (front ∷ rests))  -- 33, 37, 38
+    ∷ "CIFTI_INDEX_TYPE_SCALARS" ∷ "CIFTI_INDEX_TYPE_LABELS" ∷ "CIFTI_MODEL_TYPE_SURFACE" ∷ "CIFTI_MODEL_TYPE_VOXELS"  -- 30
+    ∷ "Key" ∷ "Red" ∷ "Green" ∷ "Blue" ∷ "Alpha" ∷ "LabelTable" ∷ "Label"  -- 34
+    ∷ (units ++ (front ∷ rests))  -- 41, 45, 46
 
 unfoldable pub letters : List ℕ
 unfolding vocabulary eachIn

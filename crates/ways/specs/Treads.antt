@@ -2,14 +2,17 @@
 use mathlib.Core.Path.{_≡_, refl, ap, sym, _∙_}
 use mathlib.Core.List.{List, [], _∷_}
 use mathlib.Core.Option.{Option, some}
-use mathlib.Core.Bool.{Bool, true, false, cond}
+use mathlib.Core.Bool.{Bool, true, false, cond, _&&_}
 use Prim.Native.Nat.{ℕ, zero, suc, _-_, _≤_, _<_}
 use Prim.Native.String.{String}
 use native.Mathlib.Omega.{arith}
+use native.Mathlib.Decide.{ℕ-discrete}
+use lib.Dec.{eqb}
 use lib.ListN.{length, drop, length-drop}
 use borrow.Author.Needs.{needs}
+use borrow.Author.Tests.{eqb-true, eq-eqb}
 use Rattle.lists.specs.Lists.{those}
-use Rattle.lists.specs.Laws.Booleans.{clash}
+use Rattle.lists.specs.Laws.Booleans.{clash, both-ways, and-left, and-right, and-both}
 use Rattle.grammar.specs.Bytes.{ascii}
 use Rattle.grammar.specs.Document.{Element}
 use Rattle.grammar.specs.Look.{is, nameOf}
@@ -154,6 +157,21 @@ module _ {test : ℕ → Bool} {n : ℕ} {text : List ℕ} {at more : ℕ} {kid 
             let s : more ≡ suc (more - 1) = omega arith in
             record { so-far = splits ∙ rw (t, e) (ap (λ i. nthPlace i (k ∷ those test (placesFrom text (next text k)))) s) }
 
+      -- both tests at once
+      pub seeking-here : (b && eqb more 0) ≡ true → At k ≡ childAt test n text at
+      seeking-here h = seeking-found (and-left b (eqb more 0) h) (eqb-true more 0 (and-right b (eqb more 0) h))
+
+      module _ (h : (b && eqb more 0) ≡ false) (t : b ≡ true) where
+        pub seeking-left : 1 ≤ more
+        seeking-left = by (ℕ-discrete more 0)
+          where
+            by : Dec (more ≡ 0) → 1 ≤ more
+            by (yes z) = both-ways (and-both t (eq-eqb more 0 z)) h
+            by (no z) = omega arith
+
+        pub seeking-on : {kid₁ : Kid} → kid₁ ≡ next text k → Seeking test n text at (more - 1) kid₁
+        seeking-on e = let u = seeking-left in seeking-more t (λ z. omega arith) e
+
 -- ---- By a name.
 
 unfoldable pub called : (text word : List ℕ) (k : ℕ) → Bool
@@ -172,7 +190,18 @@ pub named-found : (word : List ℕ) (n : ℕ) (text : List ℕ) (at : ℕ) {r : 
 unfolding childNamed
 named-found word n text at h = h
 
-pub ruleset seeking = (seeking-start, seeking-done, seeking-less, seeking-off, seeking-found, seeking-more, called-is, named-found, needs)
+pub ruleset seeking = (
+  seeking-start,
+  seeking-done,
+  seeking-less,
+  seeking-off,
+  seeking-here,
+  seeking-left,
+  seeking-on,
+  called-is,
+  named-found,
+  needs,
+)
 
 -- ---- The start tag.
 

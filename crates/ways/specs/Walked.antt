@@ -76,7 +76,7 @@ pub children-stood : {text : List ℕ} {at : ℕ} → Stands text at
 unfolding placesFrom
 children-stood {text} {at} st = let n = left-fits text (first text at) in row-stood (suc (length text)) (omega arith) (children st)
 
-those-stood : (p : Element → Bool) {text ks : List ℕ} {es : List Element} → Stood text ks es
+pub those-stood : (p : Element → Bool) {text ks : List ℕ} {es : List Element} → Stood text ks es
     → Stood text (those (λ k. p (the text k)) ks) (those p es)
 unfolding those
 those-stood p none = none

@@ -19,11 +19,12 @@ pub fn child_named(text: &[u8], at: usize, word: &[u8], n: u64) -> Found
     loop {
         match kid {
             Kid::Child(k) => {
+                let passes = name_is(text, k, word);
+                if passes & (left == 0) {
+                    return Found::At(k);
+                }
                 kid = next_child(text, k);
-                if name_is(text, k, word) {
-                    if left == 0 {
-                        return Found::At(k);
-                    }
+                if passes {
                     left -= 1;
                 }
             }

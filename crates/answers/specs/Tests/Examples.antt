@@ -28,7 +28,7 @@ one-not = refl
 
 -- 4 before 5: another version with a kind that is not read
 pub four : gives (1 ∷ 1 ∷ []) 4
-    (root "1" (ascii "<Matrix>" ⊹ map "0" "LABELS" [] ⊹ ascii "</Matrix>")
+    (root "1" (ascii "<Matrix>" ⊹ map "0" "PARCELS" [] ⊹ ascii "</Matrix>")
     ∷ root "1" (ascii "<x/>") ∷ root "2.0" [] ∷ ascii "<CIFTI/>" ∷ ascii "<cifti Version='2'/>" ∷ [])
     ≡ true
 unfolding cases
@@ -48,7 +48,7 @@ unfolding cases
 seventeen = refl
 
 -- 5, whatever else is wrong there
-pub five : gives (1 ∷ 1 ∷ []) 5 (doc (map "9" "LABELS" (ascii "x")) ∷ doc (name0 ⊹ map "" "PARCELS" []) ∷ []) ≡ true
+pub five : gives (1 ∷ 1 ∷ []) 5 (doc (map "9" "PARCELS" (ascii "x")) ∷ doc (name0 ⊹ map "" "PARCELS" []) ∷ []) ≡ true
 unfolding cases
 five = refl
 

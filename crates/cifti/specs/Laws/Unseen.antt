@@ -3,9 +3,10 @@ use mathlib.Core.Path.{_≡_, refl, sym, ap, ap₂, _∙_}
 use mathlib.Core.List.{List, [], _∷_, _++_}
 use mathlib.Core.Option.{Option, some}
 use mathlib.Core.Option
-use mathlib.Core.Bool.{Bool, false, _||_, not}
+use mathlib.Core.Bool.{Bool, false, not}
 use Prim.Native.Nat.{ℕ, zero, suc, _≤_}
 use Prim.Native.String.{String}
+use lib.IntN.{ℤ}
 use lib.ListN.{length}
 use borrow.Author.Tests.{le-ltb}
 use Rattle.lists.specs.Lists.{any, each, eachIn, isSome, there}
@@ -16,13 +17,16 @@ use Rattle.grammar.specs.Laws.Plain.{plain, name-erased, attr-erased, has-erase
 use Rattle.numbers.specs.Numbers.{values, commaValues}
 use Rattle.schema.specs.Schema.{shaped, numbered}
 use Rattle.schema.specs.Laws.Erased.{walk-erased, shaped-erased, numbered-erased}
+use Rattle.label_tables.specs.LabelTable.{labelsOf, keyOf, tableKeys}
 use Rattle.cifti.specs.Rows.{cifti, rows}
 use Rattle.cifti.specs.Maps.{Map, listedBy, modelOf, sizesBy, sizesOf, seriesOf, kindOfMap, dimensionsOf, countedName, mapOf}
-use Rattle.cifti.specs.Maps.{mapElements, mapsOf}
+use Rattle.cifti.specs.Maps.{tablesIn, mapElements, mapsOf}
 use Rattle.cifti.specs.Conditions.{_when_, textTooLong, noDocument, rootWrong, kindNotRead, shapeWrong, numberWrong, ofMaps}
-use Rattle.cifti.specs.Conditions.{conditionsOfHeader, conditionsOfTable, conditions, first, refusal}
+use Rattle.cifti.specs.Conditions.{conditionsOfHeader, conditionsOfTable, conditionsOfLabels, conditions, first, refusal}
 use Rattle.cifti.specs.Names.{noName, nameRefusal}
 use Rattle.cifti.specs.Answer.{answerBy, recordsBy, mapsIn, answerTo, recordsAfter}
+use Rattle.cifti.specs.Labels.{noTable, labelsRefusals, keysShort, keysRefusal, keysBy, keysGiven, keysCount, overwritten}
+use Rattle.cifti.specs.Labels.{keysAfterwards, noKey, labelRefusal}
 use Rattle.cifti.specs.Laws.Text.{Unseeing}
 
 -- ---- The maps.
@@ -69,6 +73,35 @@ series-erased e = rw (
 counted-erased : (s : String) (e : Element) → length (children s (plain e)) ≡ length (children s e)
 counted-erased s e = ap length (children-erased s e) ∙ length-each plain (children s e)
 
+-- children of children
+below-erased : (s t : String) (e : Element)
+    → eachIn (children t) (children s (plain e)) ≡ each plain (eachIn (children t) (children s e))
+unfolding each eachIn
+below-erased s t e = ap (eachIn (children t)) (children-erased s e) ∙ go (children s e)
+  where
+    append : (k l : List Element) → each plain (k ++ l) ≡ each plain k ++ each plain l
+    append [] l = refl
+    append (a ∷ k) l = ap (λ m. plain a ∷ m) (append k l)
+
+    go : (l : List Element) → eachIn (children t) (each plain l) ≡ each plain (eachIn (children t) l)
+    go [] = refl
+    go (a ∷ l) = ap₂ (λ k m. k ++ m) (children-erased t a) (go l) ∙ sym (append (children t a) (eachIn (children t) l))
+
+key-erased : (e : Element) → keyOf (plain e) ≡ keyOf e
+unfolding keyOf
+key-erased e = rw (attr-erased "Key" e) refl
+
+keys-erased : (e : Element) → tableKeys (plain e) ≡ tableKeys e
+unfolding tableKeys labelsOf
+keys-erased e = ap (each keyOf) (children-erased "Label" e) ∙ each-each plain keyOf (children "Label" e)
+    ∙ each-same key-erased (children "Label" e)
+
+tables-erased : (e : Element) → each tableKeys (tablesIn (plain e)) ≡ each tableKeys (tablesIn e)
+unfolding tablesIn
+tables-erased e = ap (each tableKeys) (below-erased "NamedMap" "LabelTable" e)
+    ∙ each-each plain tableKeys (eachIn (children "LabelTable") (children "NamedMap" e))
+    ∙ each-same keys-erased (eachIn (children "LabelTable") (children "NamedMap" e))
+
 map-erased : (e : Element) → mapOf (plain e) ≡ mapOf e
 unfolding mapOf dimensionsOf kindOfMap
 map-erased e =
@@ -79,20 +112,12 @@ map-erased e =
       sizes-erased e,
       series-erased e,
       counted-erased (countedName (kindOfMap e)) e,
+      tables-erased e,
     ) refl
 
 elements-erased : (e : Element) → mapElements (plain e) ≡ each plain (mapElements e)
-unfolding mapElements each eachIn
-elements-erased e = ap (eachIn (children "MatrixIndicesMap")) (children-erased "Matrix" e) ∙ go (children "Matrix" e)
-  where
-    append : (k l : List Element) → each plain (k ++ l) ≡ each plain k ++ each plain l
-    append [] l = refl
-    append (a ∷ k) l = ap (λ m. plain a ∷ m) (append k l)
-
-    go : (l : List Element) → eachIn (children "MatrixIndicesMap") (each plain l) ≡ each plain (eachIn (children "MatrixIndicesMap") l)
-    go [] = refl
-    go (a ∷ l) = ap₂ (λ k m. k ++ m) (children-erased "MatrixIndicesMap" a) (go l)
-        ∙ sym (append (children "MatrixIndicesMap" a) (eachIn (children "MatrixIndicesMap") l))
+unfolding mapElements
+elements-erased e = below-erased "Matrix" "MatrixIndicesMap" e
 
 pub maps-erased : (e : Element) → mapsOf (plain e) ≡ mapsOf e
 unfolding mapsOf
@@ -107,11 +132,10 @@ root-erased e = rw (name-erased e, has-erased "Version" "2" e) refl
 kinds-erased : (e : Element) → kindNotRead (plain e) ≡ kindNotRead e
 unfolding kindNotRead
 kinds-erased e = ap (any old) (elements-erased e) ∙ any-each plain old (mapElements e)
-    ∙ any-same (λ m. ap₂ (λ a b. a || b) (has-erased "IndicesMapToDataType" "CIFTI_INDEX_TYPE_PARCELS" m)
-    (has-erased "IndicesMapToDataType" "CIFTI_INDEX_TYPE_LABELS" m)) (mapElements e)
+    ∙ any-same (has-erased "IndicesMapToDataType" "CIFTI_INDEX_TYPE_PARCELS") (mapElements e)
   where
     old : Element → Bool
-    old m = has "IndicesMapToDataType" "CIFTI_INDEX_TYPE_PARCELS" m || has "IndicesMapToDataType" "CIFTI_INDEX_TYPE_LABELS" m
+    old m = has "IndicesMapToDataType" "CIFTI_INDEX_TYPE_PARCELS" m
 
 shape-erased : (e : Element) → shapeWrong (plain e) ≡ shapeWrong e
 unfolding shapeWrong
@@ -143,17 +167,21 @@ table-erased : (room work : ℕ) (e : Element) → conditionsOfTable room work (
 unfolding conditionsOfTable ofMaps there
 table-erased room work e = rw (maps-erased e) refl
 
+labels-erased : (e : Element) → conditionsOfLabels (some (plain e)) ≡ conditionsOfLabels (some e)
+unfolding conditionsOfLabels ofMaps there
+labels-erased e = rw (maps-erased e) refl
+
 -- ---- The terms that the promises are made of.
 
 module _ (lengths : List ℕ) (room work : ℕ) where
   refusal-bytes : (n : ℕ) (e : Element) → refusal lengths n room work (some (plain e)) ≡ refusal lengths n room work (some e)
   unfolding refusal conditions
-  refusal-bytes n e = ap₂ (λ a b. first (a ++ b)) (header-erased lengths n e) (table-erased room work e)
+  refusal-bytes n e = rw (header-erased lengths n e, table-erased room work e, labels-erased e) refl
 
   refusal-size : (m n : ℕ) → m ≤ 16777216 → n ≤ 16777216 → (d : Option Element)
       → refusal lengths m room work d ≡ refusal lengths n room work d
   unfolding refusal conditions
-  refusal-size m n h k d = ap (λ a. first (a ++ conditionsOfTable room work d)) (header-size lengths m n d h k)
+  refusal-size m n h k d = ap (λ a. first (a ++ (conditionsOfTable room work d ++ conditionsOfLabels d))) (header-size lengths m n d h k)
 
 answer-bytes : (number : ℕ) (e : Element) → answerBy number (some (plain e)) ≡ answerBy number (some e)
 unfolding answerBy mapsIn
@@ -188,3 +216,56 @@ name-unseeing lengths d i = record {
   bytes = λ n e. ap₂ (λ a l. first (a ++ (18 when noName d i l ∷ []))) (header-erased lengths n e) (maps-erased e);
   size = λ m n h k e. ap (λ a. first (a ++ (18 when noName d i (mapsOf e) ∷ []))) (header-size lengths m n (some e) h k);
 }
+
+-- ---- Labels: a name's part is the caller's own bytes; all else is told by the document.
+
+module _ (lengths : List ℕ) (d i : ℕ) where
+  before-bytes : (n : ℕ) (e : Element) → labelsRefusals lengths n d i (some (plain e)) ≡ labelsRefusals lengths n d i (some e)
+  unfolding labelsRefusals ofMaps there
+  before-bytes n e = rw (header-erased lengths n e, labels-erased e, maps-erased e) refl
+
+  before-size : (m n : ℕ) → m ≤ 16777216 → n ≤ 16777216 → (e : Option Element)
+      → labelsRefusals lengths m d i e ≡ labelsRefusals lengths n d i e
+  unfolding labelsRefusals
+  before-size m n h k e =
+      ap (λ a. a ++ (conditionsOfLabels e ++ (18 when ofMaps (noTable d i) e ∷ []))) (header-size lengths m n e h k)
+
+  pub keys-unseeing : (room : ℕ) → Unseeing (λ size. keysRefusal lengths size d i room)
+  unfolding keysRefusal ofMaps there
+  keys-unseeing room = record {
+    bytes = λ n e. rw (before-bytes n e, maps-erased e) refl;
+    size = λ m n h k e. ap (λ a. first (a ++ (17 when keysShort d i room (mapsOf e) ∷ []))) (before-size m n h k (some e));
+  }
+
+  pub label-unseeing : (key : ℤ) → Unseeing (λ size. labelRefusal lengths size d i key)
+  unfolding labelRefusal ofMaps there
+  label-unseeing key = record {
+    bytes = λ n e. rw (before-bytes n e, maps-erased e) refl;
+    size = λ m n h k e. ap (λ a. first (a ++ (19 when noKey d i key (mapsOf e) ∷ []))) (before-size m n h k (some e));
+  }
+
+  keys-bytes : (number : ℕ) (e : Element) → keysBy number d i (some (plain e)) ≡ keysBy number d i (some e)
+  unfolding keysBy mapsIn
+  keys-bytes zero e = rw (maps-erased e) refl
+  keys-bytes (suc n) e = refl
+
+  pub given-unseeing : (room : ℕ) → Unseeing (λ size. keysGiven lengths size d i room)
+  unfolding keysGiven
+  given-unseeing room = record {
+    bytes = λ n e. rw (keys-unseeing room .bytes n e) (keys-bytes (keysRefusal lengths n d i room (some e)) e);
+    size = λ m n h k e. ap (λ r. keysBy r d i (some e)) (keys-unseeing room .size m n h k e);
+  }
+
+  pub count-unseeing : (room : ℕ) → Unseeing (λ size. keysCount lengths size d i room)
+  unfolding keysCount
+  count-unseeing room = record {
+    bytes = λ n e. ap length (given-unseeing room .bytes n e);
+    size = λ m n h k e. ap length (given-unseeing room .size m n h k e);
+  }
+
+  pub after-unseeing : (keys : List ℤ) → Unseeing (keysAfterwards lengths d i keys)
+  unfolding keysAfterwards
+  after-unseeing keys = record {
+    bytes = λ n e. ap (λ l. overwritten l keys) (given-unseeing (length keys) .bytes n e);
+    size = λ m n h k e. ap (λ l. overwritten l keys) (given-unseeing (length keys) .size m n h k e);
+  }

@@ -9,6 +9,7 @@ use Rattle.grammar.specs.Look.{looks}
 use Rattle.grammar.specs.Laws.Plain.{erasing}
 use Rattle.numbers.specs.Numbers.{numbers}
 use Rattle.schema.specs.Schema.{schema}
+use Rattle.label_tables.specs.LabelTable.{labelWords}
 use Rattle.records.specs.Record.{recordWords}
 use Rattle.cifti.specs.Words.{namedWords}
 use Rattle.cifti.specs.Rows.{rowTable}
@@ -21,8 +22,8 @@ use Rattle.cifti.specs.Tests.CaseA.{caseA}
 use Rattle.cifti.specs.declared.answer.Kind.the-variants.{Brain, Scalars}
 
 unfoldable pub cases : Unit {0}
-unfolding computing lists looks erasing numbers schema recordWords namedWords rowTable mapWords conditionWords nameWords answerWords
-    modelWords
+unfolding computing lists looks erasing numbers schema recordWords labelWords namedWords rowTable mapWords conditionWords nameWords
+    answerWords modelWords
 cases = tt
 
 -- three places, which hold 9, and two

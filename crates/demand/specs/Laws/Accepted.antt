@@ -1,5 +1,5 @@
--- ACCEPTED EXACTLY WHEN: the number of every answer that `Reads` allows is 0 if and only if none of 1 to 14 applies; else it is the
--- smallest that applies. So is the number of a map name, with 1 to 9 and 18.
+-- ACCEPTED EXACTLY WHEN: the number of every answer that `Reads` allows is 0 if and only if none of 1 to 14, 24 and 25 applies; else it is
+-- the smallest that applies. So is the number of a map name, with 1 to 9 and 18.
 use mathlib.Core.Path.{_≡_, refl, sym, ap, _∙_, subst}
 use mathlib.Core.List.{List, [], _∷_}
 use mathlib.Core.Option.{Option}
@@ -14,7 +14,7 @@ use Rattle.lists.specs.Refusals.{Refusal, _when_, first, Applies, here, later, 
 use Rattle.lists.specs.Laws.Booleans.{or-first, or-second}
 use Rattle.lists.specs.Laws.Refusals.{Given, accepted, smallest, first-given, above}
 use Rattle.grammar.specs.Document.{Element}
-use Rattle.cifti.specs.Conditions.{conditions, conditionsOfHeader, conditionsOfTable, refusal}
+use Rattle.cifti.specs.Conditions.{conditions, conditionsOfHeader, conditionsOfTable, conditionsOfLabels, refusal}
 use Rattle.cifti.specs.Names.{nameRefusal, NameNumber}
 use Rattle.cifti.specs.Text.{DocumentOf, Answers}
 use Rattle.cifti.specs.Answer.{answerTo, Reads}
@@ -54,7 +54,7 @@ module _ (text : List ℕ) (rows : Option Element → List Refusal) (up : (d : O
 pub accepted-exactly : {text lengths records work : List ℕ} {a : Answer} {after cleared : List ℕ}
     → Reads text lengths records work a after cleared
     → SmallestOf (Condition text lengths (length records) (length work)) (a .number)
-unfolding answerTo refusal conditions conditionsOfHeader conditionsOfTable rising
+unfolding answerTo refusal conditions conditionsOfHeader conditionsOfTable conditionsOfLabels rising
 accepted-exactly {text} {lengths} {records} {work} r =
     by-rows text (conditions lengths (length text) (length records) (length work)) (λ d. refl)
     (record {
@@ -82,8 +82,8 @@ among (here {n}) = or-first (eqb n n) _ (eq-eqb n n refl)
 among {n = n} (later {r = r} a) = or-second (eqb n (numberOf r)) (among a)
 
 pub condition-numbers : (text lengths : List ℕ) (room work : ℕ) {n : ℕ} → Condition text lengths room work n
-    → any (eqb n) (1 ∷ 2 ∷ 3 ∷ 4 ∷ 5 ∷ 6 ∷ 7 ∷ 8 ∷ 9 ∷ 10 ∷ 11 ∷ 12 ∷ 13 ∷ 14 ∷ []) ≡ true
-unfolding conditions conditionsOfHeader conditionsOfTable each numberOf
+    → any (eqb n) (1 ∷ 2 ∷ 3 ∷ 4 ∷ 5 ∷ 6 ∷ 7 ∷ 8 ∷ 9 ∷ 10 ∷ 11 ∷ 12 ∷ 13 ∷ 14 ∷ 24 ∷ 25 ∷ []) ≡ true
+unfolding conditions conditionsOfHeader conditionsOfTable conditionsOfLabels each numberOf
 condition-numbers text lengths room work c = among (c .applies)
 
 pub name-numbers : (text lengths : List ℕ) (dimension index : ℕ) {n : ℕ} → NameCondition text lengths dimension index n

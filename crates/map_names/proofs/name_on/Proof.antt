@@ -9,7 +9,6 @@ name-on-spec =
     (λ c. search on-map)
     (λ c κs. search on-map)
     (λ c. search on-map)
-    (λ c. search on-map)
     (λ c κs. search on-map)
     (λ c. search on-map)
     (λ c. search on-map)

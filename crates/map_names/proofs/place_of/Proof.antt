@@ -7,6 +7,7 @@ place-of-spec =
     tie.close
     (tie.spec
     (λ c. search answering)
+    (λ c. search answering)
     (λ c κs. search answering)
     (λ c. search answering)
     (λ c κs. search answering)

@@ -25,9 +25,9 @@ use Rattle.schema.specs.Schema.{Form, anyValue, word, number, AttributeRow, req
 use Rattle.schema.specs.Schema.{always, chosen, Case, _⇒_, Row, branch, leaf, Order, anyOrder, Times, once, kindOf, kindBy, kindChosen}
 use Rattle.schema.specs.Schema.{kindAmong, childRows, everywhere, shaped, numbered, attributesShaped, attributeShaped, attributeNumbered}
 use Rattle.schema.specs.Schema.{isWord, isNumber, isText, childrenShaped, childShaped, standsSo, orderly, neededBelow, atLeastOnce}
-use Rattle.schema.specs.Schema.{atMostOnce, anyTimes}
+use Rattle.schema.specs.Schema.{atMostOnce}
 use Rattle.cifti.specs.Words.{structures, units, mostLength, mostVoxel}
-use Rattle.cifti.specs.Rows.{ElementKind, cifti, matrix, metaData, md, words, brainModels, series, scalars, namedMap, volume, transform}
+use Rattle.cifti.specs.Rows.{ElementKind, cifti, matrix, metaData, md, brainModels, series, volume, transform}
 use Rattle.cifti.specs.Rows.{surface, voxels, vertexIndices, voxelIndices, mapKinds, modelTypes, mapAttributes, seriesAttributes}
 use Rattle.cifti.specs.Rows.{modelAttributes, rows}
 use Rattle.maps.specs.Laws.Good.{Good, GoodAs, good-as, AllGood, none-left, one-good, shape-here, number-here, good-children}
@@ -57,12 +57,6 @@ brainRows =
     child "BrainModel" atLeastOnce (chosen "ModelType" modelTypes)
     ∷ child "Volume" (neededBelow "VoxelIndicesIJK") (always volume)
     ∷ []
-
-abbrev pub scalarRows : List (ChildRow ElementKind)
-scalarRows = child "NamedMap" anyTimes (always namedMap) ∷ []
-
-abbrev pub namedRows : List (ChildRow ElementKind)
-namedRows = child "MapName" once (always words) ∷ child "MetaData" atMostOnce (always metaData) ∷ []
 
 -- ---- The kind of a MatrixIndicesMap, of a BrainModel.
 
@@ -283,10 +277,6 @@ pub rows-series : rows series ≡ branch (mapAttributes ++ seriesAttributes) any
 unfolding rows
 rows-series = refl
 
-pub rows-scalars : rows scalars ≡ branch mapAttributes anyOrder scalarRows
-unfolding rows
-rows-scalars = refl
-
 rows-volume : rows volume ≡ branch (required "VolumeDimensions" (number (volumeDimensions mostLength mostLength mostLength)) ∷ []) anyOrder
     (child "TransformationMatrixVoxelIndicesIJKtoXYZ" once (always transform) ∷ [])
 unfolding rows
@@ -311,6 +301,3 @@ series-facts g = record {
   exponent-in = in-form g _ _ _ rows-series 5 (omega arith) "SeriesExponent" (exponent 30) refl;
   unit = in-words g _ _ _ rows-series 6 (omega arith) "SeriesUnit" units refl;
 }
-
-pub scalars-children : {e : Element} → Good scalars e → AllGood scalarRows (elements (contentsOf e))
-scalars-children g = good-children g _ _ _ rows-scalars

@@ -25,12 +25,12 @@ use Rattle.numbers.specs.Numbers.{dimensionList}
 use Rattle.schema.specs.Schema.{AttributeRow, required, number, Row, branch, leaf, ChildRow, child, Case, _⇒_, kindOf, kindChosen}
 use Rattle.schema.specs.Schema.{kindAmong}
 use Rattle.cifti.specs.Words.{numberIn}
-use Rattle.cifti.specs.Rows.{ElementKind, brainModels, series, scalars, mapKinds, mapAttributes, rows}
+use Rattle.cifti.specs.Rows.{ElementKind, brainModels, series, mapKinds, mapAttributes, rows}
 use Rattle.cifti.specs.Maps.{kindWords, kindIn, caseKind, wordsOfKinds, allKinds, kindPlace, same-kind, rowFor, kindOfMap, isBrain}
-use Rattle.cifti.specs.Maps.{isSeries, isScalars}
+use Rattle.cifti.specs.Maps.{isSeries}
 use Rattle.cifti.specs.Laws.Kinds.{kind-named, no-word}
 use Rattle.cifti.specs.declared.answer.Kind.{Kind}
-use Rattle.cifti.specs.declared.answer.Kind.the-variants.{None, Brain, Series, Scalars}
+use Rattle.cifti.specs.declared.answer.Kind.the-variants.{None, Brain, Series}
 use Rattle.maps.specs.Laws.Good.{Good, GoodAs, good-as, AllGood, none-left, one-good, good-children}
 use Rattle.maps.specs.Laws.Kinds.{is-word, matrixRows, map-word, no-row, in-form}
 use Rattle.maps.specs.Fields.{word-at, found-value, found-none}
@@ -123,10 +123,6 @@ module _ {e : Element} (g : GoodMap e) where
   unfolding rowFor
   good-series h = good-at h
 
-  pub good-scalars : kindOfMap e ≡ Scalars → Good scalars e
-  unfolding rowFor
-  good-scalars h = good-at h
-
 -- ---- Children that the row does not name: there are none.
 
 unfoldable pub rowsName : String → List (ChildRow ElementKind) → Bool
@@ -180,9 +176,6 @@ brain-kind k h = same-kind k Brain h
 
 pub series-kind : (k : Kind) → isSeries k ≡ true → k ≡ Series
 series-kind k h = same-kind k Series h
-
-pub scalars-kind : (k : Kind) → isScalars k ≡ true → k ≡ Scalars
-scalars-kind k h = same-kind k Scalars h
 
 -- ---- As its attribute tells it.
 

@@ -21,10 +21,10 @@ use Rattle.numbers.specs.declared.Whole.{Whole}
 use Rattle.numbers.specs.declared.Decimal.{Decimal}
 
 -- a power of ten is not 0, nor is what it multiplies made 0 by it
-ten : (k : ℕ) → 1 ≤ 10 ^ k
+pub ten : (k : ℕ) → 1 ≤ 10 ^ k
 ten k = powers 0 k (omega arith)
 
-grows : (m p : ℕ) → 1 ≤ p → m ≤ m * p
+pub grows : (m p : ℕ) → 1 ≤ p → m ≤ m * p
 grows m (suc p) h = let e : m * suc p ≡ m + m * p = omega arith in omega arith
 
 same-zero : (m p : ℕ) → 1 ≤ p → eqb (m * p) 0 ≡ eqb m 0
@@ -139,14 +139,14 @@ module _ (a : ℤ) (f : SFits w64 a) where
       go (negsuc m) k = refl
 
   module _ (h : ltZ (toZ w64 (ofZ w64 a)) (pos 0) ≡ false) where
-    not-less : (m : ℕ) × (a ≡ pos m) × (m < 2 ^ 63)
+    pub not-less : (m : ℕ) × (a ≡ pos m) × (m < 2 ^ 63)
     not-less = go a f (rw (toZ-ofZ w64 a f) at h)
       where
         go : (z : ℤ) → SFits w64 z → ltZ z (pos 0) ≡ false → (m : ℕ) × (z ≡ pos m) × (m < 2 ^ 63)
         go (pos m) g k = (m, refl, g .sfits)
         go (negsuc m) g k = absurd (true≢false k)
 
-    as-it-is : toZ w64 (ofZ w64 a) ≡ pos (not-less .0)
+    pub as-it-is : toZ w64 (ofZ w64 a) ≡ pos (not-less .0)
     as-it-is = toZ-ofZ w64 a f ∙ not-less .1
 
     pub amount-cast : T (nonNeg (toZ w64 (ofZ w64 a))) × Fits w64 (natAbs (toZ w64 (ofZ w64 a)))

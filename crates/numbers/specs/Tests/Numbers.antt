@@ -12,7 +12,7 @@ use Rattle.numbers.specs.Numbers.{numbers, digit, digits, number, value,
 use Rattle.numbers.specs.Numbers.{volumeDimensions, dimensionList, commaValues, unsigned, withSign, exponent, exponentValue}
 use Rattle.numbers.specs.Numbers.{mark, decimalParts, mantissa, places, powerParts, writtenPower, power, inPower, scaled, scaledValue}
 use Rattle.numbers.specs.Numbers.{decimal, decimalValue, up, down, inValue, isWhole, noMore, equalTo, atMost, wholes, values, lastRow}
-use Rattle.numbers.specs.Numbers.{sixteen}
+use Rattle.numbers.specs.Numbers.{sixteen, keyValue, inKeys, key, sameKey, noLess, atLeast, colour}
 
 -- every text of the list passes, or none does
 abbrev Every : (Word → Bool) → List String → Type 0
@@ -62,6 +62,26 @@ exponents-no = refl
 exponent-values : (exponentValue (ascii "-30") ≡ negsuc 29) × ((exponentValue (ascii "-0") ≡ pos 0) × (exponentValue (ascii "07") ≡ pos 7))
 unfolding numbers
 exponent-values = (refl, (refl, refl))
+
+-- keys: both limits, from both sides; ten digits and eleven; one key by value
+keys-yes : Every key ("0" ∷ "-0" ∷ "5" ∷ "05" ∷ "0000000005" ∷ "-0000000005" ∷ "2147483647" ∷ "-2147483648" ∷ [])
+unfolding numbers lists
+keys-yes = refl
+
+keys-no : None key ("" ∷ "-" ∷ "2147483648" ∷ "-2147483649" ∷ "9999999999" ∷ "00000000005" ∷ "-00000000000" ∷ "+5" ∷ "--5" ∷ " 5" ∷ "5 "
+    ∷ "5.0" ∷ "1E0" ∷ "a" ∷ [])
+unfolding numbers lists
+keys-no = refl
+
+key-values : (keyValue (ascii "-2147483648") ≡ negsuc 2147483647) × ((keyValue (ascii "2147483647") ≡ pos 2147483647)
+    × ((keyValue (ascii "05") ≡ pos 5) × ((keyValue (ascii "-0") ≡ pos 0) × (keyValue (ascii "-1") ≡ negsuc 0))))
+unfolding numbers
+key-values = (refl, (refl, (refl, (refl, refl))))
+
+one-key : (sameKey (keyValue (ascii "5")) (keyValue (ascii "05")) ≡ true) × ((sameKey (keyValue (ascii "0")) (keyValue (ascii "-0")) ≡ true)
+    × ((sameKey (keyValue (ascii "5")) (keyValue (ascii "-5")) ≡ false) × (sameKey (keyValue (ascii "0")) (keyValue (ascii "-1")) ≡ false)))
+unfolding numbers
+one-key = (refl, (refl, (refl, refl)))
 
 decimals-yes : Every decimal ("0" ∷ "-0" ∷ "-0.0" ∷ "+2.0" ∷ "2.0" ∷ "123456789012345" ∷ "1.23456789012345" ∷ "-12345678901234.5"
     ∷ "000000000000000" ∷ [])
@@ -143,3 +163,14 @@ sixteens-no : None sixteen ("" ∷ "1 0 0 0 0 1 0 0 0 0 1 0 0 0 0" ∷ "1 0 0 0 
     ∷ "1E46 0 0 0 0 1 0 0 0 0 1 0 0 0 0 1" ∷ [])
 unfolding numbers lists
 sixteens-no = refl
+
+-- colours: 0 and 1 are in, however they are written
+colours-yes : Every colour ("0" ∷ "-0" ∷ "0.0" ∷ "-0.0E45" ∷ "1" ∷ "+1.0" ∷ "1e0" ∷ "10e-1" ∷ "0.1E1" ∷ "0.5" ∷ "1E-45" ∷ "0.99999999999999"
+    ∷ "100000000000000E-14" ∷ "0E45" ∷ [])
+unfolding numbers lists
+colours-yes = refl
+
+colours-no : None colour ("1.0000001" ∷ "2" ∷ "1E1" ∷ "11e-1" ∷ "1E45" ∷ "-1" ∷ "-0.1" ∷ "-1E-45" ∷ "100000000000001E-14" ∷ "" ∷ "a" ∷ "1E46"
+    ∷ "0E46" ∷ ".5" ∷ "1." ∷ "0x1" ∷ "1 " ∷ [])
+unfolding numbers lists
+colours-no = refl

@@ -1,4 +1,4 @@
--- THE WHOLE: conditions 1 to 9, then 10 to 14, then the table and the answer.
+-- THE WHOLE: conditions 1 to 9, then 10 to 14, 24 and 25, then the table and the answer.
 use mathlib.Core.Path.{_≡_, refl, sym, ap, _∙_}
 use mathlib.Core.List.{List, [], _∷_, _++_}
 use mathlib.Core.Option.{Option, some}
@@ -17,7 +17,7 @@ use Rattle.grammar.specs.Document.{Element}
 use Rattle.grammar.specs.Parser.{parse}
 use Rattle.cifti.specs.Maps.{Map, mapsOf, lengthOf, brainMaps}
 use Rattle.cifti.specs.Conditions as C
-use Rattle.cifti.specs.Conditions.{conditionsOfHeader, conditionsOfTable, refusal, ofMaps, roomShort}
+use Rattle.cifti.specs.Conditions.{conditionsOfHeader, conditionsOfTable, conditionsOfLabels, refusal, ofMaps, roomShort}
 use Rattle.cifti.specs.Answer.{acceptedWith, refusedWith, answerBy, recordsBy, stretches, filledWith, Reads}
 use Rattle.cifti.specs.Answer as A
 use Rattle.cifti.specs.Laws.Theorems.{reads-by, answerOf, recordsOf, numberOf}
@@ -36,14 +36,15 @@ use Rattle.survey.specs.declared.header.Survey.{Survey}
 -- 1 to 9 first, then the rest
 number-by : (text lengths records work : List ℕ)
     → numberOf text lengths records work
-    ≡ cond (eqb (headerNumber text lengths) 0) (C.first (conditionsOfTable (length records) (length work) (parse text)))
-    (headerNumber text lengths)
+    ≡ cond (eqb (headerNumber text lengths) 0)
+    (C.first (conditionsOfTable (length records) (length work) (parse text) ++ conditionsOfLabels (parse text))) (headerNumber text lengths)
 unfolding numberOf refusal C.conditions conditionsOfHeader positive
 number-by text lengths records work = first-append (conditionsOfHeader lengths (length text) (parse text))
-    (conditionsOfTable (length records) (length work) (parse text)) refl
+    (conditionsOfTable (length records) (length work) (parse text) ++ conditionsOfLabels (parse text)) refl
 
-later-by : (room work : ℕ) (e : Element) → C.first (conditionsOfTable room work (some e)) ≡ tableRule room work (mapsOf e)
-unfolding conditionsOfTable ofMaps there tableRule
+later-by : (room work : ℕ) (e : Element)
+    → C.first (conditionsOfTable room work (some e) ++ conditionsOfLabels (some e)) ≡ tableRule room work (mapsOf e)
+unfolding conditionsOfTable conditionsOfLabels ofMaps there tableRule
 later-by room work e = refl
 
 -- a number of refusal, given

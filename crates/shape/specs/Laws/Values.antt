@@ -11,59 +11,58 @@ use Rattle.lists.specs.Lists.{countUp}
 use Rattle.grammar.specs.Look.{Word, textOf}
 use Rattle.nodes.specs.Places.{the}
 use Rattle.nodes.specs.Texts.{text-of, text-law}
-use Rattle.numbers.specs.Numbers.{whole, volumeDimensions, dimensionList, exponent, decimal, wholes, sixteen}
+use Rattle.numbers.specs.Numbers.{whole, volumeDimensions, dimensionList, exponent, decimal, wholes, sixteen, key, colour}
 use Rattle.schema.specs.Schema.{Form, word, number, anyValue, isWord, isNumber, isText}
 use Rattle.schema.specs.Words.{numberIn}
 use Rattle.shape.specs.Table.{frontedAt, formBy, formAt, formCell, textFormBy, textFormAt}
 use Rattle.shape.specs.Faults.{fault}
-use Rattle.shape.specs.Parts.{amongWords, numberBy, textNumbered, textFault}
+use Rattle.shape.specs.Parts.{amongWords, numberBy, labelBy, textNumbered, textFault}
 use Rattle.shape.specs.Asked.{Known}
 use Rattle.shape.specs.Laws.Searches.{among-found}
 
--- FORMS
-word-free : (x : Word) (a b c : ℕ) (b₂ b₃ b₄ b₅ b₆ : Bool)
-    → isWord (cond b₂ (number dimensionList)
-    (cond b₃ (number (whole a b)) (cond b₄ (number decimal)
-    (cond b₅ (number (exponent a)) (cond b₆ (number (volumeDimensions a b c)) anyValue))))) x
-    ≡ true
-unfolding isWord
-word-free x a b c true b₃ b₄ b₅ b₆ = refl
-word-free x a b c false true b₄ b₅ b₆ = refl
-word-free x a b c false false true b₅ b₆ = refl
-word-free x a b c false false false true b₆ = refl
-word-free x a b c false false false false true = refl
-word-free x a b c false false false false false = refl
+-- FORMS: those that are no words, by whether each is the one
+abbrev numbersBy : (a b c : ℕ) (b₂ b₃ b₄ b₅ b₆ b₇ b₈ : Bool) → Form
+numbersBy a b c b₂ b₃ b₄ b₅ b₆ b₇ b₈ =
+    cond b₂ (number dimensionList) (cond b₃ (number (whole a b)) (cond b₄ (number decimal) (cond b₅ (number (exponent a))
+    (cond b₆ (number (volumeDimensions a b c)) (cond b₇ (number key) (cond b₈ (number colour) anyValue))))))
 
-number-so : (x : Word) (a b c : ℕ) (b₂ b₃ b₄ b₅ b₆ : Bool)
-    → isNumber (cond b₂ (number dimensionList)
-    (cond b₃ (number (whole a b)) (cond b₄ (number decimal)
-    (cond b₅ (number (exponent a)) (cond b₆ (number (volumeDimensions a b c)) anyValue))))) x
-    ≡ cond b₂ (dimensionList x) (cond b₃ (whole a b x)
-    (cond b₄ (decimal x) (cond b₅ (exponent a x) (cond b₆ (volumeDimensions a b c x) true))))
+word-free : (x : Word) (a b c : ℕ) (b₂ b₃ b₄ b₅ b₆ b₇ b₈ : Bool) → isWord (numbersBy a b c b₂ b₃ b₄ b₅ b₆ b₇ b₈) x ≡ true
+unfolding isWord
+word-free x a b c true b₃ b₄ b₅ b₆ b₇ b₈ = refl
+word-free x a b c false true b₄ b₅ b₆ b₇ b₈ = refl
+word-free x a b c false false true b₅ b₆ b₇ b₈ = refl
+word-free x a b c false false false true b₆ b₇ b₈ = refl
+word-free x a b c false false false false true b₇ b₈ = refl
+word-free x a b c false false false false false true b₈ = refl
+word-free x a b c false false false false false false true = refl
+word-free x a b c false false false false false false false = refl
+
+number-so : (x : Word) (a b c : ℕ) (b₂ b₃ b₄ b₅ b₆ b₇ b₈ : Bool)
+    → isNumber (numbersBy a b c b₂ b₃ b₄ b₅ b₆ b₇ b₈) x
+    ≡ cond b₂ (dimensionList x) (cond b₃ (whole a b x) (cond b₄ (decimal x) (cond b₅ (exponent a x)
+    (cond b₆ (volumeDimensions a b c x) (cond b₇ (key x) (cond b₈ (colour x) true))))))
 unfolding isNumber
-number-so x a b c true b₃ b₄ b₅ b₆ = refl
-number-so x a b c false true b₄ b₅ b₆ = refl
-number-so x a b c false false true b₅ b₆ = refl
-number-so x a b c false false false true b₆ = refl
-number-so x a b c false false false false true = refl
-number-so x a b c false false false false false = refl
+number-so x a b c true b₃ b₄ b₅ b₆ b₇ b₈ = refl
+number-so x a b c false true b₄ b₅ b₆ b₇ b₈ = refl
+number-so x a b c false false true b₅ b₆ b₇ b₈ = refl
+number-so x a b c false false false true b₆ b₇ b₈ = refl
+number-so x a b c false false false false true b₇ b₈ = refl
+number-so x a b c false false false false false true b₈ = refl
+number-so x a b c false false false false false false true = refl
+number-so x a b c false false false false false false false = refl
 
 module _ (t l : List ℕ) (x : Word) where
   number-form : (f a b c : ℕ) → isNumber (formBy t l f a b c) x ≡ numberBy f a b c x
-  unfolding formBy numberBy isNumber
+  unfolding formBy numberBy labelBy isNumber
   number-form f a b c = go (eqb f 1) refl
     where
       go : (o : Bool) → eqb f 1 ≡ o
           → isNumber (cond o (word (countUp (frontedAt t l c) a (b - a)))
-          (cond (eqb f 2) (number dimensionList)
-          (cond (eqb f 3) (number (whole a b))
-          (cond (eqb f 4) (number decimal)
-          (cond (eqb f 5) (number (exponent a)) (cond (eqb f 6) (number (volumeDimensions a b c)) anyValue)))))) x
-          ≡ cond (eqb f 2) (dimensionList x)
-          (cond (eqb f 3) (whole a b x)
-          (cond (eqb f 4) (decimal x) (cond (eqb f 5) (exponent a x) (cond (eqb f 6) (volumeDimensions a b c x) true))))
+          (numbersBy a b c (eqb f 2) (eqb f 3) (eqb f 4) (eqb f 5) (eqb f 6) (eqb f 7) (eqb f 8))) x
+          ≡ cond (eqb f 2) (dimensionList x) (cond (eqb f 3) (whole a b x) (cond (eqb f 4) (decimal x) (cond (eqb f 5) (exponent a x)
+          (cond (eqb f 6) (volumeDimensions a b c x) (cond (eqb f 7) (key x) (cond (eqb f 8) (colour x) true))))))
       go true e = let z : f ≡ 1 = eqb-true f 1 e in rw z
-      go false e = number-so x a b c (eqb f 2) (eqb f 3) (eqb f 4) (eqb f 5) (eqb f 6)
+      go false e = number-so x a b c (eqb f 2) (eqb f 3) (eqb f 4) (eqb f 5) (eqb f 6) (eqb f 7) (eqb f 8)
 
   module _ (f : ℕ) {id : ℕ} (i : id ≡ formCell t f 0) where
     pub right-words : id ≡ 1 → {from : ℕ} → from ≡ formCell t f 1 → {to : ℕ} → to ≡ formCell t f 2 → {front : ℕ}
@@ -75,7 +74,8 @@ module _ (t l : List ℕ) (x : Word) where
     pub right-free : (id ≡ 1 → ⊥) → true ≡ isWord (formAt t l f) x
     unfolding formAt formBy
     right-free o = sym (rw (← i, ne-eqb id 1 o)
-        (word-free x (formCell t f 1) (formCell t f 2) (formCell t f 3) (eqb id 2) (eqb id 3) (eqb id 4) (eqb id 5) (eqb id 6)))
+        (word-free x (formCell t f 1) (formCell t f 2) (formCell t f 3) (eqb id 2) (eqb id 3) (eqb id 4) (eqb id 5) (eqb id 6) (eqb id 7)
+        (eqb id 8)))
 
     pub right-number : {a : ℕ} → a ≡ formCell t f 1 → {b : ℕ} → b ≡ formCell t f 2 → {c : ℕ} → c ≡ formCell t f 3 → {r : Bool}
         → r ≡ numberBy id a b c x → r ≡ isNumber (formAt t l f) x
@@ -103,11 +103,26 @@ module _ (x : Word) (f a b c : ℕ) where
   unfolding numberBy
   by-three e h = rw e h
 
-  pub by-none : (f ≡ 2 → ⊥) → (f ≡ 3 → ⊥) → (f ≡ 4 → ⊥) → (f ≡ 5 → ⊥) → (f ≡ 6 → ⊥) → true ≡ numberBy f a b c x
+  pub by-label : {t : Bool} → (f ≡ 2 → ⊥) → (f ≡ 3 → ⊥) → (f ≡ 4 → ⊥) → (f ≡ 5 → ⊥) → (f ≡ 6 → ⊥) → t ≡ labelBy f x → t ≡ numberBy f a b c x
   unfolding numberBy
-  by-none p q r s u = rw (ne-eqb f 2 p, ne-eqb f 3 q, ne-eqb f 4 r, ne-eqb f 5 s, ne-eqb f 6 u)
+  by-label p q r s u h = h ∙ sym (rw (ne-eqb f 2 p, ne-eqb f 3 q, ne-eqb f 4 r, ne-eqb f 5 s, ne-eqb f 6 u) refl)
 
-pub ruleset forming = (right-words, right-free, right-number, by-dimensions, by-whole, by-decimal, by-exponent, by-three, by-none, needs)
+pub ruleset forming = (right-words, right-free, right-number, by-dimensions, by-whole, by-decimal, by-exponent, by-three, by-label, needs)
+
+module _ (x : Word) (f : ℕ) where
+  pub by-key : {t : Bool} → f ≡ 7 → t ≡ key x → t ≡ labelBy f x
+  unfolding labelBy
+  by-key e h = rw e h
+
+  pub by-colour : {t : Bool} → f ≡ 8 → t ≡ colour x → t ≡ labelBy f x
+  unfolding labelBy
+  by-colour e h = rw e h
+
+  pub by-none : (f ≡ 7 → ⊥) → (f ≡ 8 → ⊥) → true ≡ labelBy f x
+  unfolding labelBy
+  by-none p q = rw (ne-eqb f 7 p, ne-eqb f 8 q)
+
+pub ruleset labelling = (by-key, by-colour, by-none, needs)
 
 -- A VALUE'S FAULT
 module _ {s a : Bool} (n : Bool) (e : a ≡ s) where

@@ -9,6 +9,7 @@ map-not-read-spec =
     (λ c. search unread-one)
     (λ c κs. search unread-one)
     (λ c. search unread-one)
+    (λ c. search unread-one)
     (λ c κs. search unread-one)
     (λ c. search unread-one)
     (λ c. search unread-one)

@@ -16,4 +16,5 @@ number-by-spec =
     (λ c. search forming)
     (λ c κs. search forming)
     (λ c. search forming)
+    (λ c κs. search forming)
     (λ c. search forming))

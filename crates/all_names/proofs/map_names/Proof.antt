@@ -1,0 +1,18 @@
+use Rattle.all_names.specs.Laws.Placed.{placingAll}
+use Rattle.all_names.proofs.map_names.Statement.{statement}
+use Rattle.all_names.proofs.map_names.Tie as tie
+
+pub map-names-spec : {M : Type 1} → statement M
+map-names-spec =
+    tie.close
+    (tie.spec
+    (λ c κs. search placingAll)
+    (λ c. search placingAll)
+    (λ c κs. search placingAll)
+    (λ c. search placingAll)
+    (λ c κs. search placingAll)
+    (λ c κs. search placingAll)
+    (λ c. search placingAll)
+    (λ c. search placingAll)
+    (λ c. search placingAll)
+    (λ c. search placingAll))

@@ -1,0 +1,32 @@
+use Rattle.ways.specs.Treads.{ahead}
+use Rattle.all_names.specs.Laws.Walk.{filling, Filling}
+use Rattle.all_names.proofs.put_names.Statement.{statement}
+use Rattle.all_names.proofs.put_names.Tie as tie
+
+abbrev Inv-loop : tie.InvT-loop
+Inv-loop text at places₀ n₀ kid₀ t7 places n kid = Filling text at places₀ n places kid
+
+abbrev μ-loop : tie.MeasureT-loop
+μ-loop text at places₀ n₀ kid₀ t7 places n kid = ahead text kid
+
+pub put-names-spec : {M : Type 1} → statement M
+put-names-spec =
+    tie.close
+    (tie.spec
+    Inv-loop
+    μ-loop
+    (λ c κs. search filling)
+    (λ c. search filling)
+    (λ c. search filling)
+    (λ c κs. search filling)
+    (λ c. search filling)
+    (λ c κs. search filling)
+    (λ c κs. search filling)
+    (λ c. search filling)
+    (λ c. search filling)
+    (λ c. search filling)
+    (λ c. search filling)
+    (λ c. search filling)
+    (λ c. search filling)
+    (λ c. search filling)
+    (λ c. search filling))

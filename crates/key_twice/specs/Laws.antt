@@ -1,0 +1,4 @@
+pub mod Codes
+pub mod Windows
+pub mod Walks
+pub mod Turns

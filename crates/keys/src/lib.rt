@@ -1,0 +1,79 @@
+// The numbers of a label: its key, and its colours.
+
+// A decimal in value from 0 to 1.
+mod shade;
+
+use nodes::Char;
+use number_lists::chars::char_at;
+use number_values::part_at;
+use number_values::signed;
+use numbers::Decimals;
+use numbers::Key;
+use numbers::Part;
+use numbers::Source;
+use shade::in_shade;
+ghost use mathlib.Core.Path.{_≡_};
+ghost use Rattle.nodes.specs.Values.{value-there};
+ghost use Rattle.numbers.specs.Numbers.{key, colour};
+ghost use Rattle.numbers.specs.Answers.{keyIn, keyFrom, keyLimit, signIf};
+ghost use Rattle.numbers.specs.Stream.{stream};
+
+// The greatest number behind a sign.
+fn key_limit(negative: bool) -> u64
+    ensures { λ r. ⌜ r ≡ keyLimit (signIf negative) ⌝ }
+{
+    if negative {
+        return 2147483648;
+    }
+    2147483647
+}
+
+// The key whose digits begin at `at`, its sign being read.
+fn key_from(text: &[u8], at: usize, source: Source, negative: bool) -> Key
+    ensures { λ r. ⌜ r ≡ keyFrom (signIf negative) (stream source (now (text .entry)) at) ⌝ }
+{
+    match part_at(text, at, source, 10, 0, key_limit(negative)) {
+        Part::Last(n) => Key::Is(signed(negative, n) as i32),
+        Part::Comma(_, _) => Key::No,
+        Part::No => Key::No,
+    }
+}
+
+// The key that the value at `at` writes.
+pub fn key_value(text: &[u8], at: usize) -> Key
+    ensures { λ r. ⌜ r ≡ keyIn (value-there (now (text .entry)) at) ⌝ }
+{
+    if text.len() <= at {
+        return Key::No;
+    }
+    let source = Source::Value(text[at]);
+    match char_at(text, at + 1, source) {
+        Char::Byte(b, j) => {
+            if b == b'-' {
+                return key_from(text, j, source, true);
+            }
+            key_from(text, at + 1, source, false)
+        }
+        Char::End => Key::No,
+    }
+}
+
+// The value at `at` is a key.
+pub fn is_key(text: &[u8], at: usize) -> bool
+    ensures { λ r. ⌜ r ≡ key (value-there (now (text .entry)) at) ⌝ }
+{
+    match key_value(text, at) {
+        Key::Is(_) => true,
+        Key::No => false,
+    }
+}
+
+// The value at `at` is a colour.
+pub fn is_colour(text: &[u8], at: usize) -> bool
+    ensures { λ r. ⌜ r ≡ colour (value-there (now (text .entry)) at) ⌝ }
+{
+    match decimals::decimal_value(text, at) {
+        Decimals::Is(d) => in_shade(d.amount, d.power),
+        Decimals::No => false,
+    }
+}

@@ -1,0 +1,1 @@
+// Tables of labels, computed. No functions: see specs/.

@@ -1,0 +1,13 @@
+use Rattle.label_reader.specs.Keys.{writing}
+use Rattle.label_reader.proofs.keys.keys_from.Statement.{statement}
+use Rattle.label_reader.proofs.keys.keys_from.Tie as tie
+
+pub keys-from-spec : {M : Type 1} → statement M
+keys-from-spec =
+    tie.close
+    (tie.spec
+    (λ c κs. search writing)
+    (λ c. search writing)
+    (λ c κs. search writing)
+    (λ c. search writing)
+    (λ c. search writing))

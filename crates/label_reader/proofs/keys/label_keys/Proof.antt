@@ -1,0 +1,18 @@
+use Rattle.label_reader.specs.Keys.{keying}
+use Rattle.label_reader.proofs.keys.label_keys.Statement.{statement}
+use Rattle.label_reader.proofs.keys.label_keys.Tie as tie
+
+pub label-keys-spec : {M : Type 1} → statement M
+label-keys-spec =
+    tie.close
+    (tie.spec
+    (λ c κs. search keying)
+    (λ c. search keying)
+    (λ c. search keying)
+    (λ c κs. search keying)
+    (λ c. search keying)
+    (λ c κs. search keying)
+    (λ c. search keying)
+    (λ c. search keying)
+    (λ c. search keying)
+    (λ c. search keying))

@@ -1,0 +1,5 @@
+pub mod Way
+pub mod Before
+pub mod Keys
+pub mod Names
+pub mod Laws

@@ -1,0 +1,24 @@
+-- THE WAY TO A LABEL: the Matrix, the MatrixIndicesMap that lists the dimension, its NamedMap of the index, from 0, the LabelTable, and the
+-- first Label that has the key.
+use mathlib.Core.List.{List, [], _∷_, _++_}
+use mathlib.Core.Bool.{Bool, _&&_}
+use Prim.Native.Nat.{ℕ}
+use lib.IntN.{ℤ}
+use Rattle.grammar.specs.Document.{Element}
+use Rattle.grammar.specs.Look.{is, nameOf}
+use Rattle.numbers.specs.Numbers.{sameKey}
+use Rattle.label_tables.specs.LabelTable.{keyOf}
+use Rattle.ways.specs.Way.{Step, step}
+use Rattle.map_names.specs.Way.{wayInMap}
+
+unfoldable pub tableWay : (dimension index : ℕ) → List Step
+tableWay d i = wayInMap "LabelTable" d i
+
+unfoldable pub labelOf : (key : ℤ) → Element → Bool
+labelOf k e = is "Label" (nameOf e) && sameKey k (keyOf e)
+
+unfoldable pub toLabel : (key : ℤ) → List Step
+toLabel k = step (labelOf k) 0 ∷ []
+
+unfoldable pub labelWay : (dimension index : ℕ) (key : ℤ) → List Step
+labelWay d i k = tableWay d i ++ toLabel k

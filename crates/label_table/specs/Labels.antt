@@ -1,0 +1,71 @@
+-- A TABLE OF LABELS AT A PLACE, on any bytes: the places of its Labels, and the keys that they write. What is in no form reads as 0; the
+-- laws say what it all is where an element stands whose keys are in form.
+use mathlib.Core.List.{List, [], _∷_}
+use mathlib.Core.Bool.{Bool}
+use Prim.Native.Nat.{ℕ}
+use lib.IntN.{ℤ, pos}
+use Rattle.lists.specs.Lists.{those, twoOf, each}
+use Rattle.grammar.specs.Bytes.{ascii}
+use Rattle.nodes.specs.Children.{first, next}
+use Rattle.nodes.specs.Found.{value-at-name}
+use Rattle.nodes.specs.declared.Kid.{Kid}
+use Rattle.nodes.specs.declared.Kid.the-variants.{Child, Done}
+use Rattle.nodes.specs.declared.Found.{Found}
+use Rattle.numbers.specs.Numbers.{sameKey}
+use Rattle.numbers.specs.Answers.{keyIn}
+use Rattle.numbers.specs.declared.Key.{Key}
+use Rattle.numbers.specs.declared.Key.the-variants.{Is, No}
+use Rattle.ways.specs.Walked.{placesFrom, nthPlace}
+use Rattle.ways.specs.Treads.{called}
+
+-- ---- The Labels.
+
+-- their places, from a child on; and all
+unfoldable pub labelsFrom : List ℕ → Kid → List ℕ
+labelsFrom text kid = those (called text (ascii "Label")) (placesFrom text kid)
+
+unfoldable pub labels : List ℕ → ℕ → List ℕ
+labels text at = labelsFrom text (first text at)
+
+-- the first of them, and the next
+unfoldable pub headOf : List ℕ → Kid
+headOf [] = Done
+headOf (k ∷ l) = Child k
+
+unfoldable pub labelFrom : List ℕ → Kid → Kid
+labelFrom text kid = headOf (labelsFrom text kid)
+
+unfoldable pub firstLabel : List ℕ → ℕ → Kid
+firstLabel text at = labelFrom text (first text at)
+
+unfoldable pub nextLabel : List ℕ → ℕ → Kid
+nextLabel text k = labelFrom text (next text k)
+
+-- ---- Their keys.
+
+unfoldable pub orZero : Key → ℤ
+orZero (Is k) = k
+orZero No = pos 0
+
+unfoldable pub keyHere : List ℕ → ℕ → ℤ
+keyHere text k = orZero (keyIn (value-at-name text k (ascii "Key")))
+
+unfoldable pub keysAt : List ℕ → ℕ → List ℤ
+keysAt text at = each (keyHere text) (labels text at)
+
+-- keys written over the front of a list, as many as there is room for; what lies past them is as it was
+unfoldable pub filledWith : List ℤ → List ℤ → List ℤ
+filledWith [] s = s
+filledWith (k ∷ ks) [] = []
+filledWith (k ∷ ks) (x ∷ s) = k ∷ filledWith ks s
+
+-- the first Label that has the key
+unfoldable pub has-key : ℤ → List ℕ → ℕ → Bool
+has-key key text k = sameKey key (keyHere text k)
+
+unfoldable pub labelWith : ℤ → List ℕ → ℕ → Found
+labelWith key text at = nthPlace 0 (those (has-key key text) (labels text at))
+
+-- a key stands twice
+unfoldable pub twiceAt : List ℕ → ℕ → Bool
+twiceAt text at = twoOf sameKey (keysAt text at)

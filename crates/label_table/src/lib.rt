@@ -1,0 +1,10 @@
+// The table of labels at a place: its keys in order, the label of a key, whether a key stands twice.
+
+// The labels of a table, one after the other, and the key of each.
+pub mod labels;
+// The keys, counted and written into a lent slice; the label of a key.
+mod listed;
+
+pub use listed::fill_keys;
+pub use listed::key_count;
+pub use listed::label_with;

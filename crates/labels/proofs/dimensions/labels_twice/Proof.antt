@@ -1,0 +1,29 @@
+use Rattle.labels.specs.Dimensions.{tallying}
+use Prim.Native.Nat.{_-_}
+use Rattle.maps.specs.Ready.{mapsAt}
+use Rattle.maps.specs.Over.{Over}
+use Rattle.labels.specs.Dimensions.{Tally}
+use Rattle.labels.proofs.dimensions.labels_twice.Statement.{statement}
+use Rattle.labels.proofs.dimensions.labels_twice.Tie as tie
+
+abbrev Inv-loop : tie.InvT-loop
+Inv-loop text maps n₀ i₀ n i = Over text maps (Tally (mapsAt text maps) n) i
+
+abbrev μ-loop : tie.MeasureT-loop
+μ-loop text maps n₀ i₀ n i = maps .count - i
+
+pub labels-twice-spec : {M : Type 1} → statement M
+labels-twice-spec =
+    tie.close
+    (tie.spec
+    Inv-loop
+    μ-loop
+    (λ c. search tallying)
+    (λ c κs. search tallying)
+    (λ c κs. search tallying)
+    (λ c. search tallying)
+    (λ c κs. search tallying)
+    (λ c. search tallying)
+    (λ c. search tallying)
+    (λ c. search tallying)
+    (λ c. search tallying))

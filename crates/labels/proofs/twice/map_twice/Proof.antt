@@ -1,0 +1,12 @@
+use Rattle.labels.specs.Twice.{mapping}
+use Rattle.labels.proofs.twice.map_twice.Statement.{statement}
+use Rattle.labels.proofs.twice.map_twice.Tie as tie
+
+pub map-twice-spec : {M : Type 1} → statement M
+map-twice-spec =
+    tie.close
+    (tie.spec
+    (λ c κs. search mapping)
+    (λ c κs. search mapping)
+    (λ c. search mapping)
+    (λ c. search mapping))

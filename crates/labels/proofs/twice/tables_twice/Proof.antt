@@ -1,0 +1,34 @@
+use Rattle.labels.specs.Twice.{asking}
+use Rattle.grammar.specs.Bytes.{ascii}
+use Rattle.ways.specs.Treads.{ahead}
+use Rattle.labels.specs.Twice.{namedTwice}
+use Rattle.labels.specs.Twice.{Asking}
+use Rattle.labels.proofs.twice.tables_twice.Statement.{statement}
+use Rattle.labels.proofs.twice.tables_twice.Tie as tie
+
+abbrev Inv-loop : tie.InvT-loop
+Inv-loop text at kid₀ t5 kid = Asking text (ascii "NamedMap") (namedTwice text) at kid
+
+abbrev μ-loop : tie.MeasureT-loop
+μ-loop text at kid₀ t5 kid = ahead text kid
+
+pub tables-twice-spec : {M : Type 1} → statement M
+tables-twice-spec =
+    tie.close
+    (tie.spec
+    Inv-loop
+    μ-loop
+    (λ c κs. search asking)
+    (λ c. search asking)
+    (λ c. search asking)
+    (λ c κs. search asking)
+    (λ c. search asking)
+    (λ c κs. search asking)
+    (λ c κs. search asking)
+    (λ c. search asking)
+    (λ c. search asking)
+    (λ c. search asking)
+    (λ c. search asking)
+    (λ c. search asking)
+    (λ c. search asking)
+    (λ c. search asking))
