@@ -5,25 +5,29 @@ REASONS = {
     2: "text above 16,777,216 bytes",
     3: "no document of the markup grammar writes this text",
     4: "the root is not CIFTI with Version 2",
-    5: "a map of kind PARCELS or LABELS",
+    5: "a map of kind PARCELS",
     6: "an element, attribute, child, named word or non-blank text is not as the format says",
-    7: "a number's form, limit or fixed value, or the sixteen of the transformation",
+    7: "a number's form, limit or fixed value, or the sixteen of the transformation; a colour outside 0 to 1",
     8: "some dimension is not listed exactly once, or a listed one does not exist",
     9: "a map's length is not that of a dimension it applies to",
     10: "two models of a map share type and structure",
     11: "a model does not list as many numbers as it says, or an index of the map is in no range or in two",
     12: "a vertex or voxel is outside its surface or volume",
-    13: "records lent are fewer than all stretches, or work space than the longest",
-    14: "a vertex twice in a model, or a voxel twice in a map",
+    13: "records lent are fewer than all stretches, or work space than the longest; of two sheets: work space than "
+        "both counts",
+    14: "a vertex twice in a model, or a voxel twice in a map; of two sheets: a location twice in one of them",
     15: "sheet count 0 or above 1,048,576; unpacking: also not a sheet",
     16: "an illegal record",
     17: "the slice to be written is too short",
-    18: "map name: no such dimension, it is not scalars, or the index is not below its length",
-    19: "find: no such record; asking a list: no such index or record",
+    18: "map name: no such dimension, it is neither scalars nor labels, or the index is not below its length; keys and "
+        "label names: the same of a dimension that is not labels",
+    19: "find: no such record; asking a list: no such index or record; label name: no such key",
     20: "a file under 544 bytes; its size field or magic is not NIfTI-2's single file; a data offset below 544",
     21: "a file's dim[0] is not 6 or 7, one of dim[1] to dim[4] is not 1, or one of dim[5] to dim[dim[0]] is below 1",
     22: "the extensions up to a file's data offset are no list, or the data offset lies past its bytes",
     23: "a file has no extension of code 32",
+    24: "a key twice in one label table",
+    25: "the labels maps together list more than one dimension",
     26: "making a list: a type and structure comes back after another; asking: a bad list",
 }
 
@@ -38,7 +42,7 @@ WHAT_TO_DO = {
         "header written without them, in UTF-8. A compressed file must be unpacked first.",
     4: "It is a file of another format, or CIFTI-1, which is not read. Convert CIFTI-1 with Workbench: `wb_command "
         "-file-convert -cifti-version-convert`.",
-    5: "Nothing is wrong with the file. This kind of map is not read by this library.",
+    5: "Nothing is wrong with the file. Maps of parcels are not read by this library.",
     6: "An element, or an attribute, child or word in it, is misspelt, missing or too many. The sender's program must "
         "write it as CIFTI-2 says.",
     7: "Look for signs, blanks beside commas, more than seven digits, and a transformation whose last row is not 0 0 "
@@ -73,6 +77,9 @@ WHAT_TO_DO = {
     22: "The file is cut off, or was damaged on its way. Fetch it again and compare its size with the sender's.",
     23: "The file carries no CIFTI header, perhaps since a program that does not know CIFTI wrote it anew. Ask for the "
         "original.",
+    24: "Two Labels of one map have the same Key, however it is written (`5` and `05` are one). The sender must say "
+        "which name and colour the key has.",
+    25: "A matrix has labels along one dimension alone. Ask the sender what the other dimension is.",
     26: "Make the list from the records of one brain map's stretch, as they were read; and ask with the list as it was "
         "made.",
 }

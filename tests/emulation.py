@@ -15,7 +15,8 @@ ROOT = HERE.parent
 SHAPES = {"dz_read": "bnNNN", "dz_map_name": "bnvvN", "dz_find": "nvN", "dz_pack": "nBN", "dz_unpack": "bNN",
           "dz_front": "bN", "dz_read_file": "bNNN", "dz_file_map_name": "bvvN",
           "dz_model_list": "nNN", "dz_structure_at": "nvN", "dz_index_of": "nnvN",
-          "dz_compare": "bbNN", "dz_tail": "bbNN", "dz_map_names": "bnvNN"}
+          "dz_compare": "bbNN", "dz_tail": "bbNN", "dz_map_names": "bnvNN",
+          "dz_label_keys": "bnvvKN", "dz_label_name": "bnvvvN"}
 
 
 def needed():
@@ -71,15 +72,15 @@ class Library:
         for kind in shape:
             one = given.pop(0)
             if kind == "v":
-                question.append(struct.pack("<Q", one))
+                question.append(struct.pack("<Q", one % (1 << 64)))
                 continue
             count = given.pop(0)
             if one is None:  # an empty slice whose pointer is null
                 question.append(b"\xff" * 8)
                 continue
-            size = count if kind in "bB" else 8 * count
+            size = count if kind in "bB" else (4 if kind == "K" else 8) * count
             question += [struct.pack("<Q", count), bytes(memoryview(one).cast("B")[:size]) if size else b""]
-            if kind in "BN":
+            if kind in "BNK":
                 written.append((one, size))
         self.server.stdin.write(b"".join(question))
         self.server.stdin.flush()

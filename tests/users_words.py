@@ -23,6 +23,15 @@ def tool():
     return module
 
 
+LABEL = b'<Label Key="5" Red="0" Green="0.5" Blue="1" Alpha="1">five</Label>'
+
+
+def labelled(labels):
+    """Case A with labels in place of scalars, each map with a table of these Labels."""
+    table = b"</MapName><LabelTable>" + labels + b"</LabelTable>"
+    return paper.CASE_A.replace(b"TYPE_SCALARS", b"TYPE_LABELS").replace(b"</MapName>", table)
+
+
 class Words(unittest.TestCase):
     def test_they_are_the_header_s_everywhere(self):
         words = tool().reasons()
@@ -34,7 +43,7 @@ class Words(unittest.TestCase):
 
     def test_each_example_gives_its_number(self):
         known = {"dzwonolin": dzwonolin, "A": paper.CASE_A, "R": paper.RECORDS_A, "B": stations.TEXT,
-                 "F": stations.FILES["station.dscalar.nii"]}
+                 "F": stations.FILES["station.dscalar.nii"], "L": LABEL, "labelled": labelled}
         for number, (_, example, _) in tool().sections().items():
             with self.subTest(number=number):
                 self.assertEqual(eval(example, dict(known)), number)

@@ -12,11 +12,11 @@ void free(void *memory);
 void _exit(int status);
 
 #define NONE (~(uint64_t)0)
-enum { GUARD = 64, MARK = 0xA5, ARGUMENTS = 5 };
+enum { GUARD = 64, MARK = 0xA5, ARGUMENTS = 6 };
 
-/* b, n: bytes and numbers to be read; B, N: to be written; v: a number. */
+/* b, n: bytes and numbers to be read; B, N, K: bytes, numbers and keys to be written; v: a number. */
 static const char *const SHAPES[] = {"bnNNN", "bnvvN", "nvN", "nBN", "bNN", "bN", "bNNN", "bvvN", "nNN", "nvN", "nnvN",
-                                     "bbNN", "bbNN", "bnvNN"};
+                                     "bbNN", "bbNN", "bnvNN", "bnvvKN", "bnvvvN"};
 
 struct argument {
     uint64_t count;
@@ -51,7 +51,7 @@ static void take_slice(struct argument *one, char kind)
     int null = one->count == NONE;
     if (null)
         one->count = 0;
-    one->size = one->count * (kind == 'b' || kind == 'B' ? 1 : 8);
+    one->size = one->count * (kind == 'b' || kind == 'B' ? 1 : kind == 'K' ? 4 : 8);
     one->memory = malloc(one->size + 2 * GUARD);
     one->kept = malloc(one->size + 1);
     if (!one->memory || !one->kept)
@@ -78,6 +78,7 @@ static int untouched(const struct argument *one, char kind)
 
 #define BYTES(i) a[i].given, a[i].count
 #define NUMBERS(i) (uint64_t *)a[i].given, a[i].count
+#define KEYS(i) (int32_t *)a[i].given, a[i].count
 
 static uint64_t call(uint64_t function, struct argument *a)
 {
@@ -95,7 +96,9 @@ static uint64_t call(uint64_t function, struct argument *a)
     case 10: return dz_index_of(NUMBERS(0), NUMBERS(1), a[2].count, NUMBERS(3));
     case 11: return dz_compare(BYTES(0), BYTES(1), NUMBERS(2), NUMBERS(3));
     case 12: return dz_tail(BYTES(0), BYTES(1), NUMBERS(2), NUMBERS(3));
-    default: return dz_map_names(BYTES(0), NUMBERS(1), a[2].count, NUMBERS(3), NUMBERS(4));
+    case 13: return dz_map_names(BYTES(0), NUMBERS(1), a[2].count, NUMBERS(3), NUMBERS(4));
+    case 14: return dz_label_keys(BYTES(0), NUMBERS(1), a[2].count, a[3].count, KEYS(4), NUMBERS(5));
+    default: return dz_label_name(BYTES(0), NUMBERS(1), a[2].count, a[3].count, (int32_t)a[4].count, NUMBERS(5));
     }
 }
 
@@ -118,7 +121,7 @@ int main(void)
         for (int i = 0; shape[i]; i++) {
             if (shape[i] == 'v')
                 continue;
-            if (shape[i] == 'B' || shape[i] == 'N')
+            if (shape[i] == 'B' || shape[i] == 'N' || shape[i] == 'K')
                 give(a[i].slice, a[i].size);
             free(a[i].memory);
             free(a[i].kept);
