@@ -206,11 +206,12 @@ def key_of(label):
     """The key of a label, whose colours are from 0 to 1."""
     word = label.value(b"Key")
     if not KEY.match(word) or not -2 ** 31 <= int(word) < 2 ** 31:
-        raise not_a_number("a key")
+        raise not_a_number("it must be a whole number of 32 bits, of 1 to 10 digits", word)
     for colour in COLOURS:
-        amount, power = decimal(label.value(colour))
+        value = label.value(colour)
+        amount, power = decimal(value)
         if amount < 0 or amount * 10 ** max(power, 0) > 10 ** max(-power, 0):
-            raise not_a_number("a colour")
+            raise not_a_number("a colour must be from 0 to 1", value)
     return int(word)
 
 

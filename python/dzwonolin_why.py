@@ -264,8 +264,26 @@ def twice_spots(reading):
                 met.setdefault(key, model.offset + n)
 
 
+def key_spots(reading):
+    for one in reading.maps():
+        for table in one.tables:
+            met = {}
+            for key, label in table:
+                if key in met:
+                    yield reading.spot(f"key {key} stands at {reading.paths[met[key].begin]} already", label, b"Key")
+                met.setdefault(key, label)
+
+
+def labels_spots(reading):
+    for one in reading.maps():
+        if one.kind == "labels":
+            told = ", ".join(map(str, one.applies))
+            yield reading.spot(f"labels on dimension {told}: the maps of labels may list one dimension in all", one.element,
+                               b"AppliesToMatrixDimension")
+
+
 SPOTS = {4: root_spots, 5: kind_spots, 8: dimension_spots, 9: length_spots, 10: pair_spots, 11: range_spots, 12: outside_spots,
-         14: twice_spots}
+         14: twice_spots, 24: key_spots, 25: labels_spots}
 
 
 def said(element, attribute) -> str:

@@ -17,6 +17,16 @@ T = stations.TEXT
 MAP, MODEL = "CIFTI/Matrix/MatrixIndicesMap[{}]", "CIFTI/Matrix/MatrixIndicesMap[2]/BrainModel[{}]"
 VOLUME = MAP.format(2) + "/Volume"
 TRANSFORMATION = VOLUME + "/TransformationMatrixVoxelIndicesIJKtoXYZ"
+LABEL = b'<Label Key="5" Red="0" Green="0.5" Blue="1" Alpha="1">five</Label>'
+TABLE = MAP.format(1) + "/NamedMap[1]/LabelTable"
+
+
+def labelled(labels):
+    """The station's text with labels in place of scalars, each map with a table of these Labels."""
+    table = b"</MapName><LabelTable>" + labels + b"</LabelTable>"
+    return T.replace(b"TYPE_SCALARS", b"TYPE_LABELS").replace(b"</MapName>", table)
+
+
 # (number, the station's text with something made something else, line, column, path, what the words hold)
 ROWS = [
     (3, T.replace(b"</Volume>", b""), 28, 5, None, "Volume is open"),
@@ -59,6 +69,10 @@ ROWS = [
     (12, T.replace(b"2 3 6", b"2 8 6"), 25, 13, MODEL.format(3) + "/VoxelIndicesIJK", "on axis 1"),
     (14, T.replace(b"5 11<", b"5 1<"), 16, 30, MODEL.format(1) + "/VertexIndices", "index 1 already, and again at index 3"),
     (14, T.replace(b"2 3 6", b"2 3 5"), 25, 11, MODEL.format(3) + "/VoxelIndicesIJK", "voxel 2 3 5"),
+    (24, labelled(LABEL + LABEL.replace(b'"5"', b'"05"')), 5, 130, TABLE + "/Label[2]", "key 5 stands at"),
+    (7, labelled(LABEL.replace(b'Red="0"', b'Red="2"')), 5, 72, TABLE + "/Label", "from 0 to 1"),
+    (7, labelled(LABEL.replace(b'"5"', b'"5.0"')), 5, 64, TABLE + "/Label", "of 1 to 10 digits"),
+    (6, labelled(LABEL.replace(b' Alpha="1"', b"")), 5, 57, TABLE + "/Label", "no Alpha"),
 ]
 
 
@@ -78,6 +92,12 @@ class Places(unittest.TestCase):
             reading, spots = dzwonolin_why.explained(text, lengths)
             self.assertEqual((reading, dzwonolin.read(text, lengths).number, spots[0].place), (number, number, None))
             self.assertIn(words, spots[0].words)
+
+    def test_labels_on_two_dimensions(self):
+        text, lengths = labelled(LABEL).replace(b'Dimension="0"', b'Dimension="0,2"'), [2, 9, 2]
+        reading, spots = dzwonolin_why.explained(text, lengths)
+        self.assertEqual((reading, dzwonolin.read(text, lengths).number, spots[0].path), (25, 25, MAP.format(1)))
+        self.assertIn("labels on dimension 0, 2", spots[0].words)
 
     def test_texts_from_a_seed_are_explained(self):
         """The library's number, and words at a place of the text, for whatever is wrong."""
