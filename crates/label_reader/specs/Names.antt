@@ -57,18 +57,24 @@ pub record InTable (text : List ℕ) (at : ℕ) (key : ℤ) (r : NamePlace) : Ty
   pub missing : labelWith key text at ≡ Nothing → Is r 19 0 0
   pub found : (k : ℕ) → labelWith key text at ≡ At k → Is r 0 (tagEnd text k) (length (between-tags text k))
 
-module _ (text : List ℕ) (at : ℕ) (key : ℤ) {f : Found} (q : f ≡ labelWith key text at) (r : NamePlace) where
+-- (the key that a call is given is the key, as a number of 32 bits)
+module _ (text : List ℕ) (at : ℕ) (key : ℤ) (r : NamePlace) {given : ℤ} {f : Found} (call : f ≡ labelWith given text at)
+    (same-key : given ≡ key) where
+  q : f ≡ labelWith key text at
+  q = call ∙ ap (λ k. labelWith k text at) same-key
+
   pub in-missing : f ≡ Nothing → r .number ≡ 19 → r .start ≡ 0 → r .length ≡ 0 → InTable text at key r
   in-missing h a b c = record {
     missing = λ _. record { number-is = a; start-is = b; length-is = c };
-    found = λ k e. clash (cc);
+    found = λ k e. (let o = q in clash (cc));
   }
 
   pub in-found : {k : ℕ} → f ≡ At k → {l : List ℕ} → l ≡ between-tags text k → {s : ℕ} → s ≡ tagEnd text k → r .number ≡ 0
       → r .start ≡ s → r .length ≡ length l → InTable text at key r
   in-found {k} h w t a b c = record {
-    missing = λ e. clash (cc);
+    missing = λ e. (let o = q in clash (cc));
     found = λ j e.
+        let o = q in
         let same : k ≡ j = cc in
         record { number-is = a; start-is = b ∙ t ∙ ap (tagEnd text) same; length-is = c ∙ ap length (w ∙ ap (between-tags text) same) };
   }
@@ -161,19 +167,28 @@ module _ (text lengths : List ℕ) (d i : ℕ) (key : ℤ) where
                 placed-so p (o _ ∙ rw (p, s, y) refl) (label-way text d i key st (keys-in-form g) way q)
                 (rw (l key, v) (sym (within-law u))) (w .found k q)
 
-        pub label-found : f ≡ At t → LabelPlaced text lengths d i key r
-        label-found q = found-so (subst (λ (x : Found). Tabled text lengths d i x) q there-is)
+        found-at : f ≡ At t → LabelPlaced text lengths d i key r
+        found-at q = found-so (subst (λ (x : Found). Tabled text lengths d i x) q there-is)
+
+      pub label-found : {t : ℕ} {r : NamePlace} {given : ℤ} → InTable text t given r → given ≡ key → f ≡ At t
+          → LabelPlaced text lengths d i key r
+      label-found {t} {r} w same q = found-at (subst (λ (k : ℤ). InTable text t k r) same w) q
 
 pub ruleset naming-label = (label-refused, label-missing, label-found, needs)
 
 -- ---- The doors that take their answer from the place.
 
-module _ {text lengths : List ℕ} {d i : ℕ} {key : ℤ} {r : NamePlace} (p : LabelPlaced text lengths d i key r) where
+module _ {text lengths : List ℕ} {d i : ℕ} {r : NamePlace} {given : ℤ} (call : LabelPlaced text lengths d i given r) where
+  pub placed-inside : r .start + r .length ≤ length text
+  placed-inside = call .inside
+
+module _ {text lengths : List ℕ} {d i : ℕ} {key : ℤ} {r : NamePlace} {given : ℤ} (call : LabelPlaced text lengths d i given r)
+    (same : given ≡ key) where
+  p : LabelPlaced text lengths d i key r
+  p = subst (λ (k : ℤ). LabelPlaced text lengths d i k r) same call
+
   pub placed-number : LabelNumber text lengths d i key (r .number)
   placed-number = p .numbered
-
-  pub placed-inside : r .start + r .length ≤ length text
-  placed-inside = p .inside
 
   pub placed-part : LabelPart text lengths d i key (part (r .start) (r .start + r .length) text)
   placed-part =
