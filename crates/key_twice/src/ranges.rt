@@ -67,12 +67,12 @@ fn end_of(low: u64, high: u64, width: u64, end: u64) -> u64
     low + (high - low) / 2
 }
 
-// The end of the stretches, taken from the first on, that hold no more keys than there are places; of the first where it holds more.
+// The end of the stretches, taken from the first on, that hold no more than 30,720 keys; of the first where it holds more.
 fn fitting(work: &[u64], low: u64, high: u64, width: u64) -> u64
     requires { ⌜ (low < high) × ((high ≤ 4294967295) × ((0 < width) × (width ≤ 4294967296))) ⌝ }
     ensures { λ r. ⌜ (low ≤ r) × (r < high) ⌝ }
 {
-    let mut room = work.len() as u64;
+    let mut room: u64 = 30720;
     let mut end = low;
     let mut i = 0;
     while i < work.len() {
