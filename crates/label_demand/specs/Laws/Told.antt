@@ -85,28 +85,28 @@ module _ {text lengths : List ℕ} {d i : ℕ} {keys : List ℤ} {count : ℕ} {
   unfolding keysGiven keysBy mapsIn
   given = rw number refl
 
-  many-so : {t : Element} → keysOn d i (mapsOf e) ≡ tableKeys t → count ≡ length (labelsOf t)
+  many-so : (t : Element) → keysOn d i (mapsOf e) ≡ tableKeys t → count ≡ length (labelsOf t)
   unfolding keysCount tableKeys
-  many-so {t} s = answers-of (r .counted) w ∙ ap length (given ∙ s) ∙ length-each keyOf (labelsOf t)
+  many-so t s = answers-of (r .counted) w ∙ ap length (given ∙ s) ∙ length-each keyOf (labelsOf t)
 
-  after-so : {t : Element} → keysOn d i (mapsOf e) ≡ tableKeys t → after ≡ tableKeys t ++ drop (length (tableKeys t)) keys
+  after-so : (t : Element) → keysOn d i (mapsOf e) ≡ tableKeys t → after ≡ tableKeys t ++ drop (length (tableKeys t)) keys
   unfolding keysAfterwards overwritten
-  after-so s = answers-of (r .filled) w ∙ ap (λ l. l ++ drop (length l) keys) (given ∙ s)
+  after-so t s = answers-of (r .filled) w ∙ ap (λ l. l ++ drop (length l) keys) (given ∙ s)
 
-  each-so : {t : Element} → keysOn d i (mapsOf e) ≡ tableKeys t → (n : ℕ) → n < count
+  each-so : (t : Element) → keysOn d i (mapsOf e) ≡ tableKeys t → (n : ℕ) → n < count
       → getD after n (pos 0) ≡ getD (each keyOf (labelsOf t)) n (pos 0)
   unfolding tableKeys
-  each-so {t} s n u =
-      let m = many-so s in
+  each-so t s n u =
+      let m = many-so t s in
       let k = length-each keyOf (labelsOf t) in
-      ap (λ l. getD l n (pos 0)) (after-so s)
+      ap (λ l. getD l n (pos 0)) (after-so t s)
       ∙ List·getD-append (each keyOf (labelsOf t)) (drop (length (each keyOf (labelsOf t))) keys) (pos 0) n (omega arith)
 
   pub keys-told : KeysTold d i e count after
   keys-told = by (told lengths (length text) d i e keys-none)
     where
       by : Tells d i e → KeysTold d i e count after
-      by (tells {t} q s l) = record { table = t; reached-so = q; many = many-so s; each-is = each-so s }
+      by (tells {t} q s l) = record { table = t; reached-so = q; many = many-so t s; each-is = each-so t s }
 
 -- ---- The name of a key.
 
@@ -124,12 +124,12 @@ module _ {text lengths : List ℕ} {d i : ℕ} {key : ℤ} {part : List ℕ} (n 
   unfolding labelPart labelBy
   part-so = answers-of (r .asked) w ∙ rw label-number refl
 
-  named-so : {t : Element} → labelsOn d i key e ≡ namesWith key t → part ≡ getD (each withinOf (labelsWith key t)) 0 []
+  named-so : (t : Element) → labelsOn d i key e ≡ namesWith key t → part ≡ getD (each withinOf (labelsWith key t)) 0 []
   unfolding namesWith
-  named-so h = part-so ∙ ap (λ l. getD l 0 []) h
+  named-so t h = part-so ∙ ap (λ l. getD l 0 []) h
 
   pub label-told : LabelTold d i key e part
   label-told = by (told lengths (length text) d i e label-none)
     where
       by : Tells d i e → LabelTold d i key e part
-      by (tells {t} q s l) = record { table = t; reached-so = q; part-is = named-so (l key) }
+      by (tells {t} q s l) = record { table = t; reached-so = q; part-is = named-so t (l key) }
