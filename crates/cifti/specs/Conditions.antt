@@ -1,4 +1,5 @@
--- THE NUMBERS OF REFUSAL, 1 to 14, 24 and 25, over the lengths, the size of the text, its document (or that there is none), and the room lent.
+-- THE NUMBERS OF REFUSAL, 1 to 14, 24 and 25, over the lengths, the size of the text, its document (or that there is none), and the room
+-- lent.
 use mathlib.Core.List.{List, [], _∷_, _++_}
 use mathlib.Core.Option.{Option}
 use mathlib.Core.Bool.{Bool, true, false, _&&_, _||_, not}

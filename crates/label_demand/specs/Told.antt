@@ -1,5 +1,5 @@
--- DEMAND 2 OF LABELS: what is told is what the Labels of the table write. The table is what the way leads to: the LabelTable of the NamedMap
--- of the index, in the map that lists the dimension.
+-- DEMAND 2 OF LABELS: what is told is what the Labels of the table write. The table is what the way leads to: the LabelTable of the
+-- NamedMap of the index, in the map that lists the dimension.
 use mathlib.Core.Path.{_≡_}
 use mathlib.Core.List.{List, [], _∷_}
 use mathlib.Core.Option.{some}

@@ -1,5 +1,5 @@
--- A TABLE OF LABELS, for any element taken as a LabelTable: the keys that its Labels write, in order; a key that stands twice; the Labels of
--- a key, and their names as they are written. It means something where every Key is in form.
+-- A TABLE OF LABELS, for any element taken as a LabelTable: the keys that its Labels write, in order; a key that stands twice; the Labels
+-- of a key, and their names as they are written. It means something where every Key is in form.
 use mathlib.Core.List.{List}
 use mathlib.Core.Bool.{Bool}
 use lib.IntN.{ℤ}

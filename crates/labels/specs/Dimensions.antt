@@ -88,7 +88,8 @@ unfoldable pub labelled : Map → List ℕ
 labelled m = cond (isLabels (m .kind)) (m .dimensions) []
 
 module _ {text : List ℕ} {n : MapNote} (m : Noted text n) {b : Bool} (e : b ≡ isLabels (n .kind)) where
-  pub labelled-all : b ≡ true → {k : ℕ} → k ≡ min 2 (length (dimensionsOf (the text (n .at)))) → k ≡ min 2 (length (labelled (mapOn text n)))
+  pub labelled-all : b ≡ true → {k : ℕ} → k ≡ min 2 (length (dimensionsOf (the text (n .at))))
+      → k ≡ min 2 (length (labelled (mapOn text n)))
   unfolding labelled mapOf
   labelled-all t h = h ∙ sym (rw (← m .kind-is, sym e ∙ t) refl)
 

@@ -24,7 +24,8 @@ pub record Is (r : NamePlace) (number start size : ℕ) : Type 0 where
 pub record Answered (text : List ℕ) (number dimension index : ℕ) (r : NamePlace) : Type 0 where
   pub refused : (number ≡ 0 → ⊥) → Is r number 0 0
   pub missing : number ≡ 0 → namedAt text (ascii "MapName") dimension index ≡ Nothing → Is r 18 0 0
-  pub found : number ≡ 0 → (k : ℕ) → namedAt text (ascii "MapName") dimension index ≡ At k → Is r 0 (tagEnd text k) (length (between-tags text k))
+  pub found : number ≡ 0 → (k : ℕ) → namedAt text (ascii "MapName") dimension index ≡ At k
+      → Is r 0 (tagEnd text k) (length (between-tags text k))
 
 module _ (text : List ℕ) {n : ℕ} (d i : ℕ) (r : NamePlace) where
   pub answered-refused : (n ≡ 0 → ⊥) → r .number ≡ n → r .start ≡ 0 → r .length ≡ 0 → Answered text n d i r

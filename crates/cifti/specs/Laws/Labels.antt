@@ -17,7 +17,8 @@ use Rattle.numbers.specs.Numbers.{sameKey}
 use Rattle.numbers.specs.Laws.Keys.{same-key, key-same}
 use Rattle.cifti.specs.Maps.{Map, labelsMaps}
 use Rattle.cifti.specs.Conditions.{listedDimensions, keyTwice, labelsTwice}
-use Rattle.cifti.specs.Labels.{keysRefusal, keysCount, keysGiven, keysAfterwards, labelRefusal, labelPart, Keys, LabelNumber, LabelPart}
+use Rattle.cifti.specs.Labels.{keysRefusal, keysCount, keysGiven, keysAfterwards, labelRefusal, labelPart}
+use Rattle.cifti.specs.Labels.{Keys, LabelNumber, LabelPart}
 use Rattle.cifti.specs.Laws.Text.{answers-by, answers-unique, answers-same}
 use Rattle.cifti.specs.Laws.Unseen.{keys-unseeing, count-unseeing, after-unseeing, label-unseeing}
 use Rattle.cifti.specs.Laws.Meaning.{AtTwo, two-iff}

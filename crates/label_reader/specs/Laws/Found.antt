@@ -163,7 +163,8 @@ good-append : {k : ElementKind} {a b : List Element} → EachGood k a → EachGo
 good-append no-good h = h
 good-append (also-good g m) h = also-good g (good-append m h)
 
-nth-good : {k : ElementKind} {l : List Element} → EachGood k l → (i : ℕ) {x : Element} → getD (each some l) i Option.none ≡ some x → Good k x
+nth-good : {k : ElementKind} {l : List Element} → EachGood k l → (i : ℕ) {x : Element} → getD (each some l) i Option.none ≡ some x
+    → Good k x
 unfolding each
 nth-good no-good i h = never-some h
 nth-good {k} (also-good {e} g m) zero {x} h = let q : e ≡ x = cc in subst (λ (y : Element). Good k y) q g

@@ -1,5 +1,5 @@
--- BEHIND 1 TO 9, 24 AND 25: what the walk to the table finds. Nothing: 18 is given, whatever rows follow; a place: none of those rows applies,
--- and the table that stands there is the one whose keys and names are asked for.
+-- BEHIND 1 TO 9, 24 AND 25: what the walk to the table finds. Nothing: 18 is given, whatever rows follow; a place: none of those rows
+-- applies, and the table that stands there is the one whose keys and names are asked for.
 use mathlib.Core.Path.{_≡_, refl, sym, ap, _∙_}
 use mathlib.Core.List.{List, [], _∷_, _++_, append-assoc}
 use mathlib.Core.Option.{Option, some}

@@ -16,7 +16,8 @@ use Rattle.schema.specs.Schema.{ChildRow, child, once, atMostOnce, anyTimes, al
 use Rattle.schema.specs.Schema.{branch, anyOrder}
 use Rattle.label_tables.specs.LabelTable.{labelsOf, keysRight}
 use Rattle.cifti.specs.Rows.{ElementKind, rows, labelAttributes, words, metaData, labels, labelledMap, labelTable, label}
-use Rattle.maps.specs.Laws.Good.{Good, GoodAs, good-as, AllGood, none-left, one-good, shape-here, number-here, good-children, required-number}
+use Rattle.maps.specs.Laws.Good.{Good, GoodAs, good-as, AllGood, none-left, one-good, shape-here, number-here, good-children}
+use Rattle.maps.specs.Laws.Good.{required-number}
 use Rattle.maps.specs.Laws.Kinds.{not-both}
 use Rattle.map_names.specs.Laws.Held.{namedOf, named-kind, labels-children}
 

@@ -170,7 +170,7 @@ colours-yes : Every colour ("0" ∷ "-0" ∷ "0.0" ∷ "-0.0E45" ∷ "1" ∷ "+1
 unfolding numbers lists
 colours-yes = refl
 
-colours-no : None colour ("1.0000001" ∷ "2" ∷ "1E1" ∷ "11e-1" ∷ "1E45" ∷ "-1" ∷ "-0.1" ∷ "-1E-45" ∷ "100000000000001E-14" ∷ "" ∷ "a" ∷ "1E46"
-    ∷ "0E46" ∷ ".5" ∷ "1." ∷ "0x1" ∷ "1 " ∷ [])
+colours-no : None colour ("1.0000001" ∷ "2" ∷ "1E1" ∷ "11e-1" ∷ "1E45" ∷ "-1" ∷ "-0.1" ∷ "-1E-45" ∷ "100000000000001E-14" ∷ "" ∷ "a"
+    ∷ "1E46" ∷ "0E46" ∷ ".5" ∷ "1." ∷ "0x1" ∷ "1 " ∷ [])
 unfolding numbers lists
 colours-no = refl
