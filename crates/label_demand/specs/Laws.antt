@@ -1,1 +1,3 @@
+pub mod Once
+pub mod Only
 pub mod Told

@@ -20,8 +20,9 @@ pub record KeysTold (dimension index : ℕ) (e : Element) (count : ℕ) (after :
   pub many : count ≡ length (labelsOf table)
   pub each-is : (n : ℕ) → n < count → getD after n (pos 0) ≡ getD (each keyOf (labelsOf table)) n (pos 0)
 
--- the part is what stands between the tags of the first Label that has the key
+-- the part is what stands between the tags of the only Label that has the key
 pub record LabelTold (dimension index : ℕ) (key : ℤ) (e : Element) (part : List ℕ) : Type 0 where
   pub table : Element
   pub reached-so : reached (tableWay dimension index) e ≡ some table
+  pub only : length (labelsWith key table) ≡ 1
   pub part-is : part ≡ getD (each withinOf (labelsWith key table)) 0 []

@@ -4,11 +4,13 @@ use mathlib.Core.List.{List, [], _∷_, _++_}
 use mathlib.Core.Option.{Option, some}
 use mathlib.Core.Option
 use mathlib.Core.Bool.{Bool, true, false}
-use Prim.Native.Nat.{ℕ, _<_}
+use Prim.Native.Nat.{ℕ, _<_, _≤_}
 use native.Mathlib.Omega.{arith}
+use borrow.Author.Tests.{not-false}
+use lib.Dec.{eqb}
 use lib.IntN.{ℤ, pos}
 use lib.ListN.{length, getD, drop, List·getD-append}
-use Rattle.lists.specs.Lists.{each, there}
+use Rattle.lists.specs.Lists.{any, count, twoOf, each, there}
 use Rattle.lists.specs.Laws.Booleans.{both-ways}
 use Rattle.lists.specs.Laws.Lists.{length-each}
 use Rattle.lists.specs.Refusals.{Refusal, _when_, first, positive, NoneApplies, none-left, passed}
@@ -16,10 +18,11 @@ use Rattle.lists.specs.Laws.Refusals.{given-none, row-fails}
 use Rattle.grammar.specs.Document.{Element}
 use Rattle.grammar.specs.Grammar.{Writes}
 use Rattle.grammar.specs.Look.{withinOf}
+use Rattle.numbers.specs.Numbers.{sameKey}
 use Rattle.label_tables.specs.LabelTable.{labelsOf, keyOf, tableKeys, labelsWith, namesWith}
 use Rattle.cifti.specs.Rows.{cifti}
 use Rattle.cifti.specs.Maps.{mapsOf}
-use Rattle.cifti.specs.Conditions.{conditionsOfHeader, conditionsOfLabels, ofMaps, dimensionsWrong}
+use Rattle.cifti.specs.Conditions.{conditionsOfHeader, conditionsOfLabels, ofMaps, listedDimensions, dimensionsWrong, keyTwice}
 use Rattle.cifti.specs.Answer.{mapsIn}
 use Rattle.cifti.specs.Labels.{noTable, labelsRefusals, keysOn, keysShort, keysRefusal, keysBy, keysGiven, keysCount, overwritten}
 use Rattle.cifti.specs.Labels.{keysAfterwards, noKey, labelRefusal, labelBy, labelPart, labelsOn, Keys, LabelNumber, LabelPart}
@@ -31,6 +34,8 @@ use Rattle.map_names.specs.Laws.Reached.{listed-once}
 use Rattle.label_reader.specs.Way.{tableWay}
 use Rattle.label_reader.specs.Laws.Found.{TableOf, no-table, a-table, table-of}
 use Rattle.label_demand.specs.Told.{KeysTold, LabelTold}
+use Rattle.label_demand.specs.Laws.Once.{keys-once}
+use Rattle.label_demand.specs.Laws.Only.{only-label}
 
 none-front : (l k : List Refusal) → NoneApplies (l ++ k) → NoneApplies l
 none-front [] k h = none-left
@@ -40,33 +45,43 @@ none-back : (l k : List Refusal) → NoneApplies (l ++ k) → NoneApplies k
 none-back [] k h = h
 none-back (n when b ∷ l) k (passed h) = none-back l k h
 
--- number 0, of rows that begin with 1 to 9, 24, 25 and 18: the table is there
+-- number 0, of rows that begin with 1 to 9, 24, 25 and 18: the table is there, and no key stands twice in it
 data Tells (d i : ℕ) (e : Element) : Type 0 where
   tells : {t : Element} → reached (tableWay d i) e ≡ some t → keysOn d i (mapsOf e) ≡ tableKeys t
-      → ((k : ℤ) → labelsOn d i k e ≡ namesWith k t) → Tells d i e
+      → ((k : ℤ) → labelsOn d i k e ≡ namesWith k t) → twoOf sameKey (tableKeys t) ≡ false → Tells d i e
 
 module _ (lengths : List ℕ) (size d i : ℕ) (e : Element) (none : NoneApplies (labelsRefusals lengths size d i (some e))) where
+  abbrev last : List Refusal
+  last = 18 when ofMaps (noTable d i) (some e) ∷ []
+
   header : NoneApplies (conditionsOfHeader lengths size (some e))
   unfolding labelsRefusals
-  header = none-front (conditionsOfHeader lengths size (some e)) (conditionsOfLabels (some e) ++ (18 when ofMaps (noTable d i) (some e) ∷ [])) none
+  header = none-front (conditionsOfHeader lengths size (some e)) (conditionsOfLabels (some e) ++ last) none
+
+  behind : NoneApplies (conditionsOfLabels (some e) ++ last)
+  unfolding labelsRefusals
+  behind = none-back (conditionsOfHeader lengths size (some e)) (conditionsOfLabels (some e) ++ last) none
 
   there-one : noTable d i (mapsOf e) ≡ false
-  unfolding labelsRefusals ofMaps there
-  there-one = row-fails (none-back (conditionsOfLabels (some e)) (18 when ofMaps (noTable d i) (some e) ∷ [])
-      (none-back (conditionsOfHeader lengths size (some e)) (conditionsOfLabels (some e) ++ (18 when ofMaps (noTable d i) (some e) ∷ [])) none))
+  unfolding ofMaps there
+  there-one = row-fails (none-back (conditionsOfLabels (some e)) last behind)
 
-  told-by : {o : Option Element} → reached (tableWay d i) e ≡ o → TableOf d i e o → Tells d i e
-  told-by q (no-table h) = both-ways h there-one
-  told-by q (a-table h s l g) = tells q s l
+  not-twice : keyTwice (mapsOf e) ≡ false
+  unfolding conditionsOfLabels ofMaps there
+  not-twice = row-fails behind
+
+  told-by : {o : Option Element} → count (eqb d) (listedDimensions (mapsOf e)) ≤ 1 → reached (tableWay d i) e ≡ o → TableOf d i e o
+      → Tells d i e
+  told-by u q (no-table h) = both-ways h there-one
+  told-by u q (a-table h s l g) = tells q s l (sym (ap (twoOf sameKey) s) ∙ keys-once d i (mapsOf e) u there-one not-twice)
 
   told : Tells d i e
   told =
       let f = fine lengths size (some e) header in
       let p = f .is in
       let q : f .document ≡ e = cc in
-      told-by refl
-      (table-of d i (subst (λ (x : Element). Good cifti x) q (f .good))
-      (listed-once lengths (mapsOf e) (subst (λ (x : Element). dimensionsWrong lengths (mapsOf x) ≡ false) q (f .once)) d))
+      let u = listed-once lengths (mapsOf e) (subst (λ (x : Element). dimensionsWrong lengths (mapsOf x) ≡ false) q (f .once)) d in
+      told-by u refl (table-of d i (subst (λ (x : Element). Good cifti x) q (f .good)) u)
 
 -- ---- The keys.
 
@@ -77,9 +92,10 @@ module _ {text lengths : List ℕ} {d i : ℕ} {keys : List ℤ} {count : ℕ} {
 
   keys-none : NoneApplies (labelsRefusals lengths (length text) d i (some e))
   unfolding keysRefusal labelsRefusals conditionsOfHeader conditionsOfLabels positive
-  keys-none = none-front (labelsRefusals lengths (length text) d i (some e)) (17 when ofMaps (keysShort d i (length keys)) (some e) ∷ [])
-      (given-none (labelsRefusals lengths (length text) d i (some e) ++ (17 when ofMaps (keysShort d i (length keys)) (some e) ∷ [])) refl
-      number)
+  keys-none =
+      let short = 17 when ofMaps (keysShort d i (length keys)) (some e) ∷ [] in
+      let before = labelsRefusals lengths (length text) d i (some e) in
+      none-front before short (given-none (before ++ short) refl number)
 
   given : keysGiven lengths (length text) d i (length keys) (some e) ≡ keysOn d i (mapsOf e)
   unfolding keysGiven keysBy mapsIn
@@ -106,7 +122,7 @@ module _ {text lengths : List ℕ} {d i : ℕ} {keys : List ℤ} {count : ℕ} {
   keys-told = by (told lengths (length text) d i e keys-none)
     where
       by : Tells d i e → KeysTold d i e count after
-      by (tells {t} q s l) = record { table = t; reached-so = q; many = many-so t s; each-is = each-so t s }
+      by (tells {t} q s l o) = record { table = t; reached-so = q; many = many-so t s; each-is = each-so t s }
 
 -- ---- The name of a key.
 
@@ -115,10 +131,19 @@ module _ {text lengths : List ℕ} {d i : ℕ} {key : ℤ} {part : List ℕ} (n 
   label-number : labelRefusal lengths (length text) d i key (some e) ≡ 0
   label-number = sym (answers-of (n .asked) w)
 
-  label-none : NoneApplies (labelsRefusals lengths (length text) d i (some e))
+  abbrev before : List Refusal
+  before = labelsRefusals lengths (length text) d i (some e)
+
+  abbrev absent : List Refusal
+  absent = 19 when ofMaps (noKey d i key) (some e) ∷ []
+
+  all-none : NoneApplies (before ++ absent)
   unfolding labelRefusal labelsRefusals conditionsOfHeader conditionsOfLabels positive
-  label-none = none-front (labelsRefusals lengths (length text) d i (some e)) (19 when ofMaps (noKey d i key) (some e) ∷ [])
-      (given-none (labelsRefusals lengths (length text) d i (some e) ++ (19 when ofMaps (noKey d i key) (some e) ∷ [])) refl label-number)
+  all-none = given-none (before ++ absent) refl label-number
+
+  has-key : any (sameKey key) (keysOn d i (mapsOf e)) ≡ true
+  unfolding noKey ofMaps there
+  has-key = not-false (any (sameKey key) (keysOn d i (mapsOf e))) (row-fails (none-back before absent all-none))
 
   part-so : part ≡ getD (labelsOn d i key e) 0 []
   unfolding labelPart labelBy
@@ -129,7 +154,12 @@ module _ {text lengths : List ℕ} {d i : ℕ} {key : ℤ} {part : List ℕ} (n 
   named-so t h = part-so ∙ ap (λ l. getD l 0 []) h
 
   pub label-told : LabelTold d i key e part
-  label-told = by (told lengths (length text) d i e label-none)
+  label-told = by (told lengths (length text) d i e (none-front before absent all-none))
     where
       by : Tells d i e → LabelTold d i key e part
-      by (tells {t} q s l) = record { table = t; reached-so = q; part-is = named-so t (l key) }
+      by (tells {t} q s l o) = record {
+        table = t;
+        reached-so = q;
+        only = only-label key t o (sym (ap (any (sameKey key)) s) ∙ has-key);
+        part-is = named-so t (l key);
+      }
