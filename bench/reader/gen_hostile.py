@@ -5,6 +5,7 @@
     gen_hostile.py --list
 """
 import pathlib
+import random
 import sys
 
 LIMIT = 16777216
@@ -127,6 +128,30 @@ def named_maps():
                   + b"</MatrixIndicesMap>"), [len(names) // len(one), 1], 0
 
 
+def labels(order):
+    """One table of labels as long as the text allows; `order` puts its keys in order."""
+    start = MAP % (b"0", b"LABELS") + b"<NamedMap><MapName>a</MapName><LabelTable>"
+    end = b"</LabelTable></NamedMap></MatrixIndicesMap>" + BRAIN + surface(0, [0]) + b"</MatrixIndicesMap>"
+    label, left, keys = b'<Label Key="%d" Red="0" Green="0" Blue="0" Alpha="1"/>', LIMIT - len(matrix(start + end)), []
+    while left >= len(label % len(keys)):
+        left -= len(label % len(keys))
+        keys.append(len(keys))
+    order(keys)
+    return matrix(start + b"".join(label % key for key in keys) + end), [1, 1], 0
+
+
+def labels_rising():
+    return labels(list.sort)
+
+
+def labels_falling():
+    return labels(list.reverse)
+
+
+def labels_random():
+    return labels(random.Random(4).shuffle)
+
+
 def metadata():
     entries = often(b"<MD><Name/><Value/></MD>", 700)
     return matrix(b"<MetaData>" + entries + b"</MetaData>" + FIRST + BRAIN + surface(0, [0]) + b"</MatrixIndicesMap>"), [1, 1], 0
@@ -159,8 +184,8 @@ def siblings_then_fault():
 
 TEXTS = [bare_models, alike_models, one_tag_of_attributes, tags_of_attributes, long_names, comments_between,
          comments_in_numbers, references, late_repeat_vertices, descending_vertices, woven_vertices,
-         late_repeat_voxels, late_overlap, named_maps, metadata, maps, dimensions, blanks, open_tags, open_comment,
-         siblings_then_fault]
+         late_repeat_voxels, late_overlap, named_maps, labels_rising, labels_falling, labels_random, metadata, maps,
+         dimensions, blanks, open_tags, open_comment, siblings_then_fault]
 
 
 def main():

@@ -1,7 +1,7 @@
 #!/usr/bin/env python3
 """Headers of real size and layout. Standard library only.
 
-    gen_real.py PRESET [--map series|scalars] [--points N] [--shuffle] OUT.xml
+    gen_real.py PRESET [--map series|scalars|labels] [--points N] [--shuffle] OUT.xml
 
     small      about 900 locations
     1x         the standard layout of 91,282 locations, as most files of the field have it
@@ -18,6 +18,7 @@ import random
 STANDARD = 91282
 LIMIT_RECORDS = 1048576
 LIMIT_BYTES = 16777216
+LABELS = 361
 
 # name, voxels in the standard layout, centre in 91 x 109 x 91, relative radii
 VOXEL_MODELS = [
@@ -104,13 +105,24 @@ def layout(records, surfaces=True, moved=0, axes=None):
     return axes, models
 
 
+def label_table():
+    """A table of 361 labels, as an atlas of 180 areas a side has it."""
+    colour = random.Random(3)
+    labels = "".join('          <Label Key="%d" Red="%.6f" Green="%.6f" Blue="%.6f" Alpha="1">L_area_%d_ROI</Label>\n'
+                     % (key, colour.random(), colour.random(), colour.random(), key) for key in range(1, LABELS))
+    return ('        <LabelTable>\n          <Label Key="0" Red="1" Green="1" Blue="1" Alpha="0">???</Label>\n'
+            + labels + "        </LabelTable>\n")
+
+
 def first_map(kind, points):
     start = '    <MatrixIndicesMap AppliesToMatrixDimension="0" IndicesMapToDataType="CIFTI_INDEX_TYPE_'
     if kind == "series":
         return start + (f'SERIES" NumberOfSeriesPoints="{points}" SeriesExponent="0" SeriesStart="0.0" '
                         'SeriesStep="0.72" SeriesUnit="SECOND"/>\n')
-    named = "".join(f"      <NamedMap>\n        <MapName>map &amp; contrast {n + 1}</MapName>\n      </NamedMap>\n" for n in range(points))
-    return start + f'SCALARS">\n{named}    </MatrixIndicesMap>\n'
+    table = label_table() if kind == "labels" else ""
+    named = "".join(f"      <NamedMap>\n        <MapName>map &amp; contrast {n + 1}</MapName>\n{table}      </NamedMap>\n"
+                    for n in range(points))
+    return start + f'{kind.upper()}">\n{named}    </MatrixIndicesMap>\n'
 
 
 def model_text(name, at, count, vertices, numbers):
@@ -156,7 +168,7 @@ def preset(name, kind="series", points=1, shuffle=False):
 def main():
     options = argparse.ArgumentParser(description=__doc__, formatter_class=argparse.RawDescriptionHelpFormatter)
     options.add_argument("preset", choices=["small", "1x", "maxrec", "maxbytes"])
-    options.add_argument("--map", choices=["series", "scalars"], default="series")
+    options.add_argument("--map", choices=["series", "scalars", "labels"], default="series")
     options.add_argument("--points", type=int, default=1)
     options.add_argument("--shuffle", action="store_true")
     options.add_argument("out")
