@@ -19,7 +19,6 @@ main-spec =
     (λ c. search needs)
     slice-aggregate-print-answer
     (λ c κs. search needs)
-    (λ c. search needs)
     (λ c κs. search needs)
     (λ c κs. search needs)
     (λ c. search needs)

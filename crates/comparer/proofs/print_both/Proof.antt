@@ -6,33 +6,26 @@ use borrow.Author.Needs.{needs}
 use Rattle.comparer.proofs.print_both.Statement.{statement}
 use Rattle.comparer.proofs.print_both.Tie as tie
 
-slice-aggregate-print-first : tie.Need-slice-aggregate-print-first
-slice-aggregate-print-first c = sym (length-take-le _ _ (omega arith))
+slice-aggregate-print-lines : tie.Need-slice-aggregate-print-lines
+slice-aggregate-print-lines c = sym (length-take-le _ _ (omega arith))
 
-slice-aggregate-print-first-2 : tie.Need-slice-aggregate-print-first-2
-slice-aggregate-print-first-2 c = sym (length-take-le _ _ (omega arith))
+slice-aggregate-print-lines-2 : tie.Need-slice-aggregate-print-lines-2
+slice-aggregate-print-lines-2 c = sym (length-take-le _ _ (omega arith))
 
-slice-aggregate-print-second : tie.Need-slice-aggregate-print-second
-slice-aggregate-print-second c = sym (length-take-le _ _ (omega arith))
-
-slice-aggregate-print-second-2 : tie.Need-slice-aggregate-print-second-2
-slice-aggregate-print-second-2 c = sym (length-take-le _ _ (omega arith))
-
-print-second-requires : tie.Need-print-second-requires
-print-second-requires c κs =
-    let n = c .before .before .before .before .before .before .before .within .result in
-    let m = c .before .before .before .before .before .before .within2 .result in
-    let xs = c .before .before .before .before .before .before .before .before .before .before .before .before .unpack .last .1 .0 in
-    let bs = c .before .before .before .before .before .before .before .before .before .unpack2 .last .1 .0 in
+print-lines-requires : tie.Need-print-lines-requires
+print-lines-requires c κs =
+    let n = c .before .before .before .within .result in
+    let m = c .before .before .within2 .result in
+    let xs = c .before .before .before .before .before .before .before .before .unpack .last .1 .0 in
+    let bs = c .before .before .before .before .before .unpack2 .last .1 .0 in
     let la : length (take n xs) ≡ n = length-take-le n xs (omega arith) in
     let lb : length (take m bs) ≡ m = length-take-le m bs (omega arith) in
     omega (
       arith,
       la,
       lb,
-      c .before .before .before .before .before .before .before .within .ensures,
-      c .before .before .before
-          .before .before .before .within2 .ensures,
+      c .before .before .before .within .ensures,
+      c .before .before .within2 .ensures,
     )
 
 pub print-both-spec : {M : Type 1} → statement M
@@ -46,14 +39,8 @@ print-both-spec =
     (λ c κs. search needs)
     (λ c κs. search needs)
     (λ c. search needs)
-    slice-aggregate-print-first
+    slice-aggregate-print-lines
     (λ c. search needs)
-    slice-aggregate-print-first-2
-    (λ c κs. search needs)
-    (λ c. search needs)
-    (λ c. search needs)
-    slice-aggregate-print-second
-    (λ c. search needs)
-    slice-aggregate-print-second-2
-    print-second-requires
+    slice-aggregate-print-lines-2
+    print-lines-requires
     (λ c. search needs))

@@ -1,6 +1,6 @@
 use Rattle.card.specs.Laws.Line.{recordSteps}
-use Rattle.comparer.proofs.record_line.Statement.{statement}
-use Rattle.comparer.proofs.record_line.Tie as tie
+use Rattle.change_text.proofs.record_line.Statement.{statement}
+use Rattle.change_text.proofs.record_line.Tie as tie
 
 pub record-line-spec : {M : Type 1} → statement M
 record-line-spec =

@@ -1,0 +1,26 @@
+use Rattle.change_text.specs.Laws.Output.{changeSteps}
+use borrow.Author.Needs.{needs}
+use Rattle.change_text.proofs.spell.Statement.{statement}
+use Rattle.change_text.proofs.spell.Tie as tie
+
+pub spell-spec : {M : Type 1} → statement M
+spell-spec =
+    tie.close
+    (tie.spec
+    (λ c. search needs)
+    (λ c. search needs)
+    (λ c. search needs)
+    (λ c κs. search needs)
+    (λ c. search needs)
+    (λ c. search needs)
+    (λ c κs. search needs)
+    (λ c. search needs)
+    (λ c. search needs)
+    (λ c κs. search needs)
+    (λ c. search changeSteps)
+    (λ c. search needs)
+    (λ c. search changeSteps)
+    (λ c. search needs)
+    (λ c. search changeSteps)
+    (λ c. search needs)
+    (λ c. search changeSteps))

@@ -1,0 +1,3 @@
+pub mod Output
+pub mod Lines
+pub mod Room
