@@ -35,9 +35,12 @@ unfoldable pub outputBytes : (a b : List ℕ) → List ℕ
 outputBytes a b = eachIn (lineAt a b) (table (length a + length b) (λ n. n))
 
 -- a refusal, or the lines
+unfoldable pub refusalBytes : (number : ℕ) → List ℕ
+refusalBytes n = lineBytes (Refused n)
+
 unfoldable pub answerBytes : (number : ℕ) → (a b : List ℕ) → List ℕ
 answerBytes zero a b = outputBytes a b
-answerBytes (suc n) a b = lineBytes (Refused (suc n))
+answerBytes (suc n) a b = refusalBytes (suc n)
 
 -- of two sheets, with a work space that is large enough
 unfoldable pub sheetsBytes : (s t : List ℕ) → List ℕ
@@ -45,9 +48,9 @@ sheetsBytes s t = answerBytes (compareRefusal s t (countOf s + countOf t)) (reco
 
 -- of all that stands on standard input: both sheets end to end
 unfoldable pub programBytes : (input : List ℕ) → List ℕ
-programBytes s = cond (ltb 32768 (length s)) (lineBytes (Refused 15)) (sheetsBytes (take (firstEnd s) s) (drop (firstEnd s) s))
+programBytes s = cond (ltb 32768 (length s)) (refusalBytes 15) (sheetsBytes (take (firstEnd s) s) (drop (firstEnd s) s))
 
 -- opens every definition above
 unfoldable pub outputWords : Unit {0}
-unfolding changeBytes lineAt outputBytes answerBytes sheetsBytes programBytes
+unfolding changeBytes lineAt outputBytes refusalBytes answerBytes sheetsBytes programBytes
 outputWords = tt

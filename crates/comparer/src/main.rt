@@ -3,8 +3,12 @@ use card::Line;
 use libc::STDERR_FILENO;
 use libc::STDIN_FILENO;
 use libc::STDOUT_FILENO;
-ghost use Prim.Native.Nat.{_+_, _≤_, _<_, _^_};
+ghost use mathlib.Core.Path.{_≡_};
+ghost use mathlib.Core.Bool.{false};
+ghost use Prim.Native.Nat.{_+_, _≤_};
 ghost use lib.ListN.{length};
+ghost use Rattle.comparison.specs.Compare.{recordsOf, compareRefusal};
+ghost use Rattle.change_text.specs.Output.{outputBytes, refusalBytes, programBytes};
 
 // How many bytes came, or that a read failed.
 struct Came {
@@ -40,33 +44,53 @@ fn read_bytes(bytes: &mut [u8]) -> Came
     }
 }
 
-// Whether it was written.
-fn print_refusal(number: u64) -> bool {
+// How many bytes were written, or that a write failed.
+struct Printed {
+    bytes: usize,
+    failed: bool,
+}
+
+fn print_refusal(number: u64) -> Printed
+    ensures { λ p. ⌜ (p .failed ≡ false → p .bytes ≡ length (refusalBytes number)) ⌝ }
+{
     let mut bytes = [0u8; 128];
     let size = card_text::write_line(Line::Refused(number), &mut bytes);
-    io::write_all(STDOUT_FILENO, &bytes[..size])
+    let written = io::write_all(STDOUT_FILENO, &bytes[..size]);
+    Printed {
+        bytes: size,
+        failed: !written,
+    }
 }
 
 // The lines of the indices of the first, and then of the second. Every line fits 128 bytes (`line-fits`).
-fn print_lines(first: &[u64], second: &[u64]) -> bool
-    requires { ⌜ length (now first) + length (now second) < 2 ^ 64 ⌝ }
+fn print_lines(first: &[u64], second: &[u64]) -> Printed
+    requires { ⌜ length (now first) + length (now second) ≤ 13104 ⌝ }
+    ensures { λ p. ⌜ (p .failed ≡ false → p .bytes ≡ length (outputBytes (now (first .entry)) (now (second .entry)))) ⌝ }
 {
     let count = first.len() + second.len();
     let mut n = 0;
+    let mut written = 0;
     while n < count {
         let mut bytes = [0u8; 128];
         let size = change_text::write_change(first, second, n, &mut bytes);
         if !io::write_all(STDOUT_FILENO, &bytes[..size]) {
-            return false;
+            return Printed {
+                bytes: written,
+                failed: true,
+            };
         }
+        written += size;
         n += 1;
     }
-    true
+    Printed {
+        bytes: written,
+        failed: false,
+    }
 }
 
 // How many records came, and at most as many as there is room for.
 fn within(count: u64) -> usize
-    ensures { λ r. ⌜ r ≤ 6552 ⌝ }
+    ensures { λ r. ⌜ (r ≤ 6552) × (count ≤ 6552 → r ≡ count) ⌝ }
 {
     if count <= 6_552 {
         count as usize
@@ -75,7 +99,12 @@ fn within(count: u64) -> usize
     }
 }
 
-fn print_both(first: &[u8], second: &[u8]) -> bool {
+// Of two sheets that are not refused.
+fn print_both(first: &[u8], second: &[u8]) -> Printed
+    requires { ⌜ compareRefusal (now first) (now second) 6552 ≡ 0 ⌝ }
+    ensures { λ p. ⌜ (p .failed ≡ false
+        → p .bytes ≡ length (outputBytes (recordsOf (now (first .entry))) (recordsOf (now (second .entry))))) ⌝ }
+{
     let mut a = [0u64; 6552];
     let mut b = [0u64; 6552];
     let one = sheets::unpack(first, &mut a);
@@ -85,7 +114,10 @@ fn print_both(first: &[u8], second: &[u8]) -> bool {
     print_lines(&a[..n], &b[..m])
 }
 
-fn print_answer(input: &[u8]) -> bool {
+fn print_answer(input: &[u8]) -> Printed
+    requires { ⌜ length (now input) ≤ 32768 ⌝ }
+    ensures { λ p. ⌜ (p .failed ≡ false → p .bytes ≡ length (programBytes (now (input .entry)))) ⌝ }
+{
     let mut work = [0u64; 6552];
     let end = changes::first_end(input);
     let answer = compare::compare(&input[..end], &input[end..], &mut work);
@@ -112,7 +144,7 @@ fn main() {
     } else {
         print_refusal(15)
     };
-    if !printed {
+    if printed.failed {
         fail();
     }
 }

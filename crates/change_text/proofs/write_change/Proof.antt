@@ -11,7 +11,8 @@ write-change-spec =
     (λ c. search needs)
     (λ c κs. search needs)
     (λ c. (
-      write-short (c .before .before .spell-at .ensures) (c .before .before .before .before .before .before .before .args .out .now) (c .if1 .taken),
+      write-short (c .before .before .spell-at .ensures) (c .before .before .before .before .before .before .before .args .out .now)
+          (c .if1 .taken),
       omega arith,
     ))
     (λ c. search needs)

@@ -1,12 +1,14 @@
--- THEOREMS ON THE OUTPUT: the lines of the first and then those of the second; as many lines as locations moved, first only and second only.
+-- THEOREMS ON THE OUTPUT: the lines of the first and then those of the second; as many as locations moved, first only and second only; how
+-- many bytes the first n have.
 use mathlib.Core.Path.{_≡_, refl, sym, ap, _∙_}
 use mathlib.Core.List.{List, [], _∷_, _++_, append-assoc}
-use mathlib.Core.Bool.{Bool, true, false, cond, not}
+use mathlib.Core.Bool.{Bool, true, false, cond}
 use Prim.Native.Nat.{ℕ, zero, suc, _+_, _*_, _-_, _/_, _%_, _≤_, _<_}
 use native.Mathlib.Omega.{arith}
-use borrow.Author.Tests.{lt-ltb, le-ltb, ne-eqb}
+use borrow.Author.Tests.{ne-eqb, le-leb}
 use lib.Dec.{eqb, ltb}
-use lib.ListN.{length, getD}
+use native.Mathlib.Numerals.{add-one}
+use lib.ListN.{length, getD, length-append}
 use Rattle.lists.specs.Lists.{count, countUp, table, eachIn}
 use Rattle.lists.specs.Laws.Lists.{count-append}
 use Rattle.grammar.specs.Bytes.{ascii}
@@ -18,9 +20,9 @@ use Rattle.changes.specs.Change.{changeAt}
 use Rattle.changes.specs.declared.Change.{Change}
 use Rattle.changes.specs.declared.Change.the-variants as changes
 use Rattle.card.specs.Card.{locationLine, recordLine}
-use Rattle.card_text.specs.Written.{inTensUpTo, inTens, spaced, wordsOf, lineBytes}
+use Rattle.card_text.specs.Written.{inTensUpTo, inTens, spaced, wordsOf, lineBytes, Writes}
 use Rattle.change_text.specs.Output.{changeBytes, lineAt, outputBytes}
-use Rattle.change_text.specs.Laws.Output.{at-first, at-second}
+use Rattle.change_text.specs.Laws.Output.{at-first, at-second, line-fits}
 
 -- ---- The lists of each number from i on, in a row.
 
@@ -74,7 +76,8 @@ module _ (a b : List ℕ) where
       output-row ∙ row-parts (lineAt a b) 0 (length a) (length b)
       ∙ rw (
         row-same (lineAt a b) (λ i. changeBytes (changeAt a b i) i (getD a i 0)) 0 0 (length a) (λ k h. of-first k h),
-        row-same (lineAt a b) (λ j. changeBytes (changeAt a b (length a + j)) j (getD b j 0)) (0 + length a) 0 (length b) (λ k h. of-second k),
+        row-same (lineAt a b) (λ j. changeBytes (changeAt a b (length a + j)) j (getD b j 0)) (0 + length a) 0 (length b)
+            (λ k h. of-second k),
       )
       refl
     where
@@ -221,3 +224,47 @@ lines-told a b =
       lines-first a b,
       lines-second a b,
     )
+
+-- ---- How many bytes the lines below n have.
+
+pub bytesBelow : (a b : List ℕ) → ℕ → ℕ
+bytesBelow a b n = length (inRow (lineAt a b) 0 n)
+
+module _ (a b : List ℕ) where
+  pub bytes-none : bytesBelow a b 0 ≡ 0
+  unfolding bytesBelow
+  bytes-none = ap length (row-none (lineAt a b) 0)
+
+  more : (n : ℕ) → bytesBelow a b (n + 1) ≡ bytesBelow a b n + length (lineAt a b n)
+  unfolding bytesBelow
+  more n =
+      let z : 0 + n ≡ n = omega arith in
+      let last : inRow (lineAt a b) (0 + n) 1 ≡ lineAt a b n ++ [] =
+      rw z (row-suc (lineAt a b) n 0 ∙ ap (λ l. lineAt a b n ++ l) (row-none (lineAt a b) (suc n))) in
+      omega (
+        arith,
+        ap length (row-parts (lineAt a b) 0 n 1 ∙ ap (λ l. inRow (lineAt a b) 0 n ++ l) last),
+        length-append (inRow (lineAt a b) 0 n) (lineAt a b n ++ []),
+        length-append (lineAt a b n) [],
+      )
+
+  pub bytes-few : (n : ℕ) → bytesBelow a b n ≤ 128 * n
+  bytes-few zero = omega (arith, bytes-none)
+  bytes-few (suc n) =
+      let e : bytesBelow a b (suc n) ≡ bytesBelow a b (n + 1) = ap (bytesBelow a b) (sym (add-one n)) in
+      omega (arith, e, more n, line-fits a b n, bytes-few n)
+
+  pub bytes-all : bytesBelow a b (length a + length b) ≡ length (outputBytes a b)
+  unfolding bytesBelow
+  bytes-all = ap length (sym (output-row a b))
+
+  -- a line that was written to a room of 128 bytes
+  module _ (n : ℕ) {out : List ℕ} {k : ℕ} {t : List ℕ} (written : Writes (lineAt a b n) out k t) (room : 128 ≤ length out) where
+    all : k ≡ length (lineAt a b n)
+    all = written .counted ∙ rw (le-leb (length (lineAt a b n)) (length out) (omega (arith, line-fits a b n))) refl
+
+    pub bytes-next : bytesBelow a b n + k ≡ bytesBelow a b (n + 1)
+    bytes-next = omega (arith, more n, all)
+
+    pub line-small : k ≤ 128
+    line-small = omega (arith, all, line-fits a b n)

@@ -15,11 +15,12 @@ use Rattle.grammar.specs.Look.{Word}
 use Rattle.records.specs.Record.{Location, onSurface, inVolume, locationOf}
 use Rattle.card.specs.Card.{locationLine, recordLine}
 use Rattle.card.specs.declared.line.Line.{Line}
+use Rattle.card.specs.declared.line.Line.the-variants as lines
 use Rattle.card_text.specs.Written.{inTensUpTo, inTens, spaced, wordsOf, lineBytes, Writes, Spells}
 use Rattle.changes.specs.Change.{ofSecond, changeAt}
 use Rattle.changes.specs.declared.Change.{Change}
 use Rattle.changes.specs.declared.Change.the-variants as changes
-use Rattle.change_text.specs.Output.{changeBytes, lineAt}
+use Rattle.change_text.specs.Output.{changeBytes, lineAt, refusalBytes}
 
 -- ---- How long a line is.
 
@@ -74,6 +75,18 @@ change-fits changes.Same n r = omega arith
 change-fits changes.Moved n r = omega (arith, length-append (ascii "moved ") (lineBytes (recordLine n r)), record-short n r)
 change-fits changes.First n r = omega (arith, length-append (ascii "first ") (lineBytes (recordLine n r)), record-short n r)
 change-fits changes.Second n r = omega (arith, length-append (ascii "second ") (lineBytes (recordLine n r)), record-short n r)
+
+-- a refusal fits it too
+pub refusal-all : (n : ℕ) {out : List ℕ} {k : ℕ} {t : List ℕ} → Writes (lineBytes (lines.Refused n)) out k t → 128 ≤ length out
+    → k ≡ length (refusalBytes n)
+unfolding refusalBytes lineBytes wordsOf
+refusal-all n {out} written room =
+    let a = spaced-more (ascii "refused") (inTens n) [] in
+    let b = spaced-one (inTens n) in
+    let seven : length (ascii "refused") ≡ 7 = refl in
+    let l = spaced (ascii "refused" ∷ inTens n ∷ []) in
+    let e : leb (length l) (length out) ≡ true = le-leb (length l) (length out) (omega (arith, a, b, seven, short n)) in
+    written .counted ∙ rw e refl
 
 -- ---- A word, and a line behind it.
 

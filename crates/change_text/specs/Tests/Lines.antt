@@ -46,8 +46,8 @@ refused-alone = refl
 -- is the input that the gate runs the program on.
 abbrev pub inputGiven : List ℕ
 inputGiven =
-    7 ∷ 0 ∷ 0 ∷ 2 ∷ 148 ∷ 0 ∷ 4 ∷ 0 ∷ 8 ∷ 0 ∷ 12 ∷ 152 ∷ 0 ∷ 4 ∷ 0 ∷ 8 ∷ 0 ∷ 12 ∷ 5 ∷ 0 ∷ 0 ∷ 2 ∷ 152 ∷ 0 ∷ 128 ∷ 32 ∷ 3 ∷ 156 ∷ 0 ∷ 128 ∷ 32
-    ∷ 3 ∷ []
+    7 ∷ 0 ∷ 0 ∷ 2 ∷ 148 ∷ 0 ∷ 4 ∷ 0 ∷ 8 ∷ 0 ∷ 12 ∷ 152 ∷ 0 ∷ 4 ∷ 0 ∷ 8 ∷ 0 ∷ 12
+    ∷ 5 ∷ 0 ∷ 0 ∷ 2 ∷ 152 ∷ 0 ∷ 128 ∷ 32 ∷ 3 ∷ 156 ∷ 0 ∷ 128 ∷ 32 ∷ 3 ∷ []
 
 pub input-told : programBytes inputGiven ≡ lined ("first 0 V 5 1 2 3" ∷ "moved 1 V 6 1 2 3" ∷ "second 1 V 7 1 2 3" ∷ [])
 unfolding computing

@@ -1,7 +1,8 @@
-use mathlib.Core.Path.{sym}
+use mathlib.Core.Path.{refl, sym, _∙_}
 use lib.Seq.{length-take-le}
 use native.Mathlib.Omega.{arith}
 use borrow.Author.Needs.{needs}
+use Rattle.change_text.specs.Laws.Room.{output-said, refusal-said, number-told, rest-is}
 use Rattle.comparer.proofs.print_answer.Statement.{statement}
 use Rattle.comparer.proofs.print_answer.Tie as tie
 
@@ -10,6 +11,28 @@ slice-aggregate-compare c = sym (length-take-le _ _ (omega arith))
 
 slice-aggregate-print-both : tie.Need-slice-aggregate-print-both
 slice-aggregate-print-both c = sym (length-take-le _ _ (omega arith))
+
+returns : tie.Need-returns
+returns c e =
+    let entry = c .before .before .before .before .before .before .before .before .before .before in
+    let input = entry .args .input .now in
+    let told = number-told (c .before .before .before .before .compare .ensures) refl in
+    let end = c .before .before .before .before .before .before .before .before .first-end .ensures .0 in
+    c .print-refusal .ensures e
+    ∙ refusal-said input (entry .pre) end refl (rest-is _ input) told (c .before .if1 .taken)
+
+print-both-requires : tie.Need-print-both-requires
+print-both-requires c κs =
+    sym (number-told (c .before .before .before .before .before .compare .ensures) refl) ∙ c .before .before .if1 .left
+
+returns-2 : tie.Need-returns-2
+returns-2 c e =
+    let entry = c .before .before .before .before .before .before .before .before .before .before .before .before in
+    let input = entry .args .input .now in
+    let told = number-told (c .before .before .before .before .before .before .compare .ensures) refl in
+    let end = c .before .before .before .before .before .before .before .before .before .before .first-end .ensures .0 in
+    c .print-both .ensures e
+    ∙ output-said input (entry .pre) end refl (rest-is _ input) told (c .before .before .before .if1 .left)
 
 pub print-answer-spec : {M : Type 1} → statement M
 print-answer-spec =
@@ -23,10 +46,10 @@ print-answer-spec =
     (λ c. search needs)
     (λ c κs. search needs)
     (λ c κs. search needs)
-    (λ c. search needs)
+    returns
     slice-aggregate-print-both
     (λ c. search needs)
     (λ c. search needs)
     (λ c. search needs)
-    (λ c κs. search needs)
-    (λ c. search needs))
+    print-both-requires
+    returns-2)
