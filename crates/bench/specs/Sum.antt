@@ -2,14 +2,13 @@
 use mathlib.Core.List.{List}
 use mathlib.Core.Bool.{cond}
 use Prim.Native.Nat.{ℕ, _%_, _^_}
-use lib.ListN.{drop}
 use Rattle.lists.specs.Lists.{all, total}
 use Rattle.grammar.specs.Look.{Word}
-use Rattle.nodes.specs.TextBytes.{says}
+use Rattle.nodes.specs.Texts.{saysAt}
 use Rattle.numbers.specs.Numbers.{digits, value, words}
 
 unfoldable pub sumOf : List Word → ℕ
 sumOf l = cond (all (digits 1 7) l) (total value l % 2 ^ 64) 0
 
 unfoldable pub sumFrom : List ℕ → ℕ → ℕ
-sumFrom text at = sumOf (words (says (drop at text)))
+sumFrom text at = sumOf (words (saysAt text at))

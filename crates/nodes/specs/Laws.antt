@@ -10,6 +10,7 @@ pub mod ScanEnds
 pub mod Values
 pub mod Fronts
 pub mod Texts
+pub mod Letters
 pub mod Walk
 pub mod Along
 pub mod AheadElements

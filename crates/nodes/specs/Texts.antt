@@ -1,5 +1,5 @@
 -- The text of the element at a position, and what is written between its tags.
-use mathlib.Core.Path.{_≡_, refl, sym, _∙_}
+use mathlib.Core.Path.{_≡_, refl, ap, sym, _∙_}
 use mathlib.Core.List.{List, [], _∷_, _++_}
 use Prim.Native.Nat.{ℕ, _+_, _-_, _≤_, _<_}
 use native.Mathlib.Omega.{arith}
@@ -35,10 +35,33 @@ inside-by n (got false r) = Nothing
 unfoldable pub inside : List ℕ → ℕ → Found
 inside text at = inside-by (length text) (tag-at (drop at text))
 
--- the text from there on
+-- what is said from a place on, and how many bytes are ahead of it
+unfoldable pub saysAt : List ℕ → ℕ → List ℕ
+saysAt text i = says (drop i text)
+
+unfoldable pub left : List ℕ → ℕ → ℕ
+left text i = length text - i
+
+-- up to the end of the text a place is a byte of it
+pub saysAt-outside : (text : List ℕ) (i : ℕ) → i ≤ length text → saysAt text i ≡ says (drop i text)
+unfolding saysAt
+saysAt-outside text i h = refl
+
+pub left-outside : (text : List ℕ) (i : ℕ) → i ≤ length text → left text i ≡ length text - i
+unfolding left
+left-outside text i h = refl
+
+pub left-most : (text : List ℕ) (i : ℕ) → left text i ≤ length text
+unfolding left
+left-most text i = omega arith
+
+pub saysAt-tail : {text r : List ℕ} → Tail text r → saysAt text (length text - length r) ≡ says r
+saysAt-tail {text} {r} t = saysAt-outside text (length text - length r) (omega arith) ∙ ap says (t .stands)
+
+-- the text from where contents begin
 unfoldable pub text-from : List ℕ → Found → List ℕ
 text-from text Nothing = []
-text-from text (At i) = says (drop i text)
+text-from text (At i) = saysAt text i
 
 unfoldable pub text-of : List ℕ → ℕ → List ℕ
 text-of text at = text-from text (inside text at)
@@ -49,7 +72,7 @@ unfolding inside-by text-from textOf contentsOf characters
 ending-text text n {r = r} tail (bare k q) = rw (k, tag-bare r, q)
 ending-text text n tail (filled {t} {behind} {c} k h z q) =
     let u : Tail text t = tail-more (62 ∷ []) t k tail in
-    rw (k, tag-filled t, q, u .stands) (contents-say t c behind h)
+    rw (k, tag-filled t, q, saysAt-tail u) (contents-say t c behind h)
 
 -- THE LAW OF TEXTS
 pub text-law : {text : List ℕ} {at : ℕ} → Stands text at → text-of text at ≡ textOf (the text at)
@@ -100,12 +123,13 @@ step-tailed text s t = by-tailed text (look s) s t
 
 -- what a step says: `front` is what is read
 pub record Steps (text : List ℕ) (i : ℕ) (front : List ℕ) (j : ℕ) : Type 0 where
-  pub inside-text : j ≤ length text
-  pub ahead : i < j
-  pub splits : says (drop i text) ≡ front ++ says (drop j text)
+  pub inside-text : j ≤ length text + length text + 1
+  pub ahead : left text j < left text i
+  pub splits : saysAt text i ≡ front ++ saysAt text j
 
 steps-by : (text : List ℕ) (i : ℕ) (front r : List ℕ) (j : ℕ) → j ≡ length text - length r → Tail text r
     → length r < length (drop i text) → says (drop i text) ≡ front ++ says r → Steps text i front j
+unfolding saysAt left
 steps-by text i front r j p t s e =
     let k : length (drop i text) ≡ length text - i = length-drop i text in
     let u : drop j text ≡ r = rw p (t .stands) in
@@ -145,14 +169,22 @@ module _ (text : List ℕ) (i : ℕ) {a : Text} (e : a ≡ text-step text i) whe
   text-skip z = skip-law text i (step (drop i text)) refl (step-tailed text (drop i text) (tail-of text i)) (step-short (drop i text))
       (sym e ∙ z)
 
-  pub text-stop : a ≡ Stop → says (drop i text) ≡ []
-  unfolding text-step
+  pub text-stop : a ≡ Stop → saysAt text i ≡ []
+  unfolding text-step saysAt
   text-stop z = stop-law (drop i text) (length text) (step (drop i text)) refl (sym e ∙ z)
+
+pub from-none : (text : List ℕ) → text-from text Nothing ≡ []
+unfolding text-from
+from-none text = refl
+
+pub from-at : (text : List ℕ) (i : ℕ) → text-from text (At i) ≡ saysAt text i
+unfolding text-from
+from-at text i = refl
 
 pub text-none : (text : List ℕ) (at : ℕ) → inside text at ≡ Nothing → text-of text at ≡ []
 unfolding text-from text-of
 text-none text at e = rw e
 
-pub text-some : (text : List ℕ) (at : ℕ) {i : ℕ} → inside text at ≡ At i → text-of text at ≡ says (drop i text)
+pub text-some : (text : List ℕ) (at : ℕ) {i : ℕ} → inside text at ≡ At i → text-of text at ≡ saysAt text i
 unfolding text-from text-of
 text-some text at e = rw e

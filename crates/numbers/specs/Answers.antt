@@ -8,7 +8,7 @@ use lib.ListN.{length, drop, getD}
 use Rattle.grammar.specs.Bytes.{blank, between}
 use Rattle.grammar.specs.Look.{Word}
 use Rattle.lists.specs.Lists.{count}
-use Rattle.nodes.specs.TextBytes.{says}
+use Rattle.nodes.specs.Texts.{saysAt}
 use Rattle.numbers.specs.Numbers.{digits, value, whole, words, Sign, plus, minus, withSign, dimensionList, commaValues}
 use Rattle.numbers.specs.Numbers.{volumeDimensions, exponent, exponentValue, inPower, decimal, decimalValue, up, down}
 use Rattle.numbers.specs.Numbers.{key, keyValue, inKeys, inValue, noLess, noMore}
@@ -88,7 +88,7 @@ nextOf place [] = End
 nextOf place (w ∷ l) = cond (digits 1 7 w) (Number (value w) (place (length w))) Bad
 
 unfoldable pub nextNumber : List ℕ → ℕ → Next
-nextNumber text i = let w = says (drop i text) in nextOf (λ n. behind Contents text (leading blank w + n) i) (words w)
+nextNumber text i = let w = saysAt text i in nextOf (λ n. behind Contents text (leading blank w + n) i) (words w)
 
 -- the sign that a program keeps as a test
 unfoldable pub signIf : Bool → Sign

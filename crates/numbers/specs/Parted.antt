@@ -3,12 +3,11 @@
 use mathlib.Core.Path.{_≡_, refl, sym, ap, _∙_}
 use mathlib.Core.List.{List, [], _∷_, _++_, append-nil}
 use mathlib.Core.Bool.{Bool, true, false, _&&_}
-use Prim.Native.Nat.{ℕ, _≤_, _<_}
-use lib.ListN.{length}
+use Prim.Native.Nat.{ℕ, _<_}
 use Rattle.grammar.specs.Bytes.{between}
 use Rattle.grammar.specs.Look.{Word}
 use Rattle.numbers.specs.Numbers.{digits, value, parts, comma}
-use Rattle.numbers.specs.Stream.{stream}
+use Rattle.numbers.specs.Stream.{stream, leftIn}
 use Rattle.numbers.specs.declared.Source.{Source}
 use Rattle.numbers.specs.declared.Part.{Part}
 use Rattle.numbers.specs.declared.Part.the-variants.{Comma, Last, No}
@@ -19,7 +18,7 @@ numeral most lo hi w = digits 1 most w && between lo hi (value w)
 
 pub data Parted (source : Source) (text : List ℕ) (most lo hi at : ℕ) : Part → Type 0 where
   part-comma : (x : Word) {j : ℕ} → numeral most lo hi x ≡ true → parts comma (stream source text at) ≡ x
-      ∷ parts comma (stream source text j) → at < j → j ≤ length text
+      ∷ parts comma (stream source text j) → leftIn source text j < leftIn source text at
       → Parted source text most lo hi at (Comma (value x) j)
   part-last : (x : Word) → numeral most lo hi x ≡ true → parts comma (stream source text at) ≡ x ∷ []
       → Parted source text most lo hi at (Last (value x))

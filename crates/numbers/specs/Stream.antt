@@ -8,8 +8,7 @@ use lib.ListN.{length, drop}
 use Rattle.grammar.specs.Bytes.{blank}
 use Rattle.grammar.specs.Look.{Word}
 use Rattle.nodes.specs.Values.{tells, decoded-at, Decodes, decoded-byte, decoded-end}
-use Rattle.nodes.specs.TextBytes.{says}
-use Rattle.nodes.specs.Texts.{text-step, Steps, text-letter, text-skip, text-stop}
+use Rattle.nodes.specs.Texts.{saysAt, left, text-step}
 use Rattle.nodes.specs.declared.Char.{Char}
 use Rattle.nodes.specs.declared.Char.the-variants.{Byte, End}
 use Rattle.nodes.specs.declared.Text.{Text}
@@ -30,7 +29,7 @@ letterWithin zero text i = End
 letterWithin (suc n) text i = letterBy (text-step text i) (letterWithin n text)
 
 unfoldable pub letterAt : List ℕ → ℕ → Char
-letterAt text i = letterWithin (suc (length text - i)) text i
+letterAt text i = letterWithin (suc (left text i)) text i
 
 unfoldable pub charAt : Source → List ℕ → ℕ → Char
 charAt (Value q) text i = decoded-at text i q
@@ -39,7 +38,12 @@ charAt Contents text i = letterAt text i
 -- all the decoded bytes from a place on
 unfoldable pub stream : Source → List ℕ → ℕ → Word
 stream (Value q) text i = tells q (drop i text)
-stream Contents text i = says (drop i text)
+stream Contents text i = saysAt text i
+
+-- the bytes ahead of a place
+unfoldable pub leftIn : Source → List ℕ → ℕ → ℕ
+leftIn (Value q) text i = length text - i
+leftIn Contents text i = left text i
 
 -- the place behind the next n decoded bytes
 unfoldable pub behindBy : Char → ℕ → (ℕ → ℕ) → ℕ

@@ -1,5 +1,4 @@
-use Prim.Native.Nat.{_-_}
-use lib.ListN.{length}
+use Rattle.nodes.specs.Texts.{left}
 use Rattle.bench.specs.Laws.Sum.{Summed, sumSteps}
 use Rattle.bench.proofs.bench_sum.Statement.{statement}
 use Rattle.bench.proofs.bench_sum.Tie as tie
@@ -8,7 +7,7 @@ abbrev Inv-loop : tie.InvT-loop
 Inv-loop text at sum₀ i₀ sum i = Summed text at sum i
 
 abbrev μ-loop : tie.MeasureT-loop
-μ-loop text at sum₀ i₀ sum i = length text - i
+μ-loop text at sum₀ i₀ sum i = left text i
 
 pub bench-sum-spec : {M : Type 1} → statement M
 bench-sum-spec =

@@ -29,7 +29,7 @@ use Rattle.nodes.specs.Children.{kid-then, kid-by, kid-at, kid-step, fir
 use Rattle.nodes.specs.ElementEnd.{Behind}
 use Rattle.nodes.specs.TextBytes.{Move, referring, past, bare-char, step-by, step, say, says, says-step, plain, returned}
 use Rattle.nodes.specs.TextBytes.{child-says}
-use Rattle.nodes.specs.Texts.{inside-by, inside, text-from, text-of}
+use Rattle.nodes.specs.Texts.{saysAt-tail, inside-by, inside, text-from, text-of}
 use Rattle.nodes.specs.Ahead.{afterGap, past-gap, gap-short, ending, ahead-then, ahead-by, ahead-at, ahead-step, first-ahead}
 use Rattle.nodes.specs.Ahead as Ahead-of
 use Rattle.nodes.specs.declared.Kid.{Kid}
@@ -280,7 +280,7 @@ module _ (text : List ℕ) (words : Bool) where
       go fail h = stray (λ r z. clash (cc))
       go (got true r) (good h) =
           let u : Tail text r = tail-more (h .front) r (h .whole) (tail-of text at) in
-          rw (u .stands) (faces (suc (length r)) r (omega arith) u)
+          rw (saysAt-tail u) (faces (suc (length r)) r (omega arith) u)
       go (got false r) (good h) =
           let t = tail-of text at in
           let u : Tail text r = tail-more (h .front) r (h .whole) t in

@@ -1,7 +1,6 @@
 use Rattle.numbers.specs.Laws.Lists.{listing, Listing, list-room}
 use native.Mathlib.Omega.{arith}
-use Prim.Native.Nat.{_-_}
-use lib.ListN.{length}
+use Rattle.numbers.specs.Stream.{leftIn}
 use Rattle.number_values.proofs.dimensions_between.Statement.{statement}
 use Rattle.number_values.proofs.dimensions_between.Tie as tie
 
@@ -9,7 +8,7 @@ abbrev Inv-loop : tie.InvT-loop
 Inv-loop text at lo hi source n₀ i₀ n i = Listing text at lo hi source n i
 
 abbrev μ-loop : tie.MeasureT-loop
-μ-loop text at lo hi source n₀ i₀ n i = length text - i
+μ-loop text at lo hi source n₀ i₀ n i = leftIn source text i
 
 pub dimensions-between-spec : {M : Type 1} → statement M
 dimensions-between-spec =

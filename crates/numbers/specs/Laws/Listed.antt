@@ -4,29 +4,23 @@ use mathlib.Core.List.{List, [], _∷_, _++_, append-assoc, append-nil}
 use mathlib.Core.Bool.{Bool, true, false, _&&_, _||_, cond, not}
 use Prim.Native.Nat.{ℕ, zero, suc, _+_, _*_, _-_, _^_, _≤_, _<_}
 use native.Mathlib.Omega.{arith}
-use native.Mathlib.Numerals.{add-one}
 use lib.Dec.{eqb, leb}
 use borrow.Author.Tests.{eqb-true, eqb-false, leb-true, leb-false}
-use lib.ListN.{length, drop, getD, length-drop}
-use lib.Seq.{drop-cons}
-use Rattle.lists.specs.Laws.Booleans.{or-left, or-right, and-left}
+use lib.ListN.{length, drop, getD}
+use Rattle.lists.specs.Laws.Booleans.{and-left}
 use Rattle.grammar.specs.Bytes.{ascii, blank, special}
 use Rattle.grammar.specs.Look.{Word}
-use Rattle.grammar.specs.Parser.{look, look-if, feed-at}
-use Rattle.grammar.specs.Laws.Tokens.{reference-other, line-end-other}
+use Rattle.grammar.specs.Parser.{feed-at}
 use Rattle.steps.specs.Step.{stepped}
-use Rattle.steps.specs.Leaves.{first-byte}
-use Rattle.steps.specs.Laws.Feeds.{fed, feed-got, return-read, feed-none, feed-there, feed-not}
+use Rattle.steps.specs.Laws.Feeds.{fed, feed-got, feed-none, feed-there, feed-not}
 use Rattle.steps.specs.declared.Step.{Step}
 use Rattle.steps.specs.declared.Step.the-variants.{To}
 use Rattle.lists.specs.Lists.{all, those, each}
-use Rattle.nodes.specs.TextBytes.{says, step, step-by, bare-char, referring, char}
-use Rattle.nodes.specs.Texts.{text-step, as-text}
+use Rattle.nodes.specs.Laws.Letters.{plain-letter, return-letter}
 use Rattle.nodes.specs.Laws.AheadElements.{blank-special}
 use Rattle.nodes.specs.declared.Char.{Char}
 use Rattle.nodes.specs.declared.Char.the-variants.{Byte}
 use Rattle.nodes.specs.declared.Char.the-variants as chars
-use Rattle.nodes.specs.declared.Text.the-variants.{Letter}
 use Rattle.numbers.specs.Numbers.{digit, digits, number, value, parts, onFirst, filled, words}
 use Rattle.numbers.specs.Laws.Cuts.{Uncut, none, more, uncut-snoc, Parts, parts-some, words-none, words-blank, words-end, words-cut}
 use Rattle.numbers.specs.Laws.Cuts.{FirstWord, first-word, digit-no-blank, digits-uncut, digits-are, digits-stopped}
@@ -39,30 +33,16 @@ use Rattle.numbers.specs.declared.Run.{Run}
 use Rattle.numbers.specs.declared.Next.{Next}
 use Rattle.numbers.specs.declared.Next.the-variants.{Number, End, Bad}
 
--- A byte that is neither `<` nor `&` nor a carriage return reads as itself; a return and its line feed read as one.
-plain-step : (a : ℕ) (s : List ℕ) → special a ≡ false → eqb a 13 ≡ false → step (a ∷ s) ≡ char a s
-unfolding step step-by bare-char look look-if referring special
-plain-step a s e f =
-    rw (or-left (eqb a 60) (eqb a 38) e, reference-other a (or-right (eqb a 60) (eqb a 38) e) s, line-end-other (ascii "\n") a f s) refl
-
-return-step : (s : List ℕ) → step (13 ∷ s) ≡ char 10 (fed s)
-unfolding step step-by bare-char look look-if referring first-byte
-return-step s = rw (reference-other 13 refl s, return-read (ascii "\n") s, feed-got (ascii "\n") s) refl
-
+-- Plain bytes
 pub plain-char : (text : List ℕ) (i : ℕ) → i < length text → special (getD text i 0) ≡ false → eqb (getD text i 0) 13 ≡ false
     → charAt Contents text i ≡ Byte (getD text i 0) (i + 1)
-unfolding charAt text-step as-text
-plain-char text i h e f =
-    let d : drop i text ≡ getD text i 0 ∷ drop (suc i) text = drop-cons text i 0 h in
-    let n : length text - length (drop (suc i) text) ≡ i + 1 = omega (arith, length-drop (suc i) text) in
-    letter-byte text i (rw (d, plain-step (getD text i 0) (drop (suc i) text) e f, n) refl)
+unfolding charAt
+plain-char text i h e f = letter-byte text i (plain-letter text i h e f)
 
 return-char : (text : List ℕ) (i : ℕ) → i < length text → getD text i 0 ≡ 13
     → charAt Contents text i ≡ Byte 10 (length text - length (fed (drop (i + 1) text)))
-unfolding charAt text-step as-text
-return-char text i h e =
-    let d : drop i text ≡ getD text i 0 ∷ drop (suc i) text = drop-cons text i 0 h in
-    letter-byte text i (rw (d, e, return-step (drop (suc i) text), add-one) refl)
+unfolding charAt
+return-char text i h e = letter-byte text i (return-letter text i h e)
 
 -- A blank byte reads as a blank.
 pub record BlankAt (text : List ℕ) (i : ℕ) : Type 0 where

@@ -14,7 +14,7 @@ use Rattle.grammar.specs.Look.{Word}
 use Rattle.lists.specs.Lists.{all, each, count}
 use Rattle.nodes.specs.Values.{value-there}
 use Rattle.numbers.specs.Numbers.{digits, value, parts, comma, dimensionList, commaValues}
-use Rattle.numbers.specs.Stream.{stream}
+use Rattle.numbers.specs.Stream.{stream, leftIn}
 use Rattle.numbers.specs.Parted.{numeral, Parted}
 use Rattle.numbers.specs.Laws.Forms.{numeral-single}
 use Rattle.numbers.specs.Answers.{listedIn, betweenIn}
@@ -81,19 +81,18 @@ module _ (lo hi : ℕ) where
 pub record Listing (text : List ℕ) (at lo hi : ℕ) (source : Source) (n i : ℕ) : Type 0 where
   pub quoted : source ≡ Value (getD text at 0)
   pub same : betweenIn lo hi (value-there text at) ≡ add-to n (betweenIn lo hi (stream source text i))
-  pub room : n < i
-  pub inside : i ≤ length text
+  pub room : n + leftIn source text i < length text
 
 pub list-past : (text : List ℕ) (at lo hi : ℕ) → length text ≤ at → wholes.No ≡ betweenIn lo hi (value-there text at)
 unfolding betweenIn dimensionList parts all digits
 list-past text at lo hi h = sym (rw (past text at h) refl)
 
 pub list-start : (text : List ℕ) (at lo hi : ℕ) → at < length text → Listing text at lo hi (Value (getD text at 0)) 0 (at + 1)
+unfolding leftIn
 list-start text at lo hi h = record {
   quoted = refl;
   same = ap (betweenIn lo hi) (there text at) ∙ sym (add-none (betweenIn lo hi (stream (Value (getD text at 0)) text (at + 1))));
   room = omega arith;
-  inside = omega arith;
 }
 
 module _ {text : List ℕ} {at lo hi : ℕ} {source : Source} {n i : ℕ} (go : Listing text at lo hi source n i) {r : Part}
@@ -107,7 +106,7 @@ module _ {text : List ℕ} {at lo hi : ℕ} {source : Source} {n i : ℕ} (go : 
 
   module _ (d : ℕ) {k : ℕ} (w : k ≡ cond (between lo hi d) 1 0) where
     pub list-room : n + k ≤ length text
-    list-room = omega (arith, at-most-one (between lo hi d) w, go .room, go .inside)
+    list-room = omega (arith, at-most-one (between lo hi d) w, go .room)
 
     pub list-last : r ≡ Last d → wholes.Is (n + k) ≡ betweenIn lo hi (value-there text at)
     unfolding add-to
@@ -120,8 +119,8 @@ module _ {text : List ℕ} {at lo hi : ℕ} {source : Source} {n i : ℕ} (go : 
         ) refl)
 
     module _ {j : ℕ} (e : r ≡ Comma d j) where
-      pub list-less : length text - j < length text - i
-      list-less = let h = says-comma p e in omega (arith, h .ahead, h .inside)
+      pub list-less : leftIn source text j < leftIn source text i
+      list-less = says-comma p e .ahead
 
       pub list-on : Listing text at lo hi source (n + k) j
       list-on =
@@ -132,7 +131,6 @@ module _ {text : List ℕ} {at lo hi : ℕ} {source : Source} {n i : ℕ} (go : 
             quoted = go .quoted;
             same = go .same ∙ ap (add-to n) (q ∙ rw (h .valued, w) refl) ∙ add-again n k _;
             room = omega (arith, at-most-one (between lo hi d) w, go .room, h .ahead);
-            inside = h .inside;
           }
 
 pub ruleset listing = (list-past, list-start, list-no, list-room, list-last, list-less, list-on, needs)

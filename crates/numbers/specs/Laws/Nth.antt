@@ -11,7 +11,7 @@ use Rattle.grammar.specs.Bytes.{between}
 use Rattle.grammar.specs.Look.{Word, textOf}
 use Rattle.lists.specs.Lists.{all, each}
 use Rattle.nodes.specs.Places.{Stands, the}
-use Rattle.nodes.specs.TextBytes.{says}
+use Rattle.nodes.specs.Texts.{saysAt}
 use Rattle.nodes.specs.Texts.{inside, text-of, text-law, text-some}
 use Rattle.nodes.specs.declared.Found.the-variants.{At}
 use Rattle.numbers.specs.Numbers.{digits, words, values, whole}
@@ -36,9 +36,9 @@ inForm w = all (digits 1 7) (words w)
 
 -- what the n-th answer says
 pub record Nth (text : List ℕ) (i n v j : ℕ) : Type 0 where
-  pub valued : getD (values (says (drop i text))) n 0 ≡ v
-  pub counted : n < length (values (says (drop i text)))
-  pub left : words (says (drop j text)) ≡ drop (suc n) (words (says (drop i text)))
+  pub valued : getD (values (saysAt text i)) n 0 ≡ v
+  pub counted : n < length (values (saysAt text i))
+  pub left : words (saysAt text j) ≡ drop (suc n) (words (saysAt text i))
 
 handed-suc : (n : ℕ) (text : List ℕ) (i : ℕ) → handed (suc n) text i ≡ after (nextNumber text i) (handed n text)
 unfolding handed
@@ -65,34 +65,34 @@ nth (suc n) text i {v} {j} e = go (nextNumber text i) refl (sym (handed-suc n te
         }
 
 -- In form, each is handed out, and then the end; out of form, some answer is `Bad`.
-first-form : (text : List ℕ) (i : ℕ) {v j : ℕ} → nextNumber text i ≡ Number v j → inForm (says (drop i text)) ≡ inForm (says (drop j text))
+first-form : (text : List ℕ) (i : ℕ) {v j : ℕ} → nextNumber text i ≡ Number v j → inForm (saysAt text i) ≡ inForm (saysAt text j)
 unfolding inForm all
 first-form text i e = let h = number-law text i refl e in rw (h .splits, h .in-form) refl
 
-bad-form : (text : List ℕ) (i : ℕ) → nextNumber text i ≡ Bad → inForm (says (drop i text)) ≡ false
+bad-form : (text : List ℕ) (i : ℕ) → nextNumber text i ≡ Bad → inForm (saysAt text i) ≡ false
 unfolding inForm all
 bad-form text i e = let h = bad-law text i refl e in rw (h .splits, h .out-of-form) refl
 
-pub never-bad : (n : ℕ) (text : List ℕ) (i : ℕ) → handed n text i ≡ Bad → inForm (says (drop i text)) ≡ false
+pub never-bad : (n : ℕ) (text : List ℕ) (i : ℕ) → handed n text i ≡ Bad → inForm (saysAt text i) ≡ false
 unfolding handed after
 never-bad zero text i e = bad-form text i e
 never-bad (suc n) text i e = go (nextNumber text i) refl (sym (handed-suc n text i) ∙ e) λ k q. never-bad n text k q
   where
     go : (x : Next) → nextNumber text i ≡ x → after x (handed n text) ≡ Bad
-        → ((k : ℕ) → handed n text k ≡ Bad → inForm (says (drop k text)) ≡ false) → inForm (says (drop i text)) ≡ false
+        → ((k : ℕ) → handed n text k ≡ Bad → inForm (saysAt text k) ≡ false) → inForm (saysAt text i) ≡ false
     go End q h ih = clash (cc)
     go Bad q h ih = bad-form text i q
     go (Number u k) q h ih = first-form text i q ∙ ih k h
 
-pub ended : (n : ℕ) (text : List ℕ) (i : ℕ) → handed n text i ≡ End → (inForm (says (drop i text)) ≡ true)
-    × (length (values (says (drop i text))) ≤ n)
+pub ended : (n : ℕ) (text : List ℕ) (i : ℕ) → handed n text i ≡ End → (inForm (saysAt text i) ≡ true)
+    × (length (values (saysAt text i)) ≤ n)
 unfolding handed after inForm all values each
 ended zero text i e = let h = end-law text i refl e in rw h (refl, omega arith)
 ended (suc n) text i e = go (nextNumber text i) refl (sym (handed-suc n text i) ∙ e) λ k q. ended n text k q
   where
     go : (x : Next) → nextNumber text i ≡ x → after x (handed n text) ≡ End
-        → ((k : ℕ) → handed n text k ≡ End → (inForm (says (drop k text)) ≡ true) × (length (values (says (drop k text))) ≤ n))
-        → (inForm (says (drop i text)) ≡ true) × (length (values (says (drop i text))) ≤ suc n)
+        → ((k : ℕ) → handed n text k ≡ End → (inForm (saysAt text k) ≡ true) × (length (values (saysAt text k)) ≤ n))
+        → (inForm (saysAt text i) ≡ true) × (length (values (saysAt text i)) ≤ suc n)
     go Bad q h ih = clash (cc)
     go End q h ih = let f = end-law text i refl q in rw f (refl, omega arith)
     go (Number u k) q h ih =
@@ -103,8 +103,8 @@ ended (suc n) text i e = go (nextNumber text i) refl (sym (handed-suc n text i) 
 -- one of the three, for every n
 pub data Answer (text : List ℕ) (i n : ℕ) : Type 0 where
   a-number : {v j : ℕ} → handed n text i ≡ Number v j → Nth text i n v j → Answer text i n
-  the-end : handed n text i ≡ End → inForm (says (drop i text)) ≡ true → length (values (says (drop i text))) ≤ n → Answer text i n
-  out-of-form : handed n text i ≡ Bad → inForm (says (drop i text)) ≡ false → Answer text i n
+  the-end : handed n text i ≡ End → inForm (saysAt text i) ≡ true → length (values (saysAt text i)) ≤ n → Answer text i n
+  out-of-form : handed n text i ≡ Bad → inForm (saysAt text i) ≡ false → Answer text i n
 
 pub answers : (n : ℕ) (text : List ℕ) (i : ℕ) → Answer text i n
 answers n text i = go (handed n text i) refl
@@ -115,16 +115,16 @@ answers n text i = go (handed n text i) refl
     go Bad e = out-of-form e (never-bad n text i e)
 
 -- so a list in form hands out its numbers, all of them, and then the end
-pub all-handed : (n : ℕ) (text : List ℕ) (i : ℕ) → inForm (says (drop i text)) ≡ true → n < length (values (says (drop i text)))
-    → (j : ℕ) × (handed n text i ≡ Number (getD (values (says (drop i text))) n 0) j)
+pub all-handed : (n : ℕ) (text : List ℕ) (i : ℕ) → inForm (saysAt text i) ≡ true → n < length (values (saysAt text i))
+    → (j : ℕ) × (handed n text i ≡ Number (getD (values (saysAt text i)) n 0) j)
 all-handed n text i f l = go (answers n text i)
   where
-    go : Answer text i n → (j : ℕ) × (handed n text i ≡ Number (getD (values (says (drop i text))) n 0) j)
+    go : Answer text i n → (j : ℕ) × (handed n text i ≡ Number (getD (values (saysAt text i)) n 0) j)
     go (a-number {v = v} {j = j} e h) = (j, e ∙ ap (λ z. Number z j) (sym (h .valued)))
     go (the-end e g h) = absurd (omega arith)
     go (out-of-form e h) = clash (cc)
 
-text-is : {text : List ℕ} {at i : ℕ} → Stands text at → inside text at ≡ At i → says (drop i text) ≡ textOf (the text at)
+text-is : {text : List ℕ} {at i : ℕ} → Stands text at → inside text at ≡ At i → saysAt text i ≡ textOf (the text at)
 text-is {text} {at} {i} st e = sym (text-some text at e) ∙ text-law st
 
 -- THE SAME, OF THE DOCUMENT: the n-th number handed out from where the contents begin is the n-th of the element's text.

@@ -113,7 +113,6 @@ module _ (source : Source) (text : List ℕ) (most lo hi at : ℕ) {run : Run} (
         unfolding comma
         part-finds-comma h =
             let s = char-byte source text (run .next) ec q in
-            rw is-value (part-comma (ran .read) right (at-comma (s .splits) (eq-eqb b 44 h)) (omega (arith, s .ahead, ran .ahead))
-            (s .inside))
+            rw is-value (part-comma (ran .read) right (at-comma (s .splits) (eq-eqb b 44 h)) (omega (arith, s .ahead, ran .ahead)))
 
 pub ruleset finding = (from-zero, part-empty, part-low, part-high, part-finds-last, part-finds-other, part-finds-comma, needs)

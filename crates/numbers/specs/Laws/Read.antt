@@ -11,8 +11,7 @@ use borrow.Author.Tests.{le-leb, lt-leb, not-true, not-false}
 use lib.ListN.{length, drop}
 use Rattle.grammar.specs.Bytes.{blank, between}
 use Rattle.grammar.specs.Look.{Word}
-use Rattle.nodes.specs.TextBytes.{says}
-use Rattle.nodes.specs.Texts.{text-step, Steps, text-skip}
+use Rattle.nodes.specs.Texts.{left, text-step, text-skip}
 use Rattle.nodes.specs.Values.{decoded-at}
 use Rattle.nodes.specs.declared.Char.{Char}
 use Rattle.nodes.specs.declared.Char.the-variants.{Byte, End}
@@ -20,7 +19,7 @@ use Rattle.nodes.specs.declared.Text.{Text}
 use Rattle.nodes.specs.declared.Text.the-variants.{Stop, Skip, Letter}
 use Rattle.numbers.specs.Numbers.{digit}
 use Rattle.numbers.specs.Laws.Cuts.{grown, powers}
-use Rattle.numbers.specs.Stream.{letterAt, charAt, stream, behind, behindBy, leading, wordEnds, digitsBy, digitsAt}
+use Rattle.numbers.specs.Stream.{letterAt, charAt, stream, leftIn, behind, behindBy, leading, wordEnds, digitsBy, digitsAt}
 use Rattle.numbers.specs.Laws.Stream.{Moves, letter-stop, letter-byte, letter-skip, char-byte, char-end, behind-none, behind-one}
 use Rattle.numbers.specs.Laws.Stream.{behind-suc, run-suc}
 use Rattle.numbers.specs.declared.Source.{Source}
@@ -42,8 +41,8 @@ module _ {text : List ℕ} {at i : ℕ} (go : Seeking text at i) {a : Text} (e :
     pub seek-skip : Seeking text at j
     seek-skip = record { same = go .same ∙ letter-skip text i (sym e ∙ k) }
 
-    pub seek-less : length text - j < length text - i
-    seek-less = let s = text-skip text i e k in omega (arith, s .ahead, s .inside-text)
+    pub seek-less : left text j < left text i
+    seek-less = text-skip text i e k .ahead
 
   pub seek-letter : {b j : ℕ} → a ≡ Letter b j → Byte b j ≡ letterAt text at
   seek-letter k = sym (go .same ∙ letter-byte text i (sym e ∙ k))
@@ -172,8 +171,9 @@ module _ {text : List ℕ} {at i : ℕ} (go : Passing text at i) {c : Char} (e :
     unfolding leading
     pass-other {t} h k = stays (rw (char-byte Contents text i from q .splits, sym h ∙ not-true t k) refl)
 
-    pub pass-less : length text - j < length text - i
-    pass-less = let s = char-byte Contents text i from q in omega (arith, s .ahead, s .inside)
+    pub pass-less : left text j < left text i
+    unfolding leftIn
+    pass-less = char-byte Contents text i from q .ahead
 
     pub pass-on : {t : Bool} → t ≡ blank b → not t ≡ false → Passing text at j
     unfolding leading

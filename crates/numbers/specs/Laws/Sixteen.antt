@@ -12,7 +12,7 @@ use lib.Dec.{eqb, leb}
 use lib.ListN.{length, drop}
 use Rattle.grammar.specs.Bytes.{blank}
 use Rattle.grammar.specs.Look.{Word}
-use Rattle.nodes.specs.TextBytes.{says}
+use Rattle.nodes.specs.Texts.{saysAt}
 use Rattle.nodes.specs.declared.Char.{Char}
 use Rattle.nodes.specs.declared.Char.the-variants.{Byte, End}
 use Rattle.lists.specs.Lists.{all}
@@ -90,18 +90,18 @@ empty = refl
 
 -- the walk
 pub record Checking (text : List ℕ) (at left i : ℕ) : Type 0 where
-  pub same : sixteen (says (drop at text)) ≡ sixteenFrom left (words (stream Contents text i))
+  pub same : sixteen (saysAt text at) ≡ sixteenFrom left (words (stream Contents text i))
 
 pub checking-start : (text : List ℕ) (at : ℕ) → Checking text at 16 at
 unfolding stream
-checking-start text at = record { same = sixteen-is (says (drop at text)) }
+checking-start text at = record { same = sixteen-is (saysAt text at) }
 
 module _ {text : List ℕ} {at left i : ℕ} (go : Checking text at left i) {from : ℕ}
     (ef : from ≡ behind Contents text (leading blank (stream Contents text i)) i) where
   starts : Blanked text i from
   starts = rw ef (blanked (leading blank (stream Contents text i)) text i refl)
 
-  here : sixteen (says (drop at text)) ≡ sixteenFrom left (words (stream Contents text from))
+  here : sixteen (saysAt text at) ≡ sixteenFrom left (words (stream Contents text from))
   here = go .same ∙ ap (sixteenFrom left) (starts .same-words)
 
   -- the end
@@ -110,11 +110,11 @@ module _ {text : List ℕ} {at left i : ℕ} (go : Checking text at left i) {fro
     unfolding charAt
     now-at = ec
 
-    pub checking-end : c ≡ End → true ≡ sixteen (says (drop at text))
+    pub checking-end : c ≡ End → true ≡ sixteen (saysAt text at)
     unfolding sixteenFrom
     checking-end e = let z : left ≡ 0 = omega arith in sym (here ∙ rw (z, char-end Contents text from now-at e, words-none) refl)
 
-    pub checking-over : {b j : ℕ} → c ≡ Byte b j → false ≡ sixteen (says (drop at text))
+    pub checking-over : {b j : ℕ} → c ≡ Byte b j → false ≡ sixteen (saysAt text at)
     unfolding sixteenFrom
     checking-over {b} {j} e =
         let z : left ≡ 0 = omega arith in
@@ -124,7 +124,7 @@ module _ {text : List ℕ} {at left i : ℕ} (go : Checking text at left i) {fro
 
   -- a decimal
   module _ (some-left : 0 < left) {r : Spelling} (p : Spelled Contents text from r) where
-    pub checking-fails : r ≡ Fails → false ≡ sixteen (says (drop at text))
+    pub checking-fails : r ≡ Fails → false ≡ sixteen (saysAt text at)
     unfolding wordEnds
     checking-fails e = sym (here ∙ failing (p .reading) e)
       where
@@ -144,7 +144,7 @@ module _ {text : List ℕ} {at left i : ℕ} (go : Checking text at left i) {fro
 
     module _ {d : Decimal} {j : ℕ} (e : r ≡ Reads d j) where
       module _ {t : Bool} (et : t ≡ rightAt (left - 1) d) where
-        one : sixteen (says (drop at text)) ≡ (t && sixteenFrom (left - 1) (words (stream Contents text j)))
+        one : sixteen (saysAt text at) ≡ (t && sixteenFrom (left - 1) (words (stream Contents text j)))
         one = here ∙ read (p .reading) e
           where
             m : left ≡ suc (left - 1)
@@ -166,7 +166,7 @@ module _ {text : List ℕ} {at left i : ℕ} (go : Checking text at left i) {fro
             read (fails x y f u s n) q = let z : _≡_ {A = ℕ} 0 1 = cc in absurd (omega arith)
             read (reads x {j = k} {d = v} f h u s n) q = let a : v ≡ d = cc in let b : k ≡ j = cc in by x k v f h u s n a b
 
-        pub checking-wrong : not t ≡ true → false ≡ sixteen (says (drop at text))
+        pub checking-wrong : not t ≡ true → false ≡ sixteen (saysAt text at)
         checking-wrong h = sym (one ∙ rw (not-true t h) refl)
 
         pub checking-on : not t ≡ false → Checking text at (left - 1) j

@@ -11,24 +11,22 @@ use Rattle.grammar.specs.Bytes.{blank}
 use Rattle.grammar.specs.Look.{Word}
 use Rattle.lists.specs.Lists.{all}
 use Rattle.nodes.specs.Values.{tells, decoded-at, Decodes, decoded-byte, decoded-end}
-use Rattle.nodes.specs.TextBytes.{says}
-use Rattle.nodes.specs.Texts.{text-step, Steps, text-letter, text-skip, text-stop}
+use Rattle.nodes.specs.Texts.{saysAt, left, text-step, Steps, text-letter, text-skip, text-stop}
 use Rattle.nodes.specs.declared.Char.{Char}
 use Rattle.nodes.specs.declared.Char.the-variants.{Byte, End}
 use Rattle.nodes.specs.declared.Text.{Text}
 use Rattle.nodes.specs.declared.Text.the-variants.{Stop, Skip, Letter}
 use Rattle.numbers.specs.Numbers.{digit, number, words}
 use Rattle.numbers.specs.Laws.Cuts.{words-blank}
-use Rattle.numbers.specs.Stream.{letterBy, letterWithin, letterAt, charAt, stream, behindBy, behind, leading, wordEnds, digitsBy}
-use Rattle.numbers.specs.Stream.{digitsAt}
+use Rattle.numbers.specs.Stream.{letterBy, letterWithin, letterAt, charAt, stream, leftIn, behindBy, behind, leading, wordEnds}
+use Rattle.numbers.specs.Stream.{digitsBy, digitsAt}
 use Rattle.numbers.specs.declared.Source.{Source}
 use Rattle.numbers.specs.declared.Source.the-variants.{Value, Contents}
 use Rattle.numbers.specs.declared.Run.{Run}
 
 -- a byte is read between two places
 pub record Moves (source : Source) (text : List ℕ) (i b j : ℕ) : Type 0 where
-  pub inside : j ≤ length text
-  pub ahead : i < j
+  pub ahead : leftIn source text j < leftIn source text i
   pub splits : stream source text i ≡ b ∷ stream source text j
 
 -- THE NEXT LETTER
@@ -36,7 +34,7 @@ within-suc : (n : ℕ) (text : List ℕ) (i : ℕ) → letterWithin (suc n) text
 unfolding letterWithin
 within-suc n text i = refl
 
-letter-enough : (n m : ℕ) (text : List ℕ) (i : ℕ) → length text - i < n → length text - i < m
+letter-enough : (n m : ℕ) (text : List ℕ) (i : ℕ) → left text i < n → left text i < m
     → letterWithin n text i ≡ letterWithin m text i
 unfolding letterBy
 letter-enough zero m text i h k = absurd (omega arith)
@@ -45,67 +43,68 @@ letter-enough (suc n) (suc m) text i h k =
     rw (within-suc n text i, within-suc m text i) (go (text-step text i) refl λ j l₁ l₂. letter-enough n m text j l₁ l₂)
   where
     go : (x : Text) → text-step text i ≡ x
-        → ((j : ℕ) → length text - j < n → length text - j < m → letterWithin n text j ≡ letterWithin m text j)
+        → ((j : ℕ) → left text j < n → left text j < m → letterWithin n text j ≡ letterWithin m text j)
         → letterBy x (letterWithin n text) ≡ letterBy x (letterWithin m text)
     go Stop e ih = refl
     go (Letter b j) e ih = refl
     go (Skip j) e ih = let s = text-skip text i refl e in
-        ih j (omega (arith, s .ahead, s .inside-text)) (omega (arith, s .ahead, s .inside-text))
+        ih j (omega (arith, s .ahead)) (omega (arith, s .ahead))
 
 pub letter-stop : (text : List ℕ) (i : ℕ) → text-step text i ≡ Stop → letterAt text i ≡ End
 unfolding letterAt letterBy
-letter-stop text i e = within-suc (length text - i) text i ∙ rw e refl
+letter-stop text i e = within-suc (left text i) text i ∙ rw e refl
 
 pub letter-byte : (text : List ℕ) (i : ℕ) {b j : ℕ} → text-step text i ≡ Letter b j → letterAt text i ≡ Byte b j
 unfolding letterAt letterBy
-letter-byte text i e = within-suc (length text - i) text i ∙ rw e refl
+letter-byte text i e = within-suc (left text i) text i ∙ rw e refl
 
 pub letter-skip : (text : List ℕ) (i : ℕ) {j : ℕ} → text-step text i ≡ Skip j → letterAt text i ≡ letterAt text j
 unfolding letterAt letterBy
 letter-skip text i {j} e =
     let s = text-skip text i refl e in
-    within-suc (length text - i) text i ∙ rw e
-    (letter-enough (length text - i) (suc (length text - j)) text j (omega (arith, s .ahead, s .inside-text)) (omega arith))
+    within-suc (left text i) text i ∙ rw e
+    (letter-enough (left text i) (suc (left text j)) text j (s .ahead) (omega arith))
 
 abbrev LetterSays : List ℕ → ℕ → Char → Type 0
-LetterSays text i End = says (drop i text) ≡ []
+LetterSays text i End = saysAt text i ≡ []
 LetterSays text i (Byte b j) = Moves Contents text i b j
 
-letter-says : (n : ℕ) (text : List ℕ) (i : ℕ) → length text - i < n → LetterSays text i (letterWithin n text i)
-unfolding letterBy stream
+letter-says : (n : ℕ) (text : List ℕ) (i : ℕ) → left text i < n → LetterSays text i (letterWithin n text i)
+unfolding letterBy stream leftIn
 letter-says zero text i h = absurd (omega arith)
 letter-says (suc n) text i h = rw (within-suc n text i) (go (text-step text i) refl λ j l. letter-says n text j l)
   where
     further : (j : ℕ) → Steps text i [] j → (c : Char) → LetterSays text j c → LetterSays text i c
     further j s End k = s .splits ∙ k
-    further j s (Byte b m) k = record { inside = k .inside; ahead = omega (arith, s .ahead, k .ahead); splits = s .splits ∙ k .splits }
+    further j s (Byte b m) k = record { ahead = omega (arith, s .ahead, k .ahead); splits = s .splits ∙ k .splits }
 
-    go : (x : Text) → text-step text i ≡ x → ((j : ℕ) → length text - j < n → LetterSays text j (letterWithin n text j))
+    go : (x : Text) → text-step text i ≡ x → ((j : ℕ) → left text j < n → LetterSays text j (letterWithin n text j))
         → LetterSays text i (letterBy x (letterWithin n text))
     go Stop e ih = text-stop text i refl e
-    go (Letter b j) e ih = let s = text-letter text i refl e in record { inside = s .inside-text; ahead = s .ahead; splits = s .splits }
+    go (Letter b j) e ih = let s = text-letter text i refl e in record { ahead = s .ahead; splits = s .splits }
     go (Skip j) e ih = let s = text-skip text i refl e in
-        further j s (letterWithin n text j) (ih j (omega (arith, s .ahead, s .inside-text)))
+        further j s (letterWithin n text j) (ih j (omega (arith, s .ahead)))
 
 letter-moves : (text : List ℕ) (i : ℕ) (c : Char) → LetterSays text i c → {b j : ℕ} → c ≡ Byte b j → Moves Contents text i b j
 letter-moves text i End h e = clash (cc)
 letter-moves text i (Byte b j) h {b = b₁} {j = j₁} e = let p : b ≡ b₁ = cc in let q : j ≡ j₁ = cc in rw (p, q) at h
 
-letter-ends : (text : List ℕ) (i : ℕ) (c : Char) → LetterSays text i c → c ≡ End → says (drop i text) ≡ []
+letter-ends : (text : List ℕ) (i : ℕ) (c : Char) → LetterSays text i c → c ≡ End → saysAt text i ≡ []
 letter-ends text i End h e = h
 letter-ends text i (Byte b j) h e = clash (cc)
 
 -- THE NEXT BYTE, of either source
 pub char-byte : (source : Source) (text : List ℕ) (i : ℕ) {c : Char} → c ≡ charAt source text i → {b j : ℕ} → c ≡ Byte b j
     → Moves source text i b j
-unfolding charAt letterAt stream
-char-byte (Value q) text i e z = let d = decoded-byte text q i e z in record { inside = d .inside; ahead = d .ahead; splits = d .splits }
-char-byte Contents text i e z = letter-moves text i (letterAt text i) (letter-says (suc (length text - i)) text i (omega arith)) (sym e ∙ z)
+unfolding charAt letterAt stream leftIn
+char-byte (Value q) text i e z = let d = decoded-byte text q i e z in
+    record { ahead = omega (arith, d .ahead, d .inside); splits = d .splits }
+char-byte Contents text i e z = letter-moves text i (letterAt text i) (letter-says (suc (left text i)) text i (omega arith)) (sym e ∙ z)
 
 pub char-end : (source : Source) (text : List ℕ) (i : ℕ) {c : Char} → c ≡ charAt source text i → c ≡ End → stream source text i ≡ []
 unfolding charAt letterAt stream
 char-end (Value q) text i e z = decoded-end text q i e z
-char-end Contents text i e z = letter-ends text i (letterAt text i) (letter-says (suc (length text - i)) text i (omega arith)) (sym e ∙ z)
+char-end Contents text i e z = letter-ends text i (letterAt text i) (letter-says (suc (left text i)) text i (omega arith)) (sym e ∙ z)
 
 -- THE PLACE BEHIND
 pub behind-suc : (source : Source) (text : List ℕ) (n i : ℕ)
@@ -129,7 +128,7 @@ pub record Ran (source : Source) (text : List ℕ) (most n k i : ℕ) (r : Run) 
   pub few : length read ≤ most
   pub counted : r .count ≡ k + length read
   pub valued : r .value ≡ number n read
-  pub ahead : i ≤ r .next
+  pub ahead : leftIn source text (r .next) ≤ leftIn source text i
   pub place : r .next ≡ behind source text (length read) i
   pub splits : stream source text i ≡ read ++ stream source text (r .next)
   pub stops : (b : ℕ) (x : Word) → stream source text (r .next) ≡ b ∷ x → length read < most → digit b ≡ false

@@ -18,7 +18,7 @@ use Rattle.nodes.specs.declared.Char.the-variants.{Byte, End}
 use Rattle.numbers.specs.Numbers.{digits, value, parts, comma, whole, three, volumeDimensions, dimensionList, commaValues, Sign}
 use Rattle.numbers.specs.Numbers.{plus, minus, unsigned, withSign, exponent, exponentValue}
 use Rattle.numbers.specs.Laws.Cuts.{Parts, parts-some}
-use Rattle.numbers.specs.Stream.{charAt, stream}
+use Rattle.numbers.specs.Stream.{charAt, stream, leftIn}
 use Rattle.numbers.specs.Laws.Stream.{Moves, char-byte, char-end}
 use Rattle.numbers.specs.Parted.{numeral, Parted, part-comma, part-last, part-no}
 use Rattle.numbers.specs.Laws.Forms.{parts-one, numeral-two, numeral-first, numeral-below, numeral-single}
@@ -46,8 +46,7 @@ pub record CommaSays (source : Source) (text : List ℕ) (most lo hi at n j : �
   pub valued : value word ≡ n
   pub right : numeral most lo hi word ≡ true
   pub are : parts comma (stream source text at) ≡ word ∷ parts comma (stream source text j)
-  pub ahead : at < j
-  pub inside : j ≤ length text
+  pub ahead : leftIn source text j < leftIn source text at
 
 pub record LastSays (source : Source) (text : List ℕ) (most lo hi at n : ℕ) : Type 0 where
   pub word : Word
@@ -63,20 +62,20 @@ pub record NoSays (source : Source) (text : List ℕ) (most lo hi at : ℕ) : Ty
 
 module _ {source : Source} {text : List ℕ} {most lo hi at : ℕ} where
   pub says-comma : {r : Part} → Parted source text most lo hi at r → {n j : ℕ} → r ≡ Comma n j → CommaSays source text most lo hi at n j
-  says-comma (part-comma x {j = k} f e a i) {n} {j} q =
+  says-comma (part-comma x {j = k} f e a) {n} {j} q =
       let v : value x ≡ n = cc in
       let w : k ≡ j = cc in
-      record { word = x; valued = v; right = f; are = rw w at e; ahead = omega arith; inside = omega arith }
+      record { word = x; valued = v; right = f; are = rw w at e; ahead = rw w at a }
   says-comma (part-last x f e) {n} {j} q = clash (cc)
   says-comma (part-no x l f e) {n} {j} q = clash (cc)
 
   pub says-last : {r : Part} → Parted source text most lo hi at r → {n : ℕ} → r ≡ Last n → LastSays source text most lo hi at n
-  says-last (part-comma x f e a i) {n} q = clash (cc)
+  says-last (part-comma x f e a) {n} q = clash (cc)
   says-last (part-last x f e) {n} q = let v : value x ≡ n = cc in record { word = x; valued = v; right = f; are = e }
   says-last (part-no x l f e) {n} q = clash (cc)
 
   pub says-no : {r : Part} → Parted source text most lo hi at r → r ≡ No → NoSays source text most lo hi at
-  says-no (part-comma x f e a i) q = clash (cc)
+  says-no (part-comma x f e a) q = clash (cc)
   says-no (part-last x f e) q = clash (cc)
   says-no (part-no x l f e) q = record { word = x; others = l; wrong = f; are = e }
 

@@ -10,13 +10,13 @@ use Rattle.lists.specs.Laws.Booleans.{clash}
 use Rattle.grammar.specs.Bytes.{blank}
 use Rattle.grammar.specs.Look.{Word}
 use Rattle.lists.specs.Lists.{all, those, each}
-use Rattle.nodes.specs.TextBytes.{says}
+use Rattle.nodes.specs.Texts.{saysAt, left}
 use Rattle.nodes.specs.declared.Char.{Char}
 use Rattle.nodes.specs.declared.Char.the-variants.{Byte}
 use Rattle.nodes.specs.declared.Char.the-variants as chars
 use Rattle.numbers.specs.Numbers.{digits, value, parts, onFirst, filled, words, values}
 use Rattle.numbers.specs.Laws.Cuts.{Parts, parts-some, words-none, words-blank, digits-split, value-below, powers}
-use Rattle.numbers.specs.Stream.{charAt, stream, behind, leading}
+use Rattle.numbers.specs.Stream.{charAt, stream, leftIn, behind, leading}
 use Rattle.numbers.specs.Laws.Stream.{Moves, char-byte, char-end, behind-none, behind-one}
 use Rattle.numbers.specs.Answers.{nextOf, nextNumber}
 use Rattle.numbers.specs.declared.Source.{Source}
@@ -76,14 +76,12 @@ first-is (a ∷ w) v l e = go (blank a) refl (λ h. first-is w v l h)
 -- what is ahead of the place behind n bytes
 pub record Behind (source : Source) (text : List ℕ) (n i : ℕ) : Type 0 where
   pub rest : stream source text (behind source text n i) ≡ drop n (stream source text i)
-  pub ahead : i + n ≤ behind source text n i
-  pub inside : 0 < n → behind source text n i ≤ length text
+  pub ahead : leftIn source text (behind source text n i) + n ≤ leftIn source text i
 
 pub behind-law : (source : Source) (text : List ℕ) (n i : ℕ) → n ≤ length (stream source text i) → Behind source text n i
 behind-law source text zero i h = (record {
   rest = rw (behind-none source text i) refl;
   ahead = rw (behind-none source text i) (omega arith);
-  inside = λ z. absurd (omega arith);
 })
 behind-law source text (suc n) i h = go (charAt source text i) refl λ j k. behind-law source text n j k
   where
@@ -95,38 +93,29 @@ behind-law source text (suc n) i h = go (charAt source text i) refl λ j k. behi
         let q : length (stream source text i) ≡ suc (length (stream source text j)) = ap length (m .splits) in
         let k = ih j (omega arith) in
         let p = behind-one source text i e n in
-        record {
-          rest = rw (p, m .splits) (k .rest);
-          ahead = rw p (omega (arith, k .ahead, m .ahead));
-          inside = λ z. rw p (within-it n j (k .inside) (m .inside));
-        }
-      where
-        within-it : (n j : ℕ) → (0 < n → behind source text n j ≤ length text) → j ≤ length text → behind source text n j ≤ length text
-        within-it zero j f g = rw (behind-none source text j) g
-        within-it (suc n) j f g = f (omega arith)
+        record { rest = rw (p, m .splits) (k .rest); ahead = rw p (omega (arith, k .ahead, m .ahead)) }
 
 -- THE LAWS OF `next_number`
 pub record Handed (text : List ℕ) (i v j : ℕ) : Type 0 where
   pub word : Word
   pub in-form : digits 1 7 word ≡ true
   pub valued : value word ≡ v
-  pub splits : words (says (drop i text)) ≡ word ∷ words (says (drop j text))
-  pub ahead : i < j
-  pub inside : j ≤ length text
+  pub splits : words (saysAt text i) ≡ word ∷ words (saysAt text j)
+  pub ahead : left text j < left text i
   pub small : v < 10 ^ 7
 
 pub record Wrong (text : List ℕ) (i : ℕ) : Type 0 where
   pub word : Word
   pub others : List Word
   pub out-of-form : digits 1 7 word ≡ false
-  pub splits : words (says (drop i text)) ≡ word ∷ others
+  pub splits : words (saysAt text i) ≡ word ∷ others
 
-handed : (text : List ℕ) (i : ℕ) (w : Word) (l : List Word) → words (says (drop i text)) ≡ w ∷ l → digits 1 7 w ≡ true
-    → Handed text i (value w) (behind Contents text (leading blank (says (drop i text)) + length w) i)
-unfolding stream
+handed : (text : List ℕ) (i : ℕ) (w : Word) (l : List Word) → words (saysAt text i) ≡ w ∷ l → digits 1 7 w ≡ true
+    → Handed text i (value w) (behind Contents text (leading blank (saysAt text i) + length w) i)
+unfolding stream leftIn
 handed text i w l e h =
-    let f = first-is (says (drop i text)) w l e in
-    let b = behind-law Contents text (leading blank (says (drop i text)) + length w) i (f .fits) in
+    let f = first-is (saysAt text i) w l e in
+    let b = behind-law Contents text (leading blank (saysAt text i) + length w) i (f .fits) in
     let d = digits-split 1 7 w h in
     let p : 10 ^ length w ≤ 10 ^ 7 = powers (length w) 7 (d .1 .1) in
     record {
@@ -135,27 +124,26 @@ handed text i w l e h =
       valued = refl;
       splits = e ∙ ap (λ z. w ∷ z) (sym (ap words (b .rest) ∙ f .rest));
       ahead = omega (arith, b .ahead, f .some);
-      inside = b .inside (omega (arith, f .some));
       small = omega (arith, value-below w (d .0));
     }
 
 -- what is told, by answer
 pub data Tells (text : List ℕ) (i : ℕ) : Next → Type 0 where
   tells-number : {v j : ℕ} → Handed text i v j → Tells text i (Number v j)
-  tells-end : words (says (drop i text)) ≡ [] → Tells text i End
+  tells-end : words (saysAt text i) ≡ [] → Tells text i End
   tells-bad : Wrong text i → Tells text i Bad
 
 pub next-tells : (text : List ℕ) (i : ℕ) → Tells text i (nextNumber text i)
 unfolding nextNumber nextOf
-next-tells text i = go (words (says (drop i text))) refl
+next-tells text i = go (words (saysAt text i)) refl
   where
-    shaped : (w : Word) (l : List Word) → words (says (drop i text)) ≡ w ∷ l → (t : Bool) → digits 1 7 w ≡ t
-        → Tells text i (cond t (Number (value w) (behind Contents text (leading blank (says (drop i text)) + length w) i)) Bad)
+    shaped : (w : Word) (l : List Word) → words (saysAt text i) ≡ w ∷ l → (t : Bool) → digits 1 7 w ≡ t
+        → Tells text i (cond t (Number (value w) (behind Contents text (leading blank (saysAt text i) + length w) i)) Bad)
     shaped w l e false h = tells-bad (record { word = w; others = l; out-of-form = h; splits = e })
     shaped w l e true h = tells-number (handed text i w l e h)
 
-    go : (l : List Word) → words (says (drop i text)) ≡ l
-        → Tells text i (nextOf (λ n. behind Contents text (leading blank (says (drop i text)) + n) i) l)
+    go : (l : List Word) → words (saysAt text i) ≡ l
+        → Tells text i (nextOf (λ n. behind Contents text (leading blank (saysAt text i) + n) i) l)
     go [] e = tells-end e
     go (w ∷ l) e = shaped w l e (digits 1 7 w) refl
 
@@ -171,10 +159,10 @@ module _ (text : List ℕ) (i : ℕ) {r : Next} (e : r ≡ nextNumber text i) wh
       go x (tells-end h) q = clash (cc)
       go x (tells-bad h) q = clash (cc)
 
-  pub end-law : r ≡ End → words (says (drop i text)) ≡ []
+  pub end-law : r ≡ End → words (saysAt text i) ≡ []
   end-law q = go r told q
     where
-      go : (x : Next) → Tells text i x → x ≡ End → words (says (drop i text)) ≡ []
+      go : (x : Next) → Tells text i x → x ≡ End → words (saysAt text i) ≡ []
       go x (tells-number h) q = clash (cc)
       go x (tells-end h) q = h
       go x (tells-bad h) q = clash (cc)

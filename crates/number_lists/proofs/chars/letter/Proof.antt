@@ -1,6 +1,5 @@
 use Rattle.numbers.specs.Laws.Read.{seeking, Seeking}
-use Prim.Native.Nat.{_-_}
-use lib.ListN.{length}
+use Rattle.nodes.specs.Texts.{left}
 use Rattle.number_lists.proofs.chars.letter.Statement.{statement}
 use Rattle.number_lists.proofs.chars.letter.Tie as tie
 
@@ -8,7 +7,7 @@ abbrev Inv-loop : tie.InvT-loop
 Inv-loop text at i₀ i = Seeking text at i
 
 abbrev μ-loop : tie.MeasureT-loop
-μ-loop text at i₀ i = length text - i
+μ-loop text at i₀ i = left text i
 
 pub letter-spec : {M : Type 1} → statement M
 letter-spec =
