@@ -19,7 +19,7 @@ use written::decimal_at;
 ghost use mathlib.Core.Path.{_≡_};
 ghost use lib.ListN.{drop};
 ghost use Rattle.nodes.specs.Values.{value-there};
-ghost use Rattle.nodes.specs.TextBytes.{says};
+ghost use Rattle.nodes.specs.Texts.{saysAt};
 ghost use Rattle.numbers.specs.Numbers.{sixteen};
 ghost use Rattle.numbers.specs.Answers.{decimalIn};
 
@@ -42,7 +42,7 @@ pub fn decimal_value(text: &[u8], at: usize) -> Decimals
 
 // The text from `at` on is sixteen decimals, the last four equal to 0 0 0 1.
 pub fn sixteen_ok(text: &[u8], at: usize) -> bool
-    ensures { λ r. ⌜ r ≡ sixteen (says (drop at (now (text .entry)))) ⌝ }
+    ensures { λ r. ⌜ r ≡ sixteen (saysAt (now (text .entry)) at) ⌝ }
 {
     let mut left: u64 = 16;
     let mut i = at;

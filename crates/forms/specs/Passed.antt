@@ -2,10 +2,9 @@
 use mathlib.Core.Path.{_≡_}
 use mathlib.Core.List.{List}
 use Prim.Native.Nat.{ℕ, _≤_}
-use lib.ListN.{drop}
-use Rattle.nodes.specs.TextBytes.{says}
+use Rattle.nodes.specs.Texts.{saysAt, left}
 use Rattle.numbers.specs.Numbers.{wholes}
 
 pub record Passed (text : List ℕ) (at most i : ℕ) : Type 0 where
-  pub same-list : wholes most (says (drop at text)) ≡ wholes most (says (drop i text))
-  pub ahead : at ≤ i
+  pub same-list : wholes most (saysAt text at) ≡ wholes most (saysAt text i)
+  pub ahead : left text i ≤ left text at

@@ -9,7 +9,7 @@ ghost use mathlib.Core.Path.{_≡_};
 ghost use lib.ListN.{drop};
 ghost use Rattle.nodes.specs.Texts.{text-of};
 ghost use Rattle.nodes.specs.Values.{value-there};
-ghost use Rattle.nodes.specs.TextBytes.{says};
+ghost use Rattle.nodes.specs.Texts.{saysAt};
 ghost use Rattle.forms.specs.Passed.{Passed};
 ghost use Rattle.numbers.specs.Numbers.{whole, volumeDimensions, dimensionList, exponent, decimal, wholes, sixteen};
 
@@ -77,7 +77,7 @@ fn plain_wholes(text: &[u8], at: usize, most: u64) -> usize
 
 // The contents from `at` on list whole numbers up to `most`.
 fn wholes_from(text: &[u8], at: usize, most: u64) -> bool
-    ensures { λ r. ⌜ r ≡ wholes most (says (drop at (now (text .entry)))) ⌝ }
+    ensures { λ r. ⌜ r ≡ wholes most (saysAt (now (text .entry)) at) ⌝ }
 {
     let mut i = at;
     loop {

@@ -15,8 +15,7 @@ use Rattle.numbers.specs.Numbers.{digits, value, whole, wholes, words, values}
 use Rattle.nodes.specs.Places.{the}
 use Rattle.nodes.specs.Children.{first}
 use Rattle.nodes.specs.Laws.Along.{Along, along-start, along-done, along-stands, along-here}
-use Rattle.nodes.specs.TextBytes.{says}
-use Rattle.nodes.specs.Texts.{inside, text-from, text-of, text-law}
+use Rattle.nodes.specs.Texts.{saysAt, inside, text-from, text-of, text-law, from-at}
 use Rattle.nodes.specs.declared.Kid.{Kid}
 use Rattle.nodes.specs.declared.Kid.the-variants.{Child, Done}
 use Rattle.nodes.specs.declared.Found.{Found}
@@ -126,13 +125,9 @@ pub record Known (text : List ℕ) (at size kind : ℕ) : Type 0 where
   pub length-is : size ≡ (modelOf (the text at)) .count
   pub kind-is : kind ≡ typeAndStructure (modelOf (the text at))
 
-pub from-at : (text : List ℕ) (i : ℕ) → text-from text (At i) ≡ says (drop i text)
-unfolding text-from
-from-at text i = refl
-
 -- the numbers from there on
 module _ {text : List ℕ} {at : ℕ} {f : Found} (x : ListAt text at f) {i : ℕ} (q : f ≡ At i) where
-  here : text-from text f ≡ says (drop i text)
+  here : text-from text f ≡ saysAt text i
   here = ap (text-from text) q ∙ from-at text i
 
   pub list-form : InForm text i

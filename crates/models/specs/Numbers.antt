@@ -4,10 +4,10 @@ use mathlib.Core.List.{List, [], _∷_}
 use mathlib.Core.Bool.{true, true≢false}
 use Prim.Native.Nat.{ℕ, _<_, _≤_}
 use native.Mathlib.Omega.{arith}
-use lib.ListN.{length, drop}
+use lib.ListN.{length}
 use Rattle.lists.specs.Lists.{all, each}
 use Rattle.grammar.specs.Laws.Facts.{and-left, and-right}
-use Rattle.nodes.specs.TextBytes.{says}
+use Rattle.nodes.specs.Texts.{saysAt, left}
 use Rattle.numbers.specs.Numbers.{digits, value, words, values}
 use Rattle.numbers.specs.Answers.{nextNumber}
 use Rattle.numbers.specs.Laws.Walk.{Handed, number-law, end-law, bad-law}
@@ -18,26 +18,24 @@ use Rattle.models.specs.declared.listing.Triple.the-variants as triple
 
 -- the numbers ahead
 unfoldable pub valuesAt : List ℕ → ℕ → List ℕ
-valuesAt text i = values (says (drop i text))
+valuesAt text i = values (saysAt text i)
 
 -- every word ahead is one to seven digits
 pub record InForm (text : List ℕ) (i : ℕ) : Type 0 where
-  pub all-digits : all (digits 1 7) (words (says (drop i text))) ≡ true
+  pub all-digits : all (digits 1 7) (words (saysAt text i)) ≡ true
 
 -- one number is passed
 pub record Passes (text : List ℕ) (i v j : ℕ) : Type 0 where
   pub splits : valuesAt text i ≡ v ∷ valuesAt text j
   pub form : InForm text j
-  pub ahead : i < j
-  pub inside : j ≤ length text
+  pub ahead : left text j < left text i
 
 passes : {text : List ℕ} {i v j : ℕ} → InForm text i → Handed text i v j → Passes text i v j
 unfolding valuesAt values each all
 passes {text} {i} {v} {j} f h = record {
-  splits = ap (each value) (h .splits) ∙ ap (λ n. n ∷ each value (words (says (drop j text)))) (h .valued);
+  splits = ap (each value) (h .splits) ∙ ap (λ n. n ∷ each value (words (saysAt text j))) (h .valued);
   form = record { all-digits = and-right (digits 1 7 (h .word)) _ (sym (ap (all (digits 1 7)) (h .splits)) ∙ f .all-digits) };
   ahead = h .ahead;
-  inside = h .inside;
 }
 
 module _ {text : List ℕ} {i : ℕ} (f : InForm text i) {r : Next} (e : r ≡ nextNumber text i) where
@@ -59,8 +57,7 @@ module _ {text : List ℕ} {i : ℕ} (f : InForm text i) {r : Next} (e : r ≡ n
 pub record Passes3 (text : List ℕ) (at i j k behind : ℕ) : Type 0 where
   pub splits : valuesAt text at ≡ i ∷ j ∷ k ∷ valuesAt text behind
   pub form : InForm text behind
-  pub ahead : at < behind
-  pub inside : behind ≤ length text
+  pub ahead : left text behind < left text at
 
 pub record CutShort (l : List ℕ) : Type 0 where
   pub some : 0 < length l

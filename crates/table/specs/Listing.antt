@@ -11,6 +11,7 @@ use Rattle.records.specs.Record.{Location, onSurface, inVolume, recordOf, wrapp
 use Rattle.records.specs.Laws.Record.{within-fits}
 use Rattle.records.specs.Fill.{wrote, wrote-none, wrote-one, wrote-on}
 use Rattle.cifti.specs.Maps.{threes, voxelAt}
+use Rattle.nodes.specs.Texts.{left}
 use Rattle.numbers.specs.Answers.{nextNumber}
 use Rattle.numbers.specs.declared.Next.{Next}
 use Rattle.numbers.specs.declared.Next.the-variants.{Number, End, Bad}
@@ -111,8 +112,8 @@ module _ {s : ℕ} {text : List ℕ} {start at : ℕ} {before : List ℕ} {i p :
     pub vertex-room : p < length out
     vertex-room = omega (arith, room go splits-vertex (here .form))
 
-    pub vertex-less : length text - j < length text - i
-    vertex-less = omega (arith, here .ahead, here .inside)
+    pub vertex-less : left text j < left text i
+    vertex-less = here .ahead
 
     pub vertex-on : {n : ℕ} → n ≡ recordOf (wrapped (onSurface s x)) → Writing false s text start at before j (p + 1) (set out p n)
     vertex-on h = goes-on go splits-vertex (here .form) h
@@ -152,8 +153,8 @@ module _ {s : ℕ} {text : List ℕ} {start at : ℕ} {before : List ℕ} {i p :
     pub voxel-room : p < length out
     voxel-room = omega (arith, room go splits-voxel (passed .form))
 
-    pub voxel-less : length text - behind < length text - i
-    voxel-less = omega (arith, passed .ahead, passed .inside)
+    pub voxel-less : left text behind < left text i
+    voxel-less = passed .ahead
 
     pub voxel-on : {n : ℕ} → n ≡ recordOf (wrapped (inVolume s x y z)) → Writing true s text start at before behind (p + 1) (set out p n)
     voxel-on h = goes-on go splits-voxel (passed .form) h

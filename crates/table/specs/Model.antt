@@ -9,8 +9,7 @@ use borrow.Author.Needs.{needs}
 use Rattle.lists.specs.Lists.{all, each, those}
 use Rattle.numbers.specs.Numbers.{digits, words, values, parts, filled}
 use Rattle.nodes.specs.Places.{the}
-use Rattle.nodes.specs.TextBytes.{says}
-use Rattle.nodes.specs.Texts.{text-from}
+use Rattle.nodes.specs.Texts.{saysAt, text-from, from-at, from-none}
 use Rattle.nodes.specs.declared.Found.{Found}
 use Rattle.nodes.specs.declared.Found.the-variants.{At, Nothing}
 use Rattle.records.specs.Record.{onSurface, recordOf}
@@ -47,13 +46,9 @@ unfolding locationsBy numbersOf each threes
 by-none s (vertices n l) e = ap (each (onSurface s)) e
 by-none s (voxels l) e = ap (λ x. each (voxelAt s) (threes x)) e
 
-from-at : (text : List ℕ) (i : ℕ) → text-from text (At i) ≡ says (drop i text)
-unfolding text-from
-from-at text i = refl
-
 nothing-listed : (text : List ℕ) → values (text-from text Nothing) ≡ []
-unfolding text-from values words each parts those filled
-nothing-listed text = refl
+unfolding values words each parts those filled
+nothing-listed text = ap values (from-none text)
 
 module _ {text : List ℕ} {m kind : ℕ} {out : List ℕ} {at : ℕ} (k : Fillable text m kind out at) where
   pub fill-model-at : ModelAt text m
@@ -79,7 +74,7 @@ module _ {text : List ℕ} {m kind : ℕ} {out : List ℕ} {at : ℕ} (k : Filla
         ∙ wrote-none at out)
 
     module _ {i : ℕ} (q : f ≡ At i) where
-      said : text-from text f ≡ says (drop i text)
+      said : text-from text f ≡ saysAt text i
       said = ap (text-from text) q ∙ from-at text i
 
       form : InForm text i

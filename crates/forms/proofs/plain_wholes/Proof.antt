@@ -1,5 +1,4 @@
-use Prim.Native.Nat.{_-_}
-use lib.ListN.{length}
+use Rattle.nodes.specs.Texts.{left}
 use Rattle.forms.specs.Passed.{Passed}
 use Rattle.forms.specs.Laws.Passed.{passing}
 use Rattle.forms.proofs.plain_wholes.Statement.{statement}
@@ -9,7 +8,7 @@ abbrev Inv-loop : tie.InvT-loop
 Inv-loop text at most i₀ i = Passed text at most i
 
 abbrev μ-loop : tie.MeasureT-loop
-μ-loop text at most i₀ i = length text - i
+μ-loop text at most i₀ i = left text i
 
 pub plain-wholes-spec : {M : Type 1} → statement M
 plain-wholes-spec =

@@ -1,6 +1,5 @@
 use Rattle.forms.specs.Laws.Passed.{listing}
-use Prim.Native.Nat.{_-_}
-use lib.ListN.{length}
+use Rattle.nodes.specs.Texts.{left}
 use Rattle.forms.specs.Laws.Forms.{Listing}
 use Rattle.forms.proofs.wholes_from.Statement.{statement}
 use Rattle.forms.proofs.wholes_from.Tie as tie
@@ -9,7 +8,7 @@ abbrev Inv-loop : tie.InvT-loop
 Inv-loop text at most i₀ i = Listing text at most i
 
 abbrev μ-loop : tie.MeasureT-loop
-μ-loop text at most i₀ i = length text - i
+μ-loop text at most i₀ i = left text i
 
 pub wholes-from-spec : {M : Type 1} → statement M
 wholes-from-spec =

@@ -11,8 +11,7 @@ use borrow.Author.Tests.{le-leb, lt-leb}
 use borrow.Author.Needs.{needs}
 use Rattle.lists.specs.Lists.{all, those}
 use Rattle.grammar.specs.Look.{Word}
-use Rattle.nodes.specs.TextBytes.{says}
-use Rattle.nodes.specs.Texts.{inside, text-of, text-none, text-some}
+use Rattle.nodes.specs.Texts.{saysAt, left, inside, text-of, text-none, text-some}
 use Rattle.nodes.specs.declared.Found.{Found}
 use Rattle.nodes.specs.declared.Found.the-variants.{At, Nothing}
 use Rattle.numbers.specs.Numbers.{parts, filled, words, whole, dimensionList, exponent, decimal, volumeDimensions, wholes, lastRow, sixteen}
@@ -111,17 +110,17 @@ pub ruleset telling = (
 
 -- A LIST OF WHOLE NUMBERS
 pub record Listing (text : List ℕ) (at most i : ℕ) : Type 0 where
-  pub same-list : wholes most (says (drop at text)) ≡ wholes most (says (drop i text))
+  pub same-list : wholes most (saysAt text at) ≡ wholes most (saysAt text i)
 
 pub listing-start : (text : List ℕ) (at most : ℕ) → Listing text at most at
 listing-start text at most = record { same-list = refl }
 
 module _ {text : List ℕ} {at most i : ℕ} (go : Listing text at most i) {r : Next} (e : r ≡ nextNumber text i) where
-  pub listing-end : r ≡ End → true ≡ wholes most (says (drop at text))
+  pub listing-end : r ≡ End → true ≡ wholes most (saysAt text at)
   unfolding wholes all
   listing-end f = sym (go .same-list ∙ rw (end-law text i e f))
 
-  pub listing-bad : r ≡ Bad → false ≡ wholes most (says (drop at text))
+  pub listing-bad : r ≡ Bad → false ≡ wholes most (saysAt text at)
   unfolding wholes all whole
   listing-bad f = let b = bad-law text i e f in sym (go .same-list ∙ rw (b .splits, b .out-of-form))
 
@@ -129,14 +128,14 @@ module _ {text : List ℕ} {at most i : ℕ} (go : Listing text at most i) {r : 
     handed : Handed text i n j
     handed = number-law text i e f
 
-    pub listing-less : length text - j < length text - i
-    listing-less = let h = handed in omega (arith, h .ahead, h .inside)
+    pub listing-less : left text j < left text i
+    listing-less = handed .ahead
 
-    one : wholes most (says (drop at text)) ≡ (leb n most && wholes most (says (drop j text)))
+    one : wholes most (saysAt text at) ≡ (leb n most && wholes most (saysAt text j))
     unfolding wholes all whole
     one = let h = handed in go .same-list ∙ rw (h .splits, h .in-form, h .valued, le-leb 0 n (omega arith))
 
-    pub listing-many : most < n → false ≡ wholes most (says (drop at text))
+    pub listing-many : most < n → false ≡ wholes most (saysAt text at)
     listing-many h = sym (one ∙ rw (lt-leb n most h))
 
     pub listing-on : n ≤ most → Listing text at most j
@@ -144,20 +143,20 @@ module _ {text : List ℕ} {at most i : ℕ} (go : Listing text at most i) {r : 
 
 -- THE TEXT OF AN ELEMENT
 module _ (text : List ℕ) (at : ℕ) {f : Found} (e : f ≡ inside text at) where
-  text-there : {i : ℕ} → f ≡ At i → says (drop i text) ≡ text-of text at
+  text-there : {i : ℕ} → f ≡ At i → saysAt text i ≡ text-of text at
   text-there h = sym (text-some text at (sym e ∙ h))
 
   text-missing : f ≡ Nothing → [] ≡ text-of text at
   text-missing h = sym (text-none text at (sym e ∙ h))
 
-  pub wholes-there : (most : ℕ) {i : ℕ} → f ≡ At i → {r : Bool} → r ≡ wholes most (says (drop i text)) → r ≡ wholes most (text-of text at)
+  pub wholes-there : (most : ℕ) {i : ℕ} → f ≡ At i → {r : Bool} → r ≡ wholes most (saysAt text i) → r ≡ wholes most (text-of text at)
   wholes-there most h k = k ∙ ap (wholes most) (text-there h)
 
   pub wholes-missing : (most : ℕ) → f ≡ Nothing → true ≡ wholes most (text-of text at)
   unfolding wholes words parts those filled all
   wholes-missing most h = ap (wholes most) (text-missing h)
 
-  pub sixteen-there : {i : ℕ} → f ≡ At i → {r : Bool} → r ≡ sixteen (says (drop i text)) → r ≡ sixteen (text-of text at)
+  pub sixteen-there : {i : ℕ} → f ≡ At i → {r : Bool} → r ≡ sixteen (saysAt text i) → r ≡ sixteen (text-of text at)
   sixteen-there h k = k ∙ ap sixteen (text-there h)
 
   pub sixteen-missing : f ≡ Nothing → false ≡ sixteen (text-of text at)

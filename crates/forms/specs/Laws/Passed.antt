@@ -1,10 +1,10 @@
 -- Plain numbers of a list are passed over, one after the other, and then one that may not be plain.
 use mathlib.Core.Path.{_≡_, refl, _∙_}
 use mathlib.Core.List.{List}
-use Prim.Native.Nat.{ℕ, _+_, _-_, _/_, _%_, _^_, _<_, _≤_}
+use Prim.Native.Nat.{ℕ, _+_, _/_, _%_, _^_, _<_, _≤_}
 use native.Mathlib.Omega.{arith}
-use lib.ListN.{length}
 use borrow.Author.Needs.{needs}
+use Rattle.nodes.specs.Texts.{left}
 use Rattle.numbers.specs.Answers.{nextNumber}
 use Rattle.numbers.specs.Quick.{Quick}
 use Rattle.numbers.specs.Laws.Walk.{number-law}
@@ -20,7 +20,7 @@ module _ {text : List ℕ} {at most i : ℕ} (go : Passed text at most i) {q : �
   pub passed-fits : i + q % 16 < 2 ^ 64
   passed-fits = h .fits n
 
-  pub passed-less : length text - (i + q % 16) < length text - i
+  pub passed-less : left text (i + q % 16) < left text i
   passed-less = listing-less (listing-start text i most) (h .told n) refl
 
   pub passed-on : q / 16 ≤ most → Passed text at most (i + q % 16)
@@ -35,7 +35,7 @@ module _ {text : List ℕ} {at most i from : ℕ} (go : Listing text at most i) 
   pub listing-passed : Listing text at most from
   listing-passed = record { same-list = go .same-list ∙ p .same-list }
 
-  pub passed-less-then : {r : Next} → r ≡ nextNumber text from → {n j : ℕ} → r ≡ Number n j → length text - j < length text - i
-  passed-less-then e f = let h = number-law text from e f in omega (arith, h .ahead, h .inside, p .ahead)
+  pub passed-less-then : {r : Next} → r ≡ nextNumber text from → {n j : ℕ} → r ≡ Number n j → left text j < left text i
+  passed-less-then e f = let h = number-law text from e f in omega (arith, h .ahead, p .ahead)
 
 pub ruleset listing = (listing-passed, passed-less-then, listing-start, listing-end, listing-bad, listing-many, listing-on, needs)

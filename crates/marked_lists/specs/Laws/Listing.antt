@@ -10,6 +10,7 @@ use borrow.Author.Needs.{needs}
 use Rattle.lists.specs.Lists.{twoOf}
 use Rattle.grammar.specs.Bytes.{ascii}
 use Rattle.nodes.specs.Places.{Stands, the}
+use Rattle.nodes.specs.Texts.{left}
 use Rattle.nodes.specs.declared.Found.{Found}
 use Rattle.nodes.specs.declared.Found.the-variants.{At, Nothing}
 use Rattle.numbers.specs.Answers.{nextNumber}
@@ -76,7 +77,7 @@ module _ {text : List ℕ} {start surface first n i : ℕ} {before now : List �
       pub read-room : n + 1 ≤ length text
       read-room = vertices-room (go .counted) e q
 
-      pub read-less : length text - j < length text - i
+      pub read-less : left text j < left text i
       read-less = vertices-less (go .counted) e q
 
       pub read-on : {p : ℕ} → p ≡ vertexPlace first v → {new : Bool} {after : List ℕ} → Marked now p new after
@@ -127,7 +128,7 @@ module _ {text : List ℕ} {start n at : ℕ} {volume : Voxel} {grid : Grid} {be
       pub threes-room : n + 1 ≤ length text
       threes-room = voxels-room (go .counted) x q
 
-      pub threes-less : length text - behind < length text - at
+      pub threes-less : left text behind < left text at
       threes-less = voxels-less (go .counted) x q
 
       splits : threes (valuesAt text at) ≡ voxel i j k ∷ threes (valuesAt text behind)

@@ -13,7 +13,7 @@ use Rattle.grammar.specs.Document.{Element}
 use Rattle.grammar.specs.Look.{attr, textOf}
 use Rattle.numbers.specs.Numbers.{value, words, values, parts, filled}
 use Rattle.nodes.specs.Places.{Stands, the}
-use Rattle.nodes.specs.Texts.{text-from}
+use Rattle.nodes.specs.Texts.{text-from, from-none}
 use Rattle.nodes.specs.declared.Found.{Found}
 use Rattle.nodes.specs.declared.Found.the-variants.{At, Nothing}
 use Rattle.cifti.specs.Maps.{Voxel, Listed, vertices, voxels, modelOf, voxelsOf}
@@ -28,10 +28,6 @@ use Rattle.models.specs.Listings.{Lists, lists-vertices, lists-voxels, m
 use Rattle.models.specs.Listings.{list-there, list-form, list-numbers, listed-is}
 
 pub ruleset starting = (list-none, list-there, needs)
-
-from-none : (text : List ℕ) → text-from text Nothing ≡ []
-unfolding text-from
-from-none text = refl
 
 values-none : values [] ≡ []
 unfolding values words each parts those filled

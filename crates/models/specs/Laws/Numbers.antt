@@ -57,7 +57,6 @@ module _ {text : List ℕ} {at : ℕ} (f : InForm text at) {r₁ : Next} (e₁ :
                 splits = splits-two ∙ ap (λ l. i ∷ j ∷ l) (three .splits);
                 form = three .form;
                 ahead = omega (arith, one .ahead, two .ahead, three .ahead);
-                inside = three .inside;
               })
 
 pub ruleset inThrees = (three-none, three-bad, three-one, three-bad-second, three-two, three-bad-third, three-voxel, needs)

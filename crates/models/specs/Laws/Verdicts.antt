@@ -2,7 +2,7 @@
 use mathlib.Core.Path.{_≡_, refl, sym, ap, ap₂, _∙_}
 use mathlib.Core.List.{List, [], _∷_}
 use mathlib.Core.Bool.{Bool, true, false, not, _||_}
-use Prim.Native.Nat.{ℕ, _+_, _*_, _-_, _<_, _≤_}
+use Prim.Native.Nat.{ℕ, _+_, _*_, _<_, _≤_}
 use native.Mathlib.Omega.{arith}
 use lib.Dec.{eqb, ltb}
 use lib.ListN.{length}
@@ -10,6 +10,7 @@ use borrow.Author.Needs.{needs}
 use borrow.Author.Tests.{eqb-true, eq-eqb, ne-eqb, eqb-false, not-true, not-false}
 use Rattle.lists.specs.Laws.Booleans.{or-assoc, or-false}
 use Rattle.lists.specs.Lists.{any}
+use Rattle.nodes.specs.Texts.{left, left-most}
 use Rattle.numbers.specs.Answers.{nextNumber}
 use Rattle.cifti.specs.Maps.{Voxel, voxel, threes}
 use Rattle.cifti.specs.Conditions.{outside}
@@ -33,12 +34,12 @@ any-nil p = refl
 
 pub record Vertices (text : List ℕ) (start surface n : ℕ) (out : Bool) (i : ℕ) : Type 0 where
   pub form : InForm text i
-  pub fewer : n ≤ i
+  pub fewer : n + left text i ≤ length text
   pub counted : length (valuesAt text start) ≡ n + length (valuesAt text i)
   pub past : any (λ v. not (ltb v surface)) (valuesAt text start) ≡ (out || any (λ v. not (ltb v surface)) (valuesAt text i))
 
 pub vertices-start : {text : List ℕ} {start : ℕ} (surface : ℕ) → InForm text start → Vertices text start surface 0 false start
-vertices-start surface f = record { form = f; fewer = omega arith; counted = omega arith; past = refl }
+vertices-start {text} {start} surface f = record { form = f; fewer = omega (arith, left-most text start); counted = omega arith; past = refl }
 
 module _ {text : List ℕ} {start surface n i : ℕ} {out : Bool} (go : Vertices text start surface n out i) {r : Next}
     (e : r ≡ nextNumber text i) where
@@ -59,10 +60,10 @@ module _ {text : List ℕ} {start surface n i : ℕ} {out : Bool} (go : Vertices
     here = number-passes (go .form) e q
 
     pub vertices-room : n + 1 ≤ length text
-    vertices-room = omega (arith, go .fewer, here .ahead, here .inside)
+    vertices-room = omega (arith, go .fewer, here .ahead)
 
-    pub vertices-less : length text - j < length text - i
-    vertices-less = omega (arith, here .ahead, here .inside)
+    pub vertices-less : left text j < left text i
+    vertices-less = here .ahead
 
     pub vertices-on : Vertices text start surface (n + 1) (out || not (ltb v surface)) j
     vertices-on = record {
@@ -95,12 +96,12 @@ out-nil volume = refl
 
 pub record Voxels (text : List ℕ) (start : ℕ) (volume : Voxel) (n : ℕ) (out : Bool) (at : ℕ) : Type 0 where
   pub form : InForm text at
-  pub fewer : n ≤ at
+  pub fewer : n + left text at ≤ length text
   pub counted : length (valuesAt text start) ≡ 3 * n + length (valuesAt text at)
   pub past : any (outside volume) (threes (valuesAt text start)) ≡ (out || any (outside volume) (threes (valuesAt text at)))
 
 pub voxels-start : {text : List ℕ} {start : ℕ} (volume : Voxel) → InForm text start → Voxels text start volume 0 false start
-voxels-start volume f = record { form = f; fewer = omega arith; counted = omega arith; past = refl }
+voxels-start {text} {start} volume f = record { form = f; fewer = omega (arith, left-most text start); counted = omega arith; past = refl }
 
 by-three : (n size : ℕ) → eqb (3 * n) (3 * size) ≡ eqb n size
 by-three n size = go (eqb n size) refl
@@ -140,10 +141,10 @@ module _ {text : List ℕ} {start n at : ℕ} {volume : Voxel} {out : Bool} (go 
     voxels-form = passed .form
 
     pub voxels-room : n + 1 ≤ length text
-    voxels-room = omega (arith, go .fewer, passed .ahead, passed .inside)
+    voxels-room = omega (arith, go .fewer, passed .ahead)
 
-    pub voxels-less : length text - behind < length text - at
-    voxels-less = omega (arith, passed .ahead, passed .inside)
+    pub voxels-less : left text behind < left text at
+    voxels-less = passed .ahead
 
     pub voxels-on : {b : Bool} → b ≡ outside volume (voxel i j k) → Voxels text start volume (n + 1) (out || b) behind
     voxels-on {b} x = record {

@@ -1,7 +1,6 @@
 -- The invariant: what is written so far, with the rest of the list written behind it, is the whole list written.
 use mathlib.Core.Bool.{false}
-use lib.ListN.{length}
-use Prim.Native.Nat.{_-_}
+use Rattle.nodes.specs.Texts.{left}
 use Rattle.table.specs.Listing.{Writing, overVertices}
 use Rattle.filling.proofs.listing.fill_vertices.Statement.{statement}
 use Rattle.filling.proofs.listing.fill_vertices.Tie as tie
@@ -10,7 +9,7 @@ abbrev Inv-loop : tie.InvT-loop
 Inv-loop text start structure out₀ at i₀ place₀ out i place = Writing false structure text start at out₀ i place out
 
 abbrev μ-loop : tie.MeasureT-loop
-μ-loop text start structure out₀ at i₀ place₀ out i place = length text - i
+μ-loop text start structure out₀ at i₀ place₀ out i place = left text i
 
 pub fill-vertices-spec : {M : Type 1} → statement M
 fill-vertices-spec =

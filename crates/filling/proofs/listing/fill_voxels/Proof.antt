@@ -1,7 +1,6 @@
 -- The invariant is that of `fill_vertices`.
 use mathlib.Core.Bool.{true}
-use lib.ListN.{length}
-use Prim.Native.Nat.{_-_}
+use Rattle.nodes.specs.Texts.{left}
 use Rattle.table.specs.Listing.{Writing, overVoxels}
 use Rattle.filling.proofs.listing.fill_voxels.Statement.{statement}
 use Rattle.filling.proofs.listing.fill_voxels.Tie as tie
@@ -10,7 +9,7 @@ abbrev Inv-loop : tie.InvT-loop
 Inv-loop text start structure out₀ at i₀ next₀ out i next = Writing true structure text start at out₀ i next out
 
 abbrev μ-loop : tie.MeasureT-loop
-μ-loop text start structure out₀ at i₀ next₀ out i next = length text - i
+μ-loop text start structure out₀ at i₀ next₀ out i next = left text i
 
 pub fill-voxels-spec : {M : Type 1} → statement M
 fill-voxels-spec =

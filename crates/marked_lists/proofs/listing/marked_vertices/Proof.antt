@@ -1,5 +1,4 @@
-use lib.ListN as ListN
-use Prim.Native.Nat.{_-_}
+use Rattle.nodes.specs.Texts.{left}
 use native.Mathlib.Omega.{arith}
 use Rattle.marked_lists.specs.Laws.Listing.{VerticesRead, overVertices, read-room}
 use Rattle.marked_lists.proofs.listing.marked_vertices.Statement.{statement}
@@ -10,7 +9,7 @@ Inv-loop text start length surface first work₀ n₀ out₀ apart₀ i₀ work 
     VerticesRead text start surface first work₀ n out apart i work
 
 abbrev μ-loop : tie.MeasureT-loop
-μ-loop text start length surface first work₀ n₀ out₀ apart₀ i₀ work n out apart i = ListN.length text - i
+μ-loop text start length surface first work₀ n₀ out₀ apart₀ i₀ work n out apart i = left text i
 
 pub marked-vertices-spec : {M : Type 1} → statement M
 marked-vertices-spec =

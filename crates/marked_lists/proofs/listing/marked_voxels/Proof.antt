@@ -1,5 +1,4 @@
-use lib.ListN as ListN
-use Prim.Native.Nat.{_-_}
+use Rattle.nodes.specs.Texts.{left}
 use native.Mathlib.Omega.{arith}
 use Rattle.models.specs.Verdicts.{volumeFrom}
 use Rattle.marked_lists.specs.Laws.Listing.{VoxelsRead, overVoxels, threes-room}
@@ -11,7 +10,7 @@ Inv-loop text start length sizes grid work₀ voxels₀ out₀ apart₀ at₀ wo
     VoxelsRead text start (volumeFrom sizes) grid work₀ voxels out apart at work
 
 abbrev μ-loop : tie.MeasureT-loop
-μ-loop text start length sizes grid work₀ voxels₀ out₀ apart₀ at₀ work voxels out apart at = ListN.length text - at
+μ-loop text start length sizes grid work₀ voxels₀ out₀ apart₀ at₀ work voxels out apart at = left text at
 
 pub marked-voxels-spec : {M : Type 1} → statement M
 marked-voxels-spec =
