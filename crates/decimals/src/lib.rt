@@ -17,7 +17,6 @@ use numbers::Spelling;
 use value::right_at;
 use written::decimal_at;
 ghost use mathlib.Core.Path.{_≡_};
-ghost use lib.ListN.{drop};
 ghost use Rattle.nodes.specs.Values.{value-there};
 ghost use Rattle.nodes.specs.Texts.{saysAt};
 ghost use Rattle.numbers.specs.Numbers.{sixteen};

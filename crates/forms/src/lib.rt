@@ -6,10 +6,8 @@ use numbers::Next;
 use numbers::Three;
 use numbers::Whole;
 ghost use mathlib.Core.Path.{_≡_};
-ghost use lib.ListN.{drop};
-ghost use Rattle.nodes.specs.Texts.{text-of};
+ghost use Rattle.nodes.specs.Texts.{text-of, saysAt};
 ghost use Rattle.nodes.specs.Values.{value-there};
-ghost use Rattle.nodes.specs.Texts.{saysAt};
 ghost use Rattle.forms.specs.Passed.{Passed};
 ghost use Rattle.numbers.specs.Numbers.{whole, volumeDimensions, dimensionList, exponent, decimal, wholes, sixteen};
 

@@ -5,7 +5,6 @@ use mathlib.Core.Bool.{true, _&&_}
 use Prim.Native.Nat.{ℕ}
 use Prim.Native.String.{String}
 use native.Mathlib.Omega.{arith}
-use lib.ListN.{drop}
 use Rattle.lists.specs.Lists.{all, eachIn, those}
 use Rattle.grammar.specs.Bytes.{between}
 use Rattle.grammar.specs.Document.{Element}

@@ -4,7 +4,7 @@ use mathlib.Core.Bool.{Bool, true, false, _&&_, cond}
 use Prim.Native.Nat.{ℕ, _+_}
 use lib.Dec.{ltb, leb}
 use lib.IntN.{ℤ}
-use lib.ListN.{length, drop, getD}
+use lib.ListN.{length, getD}
 use Rattle.grammar.specs.Bytes.{blank, between}
 use Rattle.grammar.specs.Look.{Word}
 use Rattle.lists.specs.Lists.{count}

@@ -39,7 +39,8 @@ pub record Vertices (text : List ℕ) (start surface n : ℕ) (out : Bool) (i : 
   pub past : any (λ v. not (ltb v surface)) (valuesAt text start) ≡ (out || any (λ v. not (ltb v surface)) (valuesAt text i))
 
 pub vertices-start : {text : List ℕ} {start : ℕ} (surface : ℕ) → InForm text start → Vertices text start surface 0 false start
-vertices-start {text} {start} surface f = record { form = f; fewer = omega (arith, left-most text start); counted = omega arith; past = refl }
+vertices-start {text} {start} surface f =
+    record { form = f; fewer = omega (arith, left-most text start); counted = omega arith; past = refl }
 
 module _ {text : List ℕ} {start surface n i : ℕ} {out : Bool} (go : Vertices text start surface n out i) {r : Next}
     (e : r ≡ nextNumber text i) where
@@ -101,7 +102,8 @@ pub record Voxels (text : List ℕ) (start : ℕ) (volume : Voxel) (n : ℕ) (ou
   pub past : any (outside volume) (threes (valuesAt text start)) ≡ (out || any (outside volume) (threes (valuesAt text at)))
 
 pub voxels-start : {text : List ℕ} {start : ℕ} (volume : Voxel) → InForm text start → Voxels text start volume 0 false start
-voxels-start {text} {start} volume f = record { form = f; fewer = omega (arith, left-most text start); counted = omega arith; past = refl }
+voxels-start {text} {start} volume f =
+    record { form = f; fewer = omega (arith, left-most text start); counted = omega arith; past = refl }
 
 by-three : (n size : ℕ) → eqb (3 * n) (3 * size) ≡ eqb n size
 by-three n size = go (eqb n size) refl
