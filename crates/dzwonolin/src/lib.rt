@@ -133,7 +133,7 @@ pub extern "C" fn dz_model_list(records: &[u64], list: &mut [u64], count: &mut [
 pub extern "C" fn dz_structure_at(list: &[u64], index: u64, answer: &mut [u64]) -> u64
     ensures { λ r. ⌜ TellsFlat (now (list .entry)) index (now (answer .entry)) r (now (answer .exit)) ⌝ }
 {
-    let said = flat_lists::structure_in(list, index);
+    let said = flat_lists::structure_in(list, Index(index));
     tell_two(
         answer,
         flat_lists::told_type(said),

@@ -61,8 +61,8 @@ fn seen_numbers(list: &[u64], start: Search) -> Search
 }
 
 // The type and structure at an index.
-pub fn structure_in(list: &[u64], index: u64) -> Told
-    ensures { λ r. ⌜ TellsNumbers (now (list .entry)) index r ⌝ }
+pub fn structure_in(list: &[u64], index: Index) -> Told
+    ensures { λ r. ⌜ TellsNumbers (now (list .entry)) (index .0) r ⌝ }
 {
     told(seen_numbers(list, begin(index, 0, 0)))
 }

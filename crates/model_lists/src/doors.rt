@@ -42,7 +42,7 @@ fn listed(made: Made) -> Listed
 fn begin_index(index: Index) -> Search
     ensures { λ r. ⌜ r ≡ begun (index .0) 0 0 ⌝ }
 {
-    begin(index.0, 0, 0)
+    begin(index, 0, 0)
 }
 
 // The models of the records of one brain map: their runs of one type and structure, in order of first index.

@@ -23,7 +23,7 @@ bitSet n k = eqb (n / 2 ^ k % 2) 1
 -- nothing seen yet
 abbrev pub begun : (index kind most : ℕ) → Search
 begun n k most = record {
-  index = n;
+  index = record { 0 = n };
   kind = k;
   most = most;
   bad = false;
@@ -67,7 +67,7 @@ taken s m = record {
   first = m .first .0;
   count = m .count;
   named = s .named + 2 ^ kindIn m;
-  tells = cond (holdsIndex (s .index) m) (kindIn m) (s .tells);
+  tells = cond (holdsIndex (s .index .0) m) (kindIn m) (s .tells);
   from = cond (ofKind (s .kind) m) (m .first .0) (s .from);
   size = cond (ofKind (s .kind) m) (m .count) (s .size);
 }

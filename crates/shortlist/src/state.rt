@@ -1,3 +1,5 @@
+use records::Index;
+
 // The runs of records as numbers: 0 or the number of refusal, how many runs there are (none where refused), and of each its first index,
 // its length and its kind (32 for voxels, and the structure).
 pub struct Made {
@@ -11,7 +13,7 @@ pub struct Made {
 // What has been seen of a list, entry by entry.
 pub struct Search {
     // what is asked: an index, a kind, and how many records there are
-    pub index: u64,
+    pub index: Index,
     pub kind: u64,
     pub most: u64,
     // the list is bad

@@ -16,8 +16,8 @@ ghost use Rattle.shortlist.specs.Asking.{holdsIndex};
 ghost use Rattle.shortlist.specs.Search as search;
 
 // Nothing seen yet: an index is asked, or a kind among so many records.
-pub fn begin(index: u64, kind: u64, most: u64) -> Search
-    ensures { λ r. ⌜ r ≡ search.begun index kind most ⌝ }
+pub fn begin(index: Index, kind: u64, most: u64) -> Search
+    ensures { λ r. ⌜ r ≡ search.begun (index .0) kind most ⌝ }
 {
     Search {
         index: index,
@@ -37,7 +37,7 @@ pub fn begin(index: u64, kind: u64, most: u64) -> Search
 pub fn begin_record(number: u64, most: usize) -> Search
     ensures { λ r. ⌜ r ≡ search.begun 0 (kindOf number) most ⌝ }
 {
-    begin(0, kind_of(number), most as u64)
+    begin(Index(0), kind_of(number), most as u64)
 }
 
 // A model's kind, where its structure is not above 31.
@@ -52,15 +52,15 @@ fn kind_in(model: Model) -> u64
 }
 
 // The index lies in the model's range.
-fn holds(index: u64, model: Model) -> bool
-    ensures { λ r. ⌜ r ≡ holdsIndex index model ⌝ }
+fn holds(index: Index, model: Model) -> bool
+    ensures { λ r. ⌜ r ≡ holdsIndex (index .0) model ⌝ }
 {
     let from = model.first;
     let first = from.0;
-    if index < first {
+    if index.0 < first {
         return false;
     }
-    index - first < model.count
+    index.0 - first < model.count
 }
 
 // A range reaches past so many records.
@@ -132,7 +132,8 @@ fn with_entry(seen: Search, model: Model) -> Search
     let from = model.first;
     let first = from.0;
     let kind = kind_in(model);
-    let here = holds(seen.index, model);
+    let index = seen.index;
+    let here = holds(index, model);
     let own = kind == seen.kind;
     let mut more = seen;
     more.first = first;

@@ -147,7 +147,7 @@ module _ (s : Search) (m : Model) where
   next-takes b t g p q e = e ∙ sym (ap (λ t. cond t (spoilt s) (taken s m)) (or-neither g (sym p ∙ q)))
 
   -- all that is noted of an entry
-  pub taken-is : (k b t f z : ℕ) (here : Bool) → k ≡ kindIn m → b ≡ 2 ^ k → here ≡ holdsIndex (s .index) m
+  pub taken-is : (k b t f z : ℕ) (here : Bool) → k ≡ kindIn m → b ≡ 2 ^ k → here ≡ holdsIndex (s .index .0) m
       → t ≡ cond here k (s .tells) → f ≡ cond (eqb k (s .kind)) (m .first .0) (s .from)
       → z ≡ cond (eqb k (s .kind)) (m .count) (s .size)
       → record {
@@ -171,7 +171,7 @@ module _ (s : Search) (m : Model) where
     first = m .first .0;
     count = m .count;
     named = s .named + (pb ∙ ap (λ x. 2 ^ x) pk) i;
-    tells = (pt ∙ ap (λ x. cond x k (s .tells)) ph ∙ ap (λ x. cond (holdsIndex (s .index) m) x (s .tells)) pk) i;
+    tells = (pt ∙ ap (λ x. cond x k (s .tells)) ph ∙ ap (λ x. cond (holdsIndex (s .index .0) m) x (s .tells)) pk) i;
     from = (pf ∙ ap (λ x. cond (eqb x (s .kind)) (m .first .0) (s .from)) pk) i;
     size = (pz ∙ ap (λ x. cond (eqb x (s .kind)) (m .count) (s .size)) pk) i;
   }

@@ -201,7 +201,7 @@ kind-once named k l h e = go l (or-left (any (isNamed named) l) _ h)
 -- what else has been seen of a list that is not bad
 pub record Sees (s : Search) (l : List Model) (t : Search) : Type 0 where
   pub past-is : ltb (s .most) (t .first + t .count) ≡ (ltb (s .most) (s .first + s .count) || any (pastEnd (s .most)) l)
-  pub tells-is : t .tells ≡ cond (any (holdsIndex (s .index)) l) (kindIn (the (holdsIndex (s .index)) l)) (s .tells)
+  pub tells-is : t .tells ≡ cond (any (holdsIndex (s .index .0)) l) (kindIn (the (holdsIndex (s .index .0)) l)) (s .tells)
   pub from-is : t .from ≡ cond (any (ofKind (s .kind)) l) ((the (ofKind (s .kind)) l) .first .0) (s .from)
   pub size-is : t .size ≡ cond (any (ofKind (s .kind)) l) ((the (ofKind (s .kind)) l) .count) (s .size)
 
@@ -253,7 +253,7 @@ module _ (s : Search) (m : Model) (l : List Model) (t : Search) (good : badEntry
   unfolding taken any pastEnd
   sees-more = record {
     past-is = h .past-is ∙ more-past;
-    tells-is = h .tells-is ∙ last-first (holdsIndex (s .index)) kindIn m l (s .tells) (held-once (s .index) m l runs-on);
+    tells-is = h .tells-is ∙ last-first (holdsIndex (s .index .0)) kindIn m l (s .tells) (held-once (s .index .0) m l runs-on);
     from-is = h .from-is ∙ last-first (ofKind (s .kind)) (λ n. n .first .0) m l (s .from) own-once;
     size-is = h .size-is ∙ last-first (ofKind (s .kind)) (λ n. n .count) m l (s .size) own-once;
   }
