@@ -88,13 +88,13 @@ pub fn no_series() -> Series
 }
 
 // What is said of a dimension, whatever its kind.
-pub fn dimension_by(kind: Kind, length: u64, start: usize, series: Series) -> Dimension
-    ensures { λ r. ⌜ r ≡ dimensionBy kind length start series ⌝ }
+pub fn dimension_by(kind: Kind, length: u64, start: Place, series: Series) -> Dimension
+    ensures { λ r. ⌜ r ≡ dimensionBy kind length (start .0) series ⌝ }
 {
     Dimension {
         kind: kind,
         length: length,
-        start: Place(start),
+        start: start,
         series: series,
     }
 }
@@ -102,7 +102,7 @@ pub fn dimension_by(kind: Kind, length: u64, start: usize, series: Series) -> Di
 pub fn unused() -> Dimension
     ensures { λ r. ⌜ r ≡ answers.unused ⌝ }
 {
-    dimension_by(Kind::None, 0, 0, no_series())
+    dimension_by(Kind::None, 0, Place(0), no_series())
 }
 
 pub fn refused(number: u64) -> Answer

@@ -12,6 +12,7 @@ use cifti::Series;
 use maps::survey::MapNote;
 use maps::survey::Maps;
 use maps::survey::nth;
+use records::Place;
 ghost use mathlib.Core.Path.{_≡_};
 ghost use Rattle.nodes.specs.Places.{the};
 ghost use Rattle.cifti.specs.Maps.{mapOf};
@@ -34,20 +35,20 @@ fn series_in(text: &[u8], note: MapNote) -> Series
 }
 
 // Where its stretch begins; zero where it has none.
-fn start_in(note: MapNote, start: usize) -> usize
-    ensures { λ r. ⌜ r ≡ startIn note start ⌝ }
+fn start_in(note: MapNote, start: Place) -> Place
+    ensures { λ r. ⌜ r .0 ≡ startIn note (start .0) ⌝ }
 {
     let kind = note.kind;
     if is_brain(kind) {
         return start;
     }
-    0
+    Place(0)
 }
 
 // What the answer says of the map whose stretch, if it has one, begins at `start`.
-fn described(text: &[u8], note: MapNote, start: usize) -> Dimension
+fn described(text: &[u8], note: MapNote, start: Place) -> Dimension
     requires { ⌜ Noted (now text) note ⌝ }
-    ensures { λ r. ⌜ r ≡ answers.described start (mapOf (the (now (text .entry)) (note .at))) ⌝ }
+    ensures { λ r. ⌜ r ≡ answers.described (start .0) (mapOf (the (now (text .entry)) (note .at))) ⌝ }
 {
     let kind = note.kind;
     let series = series_in(text, note);
@@ -66,7 +67,7 @@ fn dimension_at(text: &[u8], maps: Maps, d: usize) -> Dimension
         let note = nth(maps, i);
         let lists = note.lists;
         if lists.has[d] != 0 {
-            return described(text, note, start);
+            return described(text, note, Place(start));
         }
         start += reach_of(note) as usize;
         i += 1;
