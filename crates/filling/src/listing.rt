@@ -5,6 +5,7 @@ use number_lists::next_number;
 use numbers::Next;
 use record_fields::surface_record;
 use record_fields::voxel_record;
+use records::Place;
 use records::Vertex;
 ghost use mathlib.Core.Path.{_≡_};
 ghost use mathlib.Core.Bool.{true, false};
@@ -13,12 +14,12 @@ ghost use Rattle.models.specs.Numbers.{valuesAt};
 ghost use Rattle.table.specs.Listing.{Writable, recordsListed};
 
 // The vertices that are listed from `start` on.
-pub(crate) fn fill_vertices(text: &[u8], start: usize, structure: u64, out: &mut [u64], at: usize)
-    requires { ⌜ Writable false structure (now text) start at (now out) ⌝ }
-    ensures { λ _. ⌜ now (out .exit) ≡ wrote at (recordsListed false structure (valuesAt (now (text .entry)) start)) (now (out .entry)) ⌝ }
+pub(crate) fn fill_vertices(text: &[u8], start: usize, structure: u64, out: &mut [u64], at: Place)
+    requires { ⌜ Writable false structure (now text) start (at .0) (now out) ⌝ }
+    ensures { λ _. ⌜ now (out .exit) ≡ wrote (at .0) (recordsListed false structure (valuesAt (now (text .entry)) start)) (now (out .entry)) ⌝ }
 {
     let mut i = start;
-    let mut place = at;
+    let mut place = at.0;
     loop {
         match next_number(text, i) {
             Next::Number(v, behind) => {
@@ -37,12 +38,12 @@ pub(crate) fn fill_vertices(text: &[u8], start: usize, structure: u64, out: &mut
 }
 
 // The voxels that are listed from `start` on.
-pub(crate) fn fill_voxels(text: &[u8], start: usize, structure: u64, out: &mut [u64], at: usize)
-    requires { ⌜ Writable true structure (now text) start at (now out) ⌝ }
-    ensures { λ _. ⌜ now (out .exit) ≡ wrote at (recordsListed true structure (valuesAt (now (text .entry)) start)) (now (out .entry)) ⌝ }
+pub(crate) fn fill_voxels(text: &[u8], start: usize, structure: u64, out: &mut [u64], at: Place)
+    requires { ⌜ Writable true structure (now text) start (at .0) (now out) ⌝ }
+    ensures { λ _. ⌜ now (out .exit) ≡ wrote (at .0) (recordsListed true structure (valuesAt (now (text .entry)) start)) (now (out .entry)) ⌝ }
 {
     let mut i = start;
-    let mut next = at;
+    let mut next = at.0;
     loop {
         match next_voxel(text, i) {
             Triple::Voxel(x, y, z, behind) => {

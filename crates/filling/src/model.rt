@@ -19,10 +19,10 @@ pub(crate) fn fill_model(text: &[u8], model: usize, kind: u64, out: &mut [u64], 
     match list_start(text, model) {
         Found::At(start) => {
             if 32 <= kind {
-                fill_voxels(text, start, kind - 32, out, at.0);
+                fill_voxels(text, start, kind - 32, out, at);
                 return;
             }
-            fill_vertices(text, start, kind, out, at.0);
+            fill_vertices(text, start, kind, out, at);
         }
         Found::Nothing => {}
     }

@@ -33,13 +33,12 @@ pub fn fill_all(text: &[u8], maps: Maps, judged: Judged, records: &mut [u64])
     requires { ⌜ Fillable (now text) maps judged (length (now records)) ⌝ }
     ensures { λ _. ⌜ now (records .exit) ≡ filledWith (stretches (mapsAt (now (text .entry)) maps)) (now (records .entry)) ⌝ }
 {
-    let mut next = 0;
+    let mut next = Place(0);
     let mut i = 0;
     while i < maps.count {
         let note = nth(maps, i);
         let models = models_held(judged, i);
-        let there = fill_one(text, note, models, records, Place(next));
-        next = there.0;
+        next = fill_one(text, note, models, records, next);
         i += 1;
     }
 }

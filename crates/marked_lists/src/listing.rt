@@ -12,6 +12,7 @@ use models::volume::Sizes;
 use nodes::Found;
 use number_lists::next_number;
 use numbers::Next;
+use records::Vertex;
 ghost use mathlib.Core.Path.{_≡_};
 ghost use Rattle.nodes.specs.Places.{the};
 ghost use Rattle.cifti.specs.Maps.{voxel, modelOf};
@@ -60,7 +61,7 @@ fn marked_vertices(
             Next::Number(v, j) => {
                 n += 1;
                 out = out | !(v < surface);
-                let new = mark(work, vertex_place(first, v));
+                let new = mark(work, vertex_place(first, Vertex(v)));
                 apart = apart & new;
                 i = j;
             }

@@ -7,6 +7,7 @@ use super::places::grid_for;
 use super::places::surface_start;
 use models::gather::Models;
 use models::volume::Sizes;
+use records::Index;
 use repeats::clear;
 ghost use Prim.Native.Nat.{_≤_};
 ghost use Rattle.models.specs.Verdicts.{volumeFrom};
@@ -21,7 +22,7 @@ fn all_lists(text: &[u8], models: Models, sizes: Sizes, grid: Grid, work: &mut [
     let mut apart = true;
     let mut i: usize = 0;
     while i < models.count {
-        let first = surface_start(grid, models.offset[i]);
+        let first = surface_start(grid, Index(models.offset[i]));
         let v = marked_list(
             text,
             models.at[i],

@@ -1,6 +1,8 @@
 // Where each location is marked. Nothing is asked of the places but that one location has one place: that different ones seldom share a
 // place is speed alone.
 use models::volume::Sizes;
+use records::Index;
+use records::Vertex;
 use std::num::wrapping_add_u64;
 ghost use mathlib.Core.Path.{_≡_};
 ghost use Prim.Native.Nat.{_≤_};
@@ -24,15 +26,15 @@ pub(crate) fn voxel_place(grid: Grid, i: u64, j: u64, k: u64) -> u64
     (i & grid.i) | (((j & grid.j) << (grid.row % 64)) | ((k & grid.k) << (grid.layer % 64)))
 }
 
-pub(crate) fn vertex_place(start: u64, vertex: u64) -> u64
-    ensures { λ r. ⌜ r ≡ vertexPlace start vertex ⌝ }
+pub(crate) fn vertex_place(start: u64, vertex: Vertex) -> u64
+    ensures { λ r. ⌜ r ≡ vertexPlace start (vertex .0) ⌝ }
 {
-    wrapping_add_u64(start, vertex)
+    wrapping_add_u64(start, vertex.0)
 }
 
-// Where the marks of the surface begin whose first index is `offset`: half a word for each index before it.
-pub(crate) fn surface_start(grid: Grid, offset: u64) -> u64 {
-    wrapping_add_u64(grid.behind, offset << 5)
+// Where the marks of the surface begin whose first index is `first`: half a word for each index before it.
+pub(crate) fn surface_start(grid: Grid, first: Index) -> u64 {
+    wrapping_add_u64(grid.behind, first.0 << 5)
 }
 
 fn lesser(a: u64, b: u64) -> u64

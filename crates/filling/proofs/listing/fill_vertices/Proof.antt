@@ -6,10 +6,10 @@ use Rattle.filling.proofs.listing.fill_vertices.Statement.{statement}
 use Rattle.filling.proofs.listing.fill_vertices.Tie as tie
 
 abbrev Inv-loop : tie.InvT-loop
-Inv-loop text start structure out₀ at i₀ place₀ out i place = Writing false structure text start at out₀ i place out
+Inv-loop text start structure out₀ i₀ place₀ out i place = Writing false structure text start place₀ out₀ i place out
 
 abbrev μ-loop : tie.MeasureT-loop
-μ-loop text start structure out₀ at i₀ place₀ out i place = left text i
+μ-loop text start structure out₀ i₀ place₀ out i place = left text i
 
 pub fill-vertices-spec : {M : Type 1} → statement M
 fill-vertices-spec =

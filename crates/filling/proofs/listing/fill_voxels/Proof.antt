@@ -6,10 +6,10 @@ use Rattle.filling.proofs.listing.fill_voxels.Statement.{statement}
 use Rattle.filling.proofs.listing.fill_voxels.Tie as tie
 
 abbrev Inv-loop : tie.InvT-loop
-Inv-loop text start structure out₀ at i₀ next₀ out i next = Writing true structure text start at out₀ i next out
+Inv-loop text start structure out₀ i₀ next₀ out i next = Writing true structure text start next₀ out₀ i next out
 
 abbrev μ-loop : tie.MeasureT-loop
-μ-loop text start structure out₀ at i₀ next₀ out i next = left text i
+μ-loop text start structure out₀ i₀ next₀ out i next = left text i
 
 pub fill-voxels-spec : {M : Type 1} → statement M
 fill-voxels-spec =
