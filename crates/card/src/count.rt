@@ -3,6 +3,7 @@ use super::line::least;
 use super::line::length_from;
 use super::line::lines_of;
 use cifti::Answer;
+use records::Place;
 ghost use mathlib.Core.Path.{_≡_};
 ghost use lib.ListN.{length};
 ghost use Rattle.card.specs.Card.{dimensionLines, recordLines, answerDimensions, cardLines};
@@ -26,7 +27,7 @@ fn record_count(answer: Answer, records: &[u64]) -> usize
     let mut at = 0;
     let mut round: u64 = 0;
     while round < 3 {
-        at += least(length_from(answer, at) as usize, records.len() - at);
+        at += least(length_from(answer, Place(at)) as usize, records.len() - at);
         round += 1;
     }
     at

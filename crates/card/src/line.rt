@@ -95,17 +95,17 @@ pub(crate) fn lines_of(dimension: Dimension) -> usize
     1
 }
 
-fn begins_at(dimension: Dimension, at: usize) -> bool
-    ensures { λ b. ⌜ b ≡ stretchBegins at dimension ⌝ }
+fn begins_at(dimension: Dimension, at: Place) -> bool
+    ensures { λ b. ⌜ b ≡ stretchBegins (at .0) dimension ⌝ }
 {
     let kind = dimension.kind;
     let start = dimension.start;
-    is_brain(kind) & (start.0 == at)
+    is_brain(kind) & (start.0 == at.0)
 }
 
 // How long the stretch is that begins at `at`; 0 where none begins.
-pub(crate) fn length_from(answer: Answer, at: usize) -> u64
-    ensures { λ n. ⌜ n ≡ lengthFrom at (answerDimensions answer) ⌝ }
+pub(crate) fn length_from(answer: Answer, at: Place) -> u64
+    ensures { λ n. ⌜ n ≡ lengthFrom (at .0) (answerDimensions answer) ⌝ }
 {
     let mut d = 0;
     while d < 3 {
@@ -132,7 +132,7 @@ fn record_line_at(answer: Answer, records: &[u64], n: usize) -> Line
     let mut at = 0;
     let mut round: u64 = 0;
     while round < 3 {
-        let reach = least(length_from(answer, at) as usize, records.len() - at);
+        let reach = least(length_from(answer, Place(at)) as usize, records.len() - at);
         if left < reach {
             return record_line(Index(left as u64), records[at + left]);
         }

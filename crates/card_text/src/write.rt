@@ -1,6 +1,9 @@
 // The bytes of a line.
 use card::Line;
 use cifti::Kind;
+use records::Index;
+use records::Place;
+use records::Vertex;
 ghost use mathlib.Core.Path.{_≡_};
 ghost use mathlib.Core.List.{[], _∷_};
 ghost use Prim.Native.Nat.{_+_, _≤_};
@@ -90,32 +93,32 @@ fn map_row(out: &mut [u8], dimension: u64, kind: Kind, size: u64) -> usize
     put_number(out, third, size, b'\n')
 }
 
-fn map_at_row(out: &mut [u8], dimension: u64, kind: Kind, size: u64, start: u64) -> usize
+fn map_at_row(out: &mut [u8], dimension: u64, kind: Kind, size: u64, start: Place) -> usize
     requires { ⌜ 128 ≤ length (now out) ⌝ }
-    ensures { λ r. ⌜ Spells (spaced (inTens dimension ∷ kindWord kind ∷ inTens size ∷ inTens start ∷ [])) r (now (out .exit)) ⌝ }
+    ensures { λ r. ⌜ Spells (spaced (inTens dimension ∷ kindWord kind ∷ inTens size ∷ inTens (start .0) ∷ [])) r (now (out .exit)) ⌝ }
 {
     let second = put_number(out, 0, dimension, b' ');
     let third = put_kind(out, second, kind);
     let fourth = put_number(out, third, size, b' ');
-    put_number(out, fourth, start, b'\n')
+    put_number(out, fourth, start.0 as u64, b'\n')
 }
 
-fn surface_row(out: &mut [u8], index: u64, structure: u64, vertex: u64) -> usize
+fn surface_row(out: &mut [u8], index: Index, structure: u64, vertex: Vertex) -> usize
     requires { ⌜ 128 ≤ length (now out) ⌝ }
-    ensures { λ r. ⌜ Spells (spaced (inTens index ∷ ascii "S" ∷ inTens structure ∷ inTens vertex ∷ [])) r (now (out .exit)) ⌝ }
+    ensures { λ r. ⌜ Spells (spaced (inTens (index .0) ∷ ascii "S" ∷ inTens structure ∷ inTens (vertex .0) ∷ [])) r (now (out .exit)) ⌝ }
 {
-    let second = put_number(out, 0, index, b' ');
+    let second = put_number(out, 0, index.0, b' ');
     let third = put_word(out, second, b"S", b' ');
     let fourth = put_number(out, third, structure, b' ');
-    put_number(out, fourth, vertex, b'\n')
+    put_number(out, fourth, vertex.0, b'\n')
 }
 
-fn voxel_row(out: &mut [u8], index: u64, structure: u64, i: u64, j: u64, k: u64) -> usize
+fn voxel_row(out: &mut [u8], index: Index, structure: u64, i: u64, j: u64, k: u64) -> usize
     requires { ⌜ 128 ≤ length (now out) ⌝ }
-    ensures { λ r. ⌜ Spells (spaced (inTens index ∷ ascii "V" ∷ inTens structure ∷ inTens i ∷ inTens j ∷ inTens k ∷ [])) r
+    ensures { λ r. ⌜ Spells (spaced (inTens (index .0) ∷ ascii "V" ∷ inTens structure ∷ inTens i ∷ inTens j ∷ inTens k ∷ [])) r
         (now (out .exit)) ⌝ }
 {
-    let second = put_number(out, 0, index, b' ');
+    let second = put_number(out, 0, index.0, b' ');
     let third = put_word(out, second, b"V", b' ');
     let fourth = put_number(out, third, structure, b' ');
     let fifth = put_number(out, fourth, i, b' ');
@@ -141,19 +144,19 @@ fn spell(line: Line, out: &mut [u8]) -> usize
             kind,
             length,
             start,
-        } => map_at_row(out, dimension, kind, length, start.0 as u64),
+        } => map_at_row(out, dimension, kind, length, start),
         Line::Surface {
             index,
             structure,
             vertex,
-        } => surface_row(out, index.0, structure, vertex.0),
+        } => surface_row(out, index, structure, vertex),
         Line::Voxel {
             index,
             structure,
             i,
             j,
             k,
-        } => voxel_row(out, index.0, structure, i, j, k),
+        } => voxel_row(out, index, structure, i, j, k),
         Line::End => 0,
     }
 }

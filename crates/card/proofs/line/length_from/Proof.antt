@@ -8,7 +8,7 @@ use Rattle.card.proofs.line.length_from.Statement.{statement}
 use Rattle.card.proofs.line.length_from.Tie as tie
 
 abbrev Inv-loop : tie.InvT-loop
-Inv-loop at answer d₀ d = (d ≤ 3) × (lengthFrom at (answerDimensions answer) ≡ lengthFrom at (drop d (answerDimensions answer)))
+Inv-loop at answer d₀ d = (d ≤ 3) × (lengthFrom (at .0) (answerDimensions answer) ≡ lengthFrom (at .0) (drop d (answerDimensions answer)))
 
 abbrev μ-loop : tie.MeasureT-loop
 μ-loop at answer d₀ d = 3 - d
