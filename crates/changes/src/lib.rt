@@ -1,5 +1,6 @@
 // What changed from one sheet to another, index by index.
 use record_fields::find;
+use records::Place;
 ghost use mathlib.Core.Path.{_≡_};
 ghost use Prim.Native.Nat.{_≤_, _<_};
 ghost use lib.ListN.{length};
@@ -14,10 +15,11 @@ pub enum Change {
     Second,
 }
 
-// The list has the record at the index.
-fn stands_at(list: &[u64], i: usize, x: u64) -> bool
-    ensures { λ r. ⌜ r ≡ hasAt (now (list .entry)) i x ⌝ }
+// The list has the record at the place.
+fn stands_at(list: &[u64], place: Place, x: u64) -> bool
+    ensures { λ r. ⌜ r ≡ hasAt (now (list .entry)) (place .0) x ⌝ }
 {
+    let i = place.0;
     if i < list.len() { x == list[i] } else { false }
 }
 
@@ -34,7 +36,7 @@ pub fn change_at(first: &[u64], second: &[u64], i: usize) -> Change
     ensures { λ r. ⌜ r ≡ changeAt (now (first .entry)) (now (second .entry)) i ⌝ }
 {
     if i < first.len() {
-        if stands_at(second, i, first[i]) {
+        if stands_at(second, Place(i), first[i]) {
             return Change::Same;
         }
         if stands(second, first[i]) {

@@ -5,6 +5,7 @@ use super::refusal::front_refusal;
 use super::refusal::refusal;
 use comparison::Compared;
 use comparison::TailPlace;
+use records::Place;
 use repeats::clear;
 ghost use mathlib.Core.Path.{_≡_};
 ghost use mathlib.Core.Bool.{true};
@@ -13,12 +14,16 @@ ghost use lib.ListN.{length};
 ghost use Rattle.records.specs.Sheet.{countOf};
 ghost use Rattle.comparison.specs.Compare.{wellFormed, recordPlace, Compares, TailPlaced, Tails};
 
-// Where the sheet's record of the index begins.
-fn record_start(sheet: &[u8], i: usize) -> usize
-    requires { ⌜ (wellFormed (now sheet) ≡ true) × (i ≤ countOf (now sheet)) ⌝ }
-    ensures { λ r. ⌜ (r ≡ recordPlace i (now (sheet .entry))) × (r ≤ length (now (sheet .entry))) ⌝ }
+// Where the sheet's record at the place begins.
+fn record_start(sheet: &[u8], place: Place) -> usize
+    requires { ⌜ (wellFormed (now sheet) ≡ true) × (place .0 ≤ countOf (now sheet)) ⌝ }
+    ensures { λ r. ⌜ (r ≡ recordPlace (place .0) (now (sheet .entry))) × (r ≤ length (now (sheet .entry))) ⌝ }
 {
-    if sheet[0] == 5 { 4 + 5 * i } else { 4 + 7 * i }
+    if sheet[0] == 5 {
+        4 + 5 * place.0
+    } else {
+        4 + 7 * place.0
+    }
 }
 
 // How many locations are at the same index in both sheets, in both but moved, in the first only and in the second only.
@@ -58,7 +63,7 @@ pub fn tail_place(first: &[u8], second: &[u8], work: &mut [u64]) -> TailPlace
     let n = count_in(first);
     let m = count_in(second);
     if n < m {
-        let start = record_start(second, n);
+        let start = record_start(second, Place(n));
         return TailPlace {
             number: 0,
             sheet: 1,
@@ -66,7 +71,7 @@ pub fn tail_place(first: &[u8], second: &[u8], work: &mut [u64]) -> TailPlace
             length: second.len() - start,
         };
     }
-    let start = record_start(first, m);
+    let start = record_start(first, Place(m));
     TailPlace {
         number: 0,
         sheet: 0,

@@ -1,17 +1,18 @@
 // Those at the same index.
 use super::taking::record_in;
+use records::Place;
 ghost use mathlib.Core.Path.{_≡_};
 ghost use Prim.Native.Nat.{_<_};
 ghost use Rattle.comparison.specs.Compare.{recordsOf, sameAt, same};
 ghost use Rattle.pairing.specs.Side.{Beside};
 
-// Both have the same record at the index.
-fn same_at(first: &[u8], second: &[u8], n: usize, m: usize, i: usize) -> bool
-    requires { ⌜ Beside (now first) (now second) n m × (i < n) ⌝ }
-    ensures { λ r. ⌜ r ≡ sameAt (recordsOf (now (first .entry))) (recordsOf (now (second .entry))) i ⌝ }
+// Both have the same record at the place.
+fn same_at(first: &[u8], second: &[u8], n: usize, m: usize, place: Place) -> bool
+    requires { ⌜ Beside (now first) (now second) n m × (place .0 < n) ⌝ }
+    ensures { λ r. ⌜ r ≡ sameAt (recordsOf (now (first .entry))) (recordsOf (now (second .entry))) (place .0) ⌝ }
 {
-    if i < m {
-        record_in(first, i) == record_in(second, i)
+    if place.0 < m {
+        record_in(first, place) == record_in(second, place)
     } else {
         false
     }
@@ -25,7 +26,7 @@ pub fn same_in(first: &[u8], second: &[u8], n: usize, m: usize) -> usize
     let mut k = 0;
     let mut i = 0;
     while i < n {
-        let here = same_at(first, second, n, m, i);
+        let here = same_at(first, second, n, m, Place(i));
         i += 1;
         if here {
             k += 1;

@@ -1,4 +1,5 @@
-// The record of an index, from the front of a sheet or turned round.
+// The record at a place, from the front of a sheet or turned round.
+use records::Place;
 use sheets::record_at;
 ghost use mathlib.Core.Path.{_≡_};
 ghost use Prim.Native.Nat.{_<_};
@@ -14,17 +15,17 @@ fn byte(b: u8) -> usize
     b as usize
 }
 
-pub(crate) fn record_in(sheet: &[u8], i: usize) -> u64
-    requires { ⌜ Within (now sheet) i ⌝ }
-    ensures { λ r. ⌜ (r ≡ getD (recordsOf (now (sheet .entry))) i 0) × (r < 18014398509481984) ⌝ }
+pub(crate) fn record_in(sheet: &[u8], place: Place) -> u64
+    requires { ⌜ Within (now sheet) (place .0) ⌝ }
+    ensures { λ r. ⌜ (r ≡ getD (recordsOf (now (sheet .entry))) (place .0) 0) × (r < 18014398509481984) ⌝ }
 {
-    record_at(sheet, byte(sheet[0]), i)
+    record_at(sheet, byte(sheet[0]), place)
 }
 
 // The place of the j-th step over n records.
-pub(crate) fn place_in(turned: bool, n: usize, j: usize) -> usize
+pub(crate) fn place_in(turned: bool, n: usize, j: usize) -> Place
     requires { ⌜ j < n ⌝ }
-    ensures { λ r. ⌜ (r ≡ placeIn turned n j) × (r < n) ⌝ }
+    ensures { λ r. ⌜ (r .0 ≡ placeIn turned n j) × (r .0 < n) ⌝ }
 {
-    if turned { n - (j + 1) } else { j }
+    if turned { Place(n - (j + 1)) } else { Place(j) }
 }

@@ -2,6 +2,7 @@
 use super::taking::place_in;
 use super::taking::record_in;
 use matching::count_matched;
+use records::Place;
 ghost use mathlib.Core.Path.{_≡_};
 ghost use Prim.Native.Nat.{_+_, _≤_, _<_};
 ghost use lib.ListN.{length, getD};
@@ -36,8 +37,8 @@ fn way_of(first: &[u8], second: &[u8], n: usize, m: usize) -> Way
     requires { ⌜ Beside (now first) (now second) n m ⌝ }
     ensures { λ r. ⌜ (r .n ≡ n) × (r .m ≡ m) ⌝ }
 {
-    let down = record_in(first, n - 1) < record_in(first, 0);
-    let back = record_in(second, m - 1) < record_in(second, 0);
+    let down = record_in(first, Place(n - 1)) < record_in(first, Place(0));
+    let back = record_in(second, Place(m - 1)) < record_in(second, Place(0));
     Way {
         n,
         m,
@@ -59,10 +60,10 @@ fn second_at(second: &[u8], way: Way, j: usize) -> u64
 fn first_goes(first: &[u8], second: &[u8], way: Way, i: usize, j: usize) -> bool
     requires { ⌜ Underway (now first) (now second) (way .n) (way .m) i j × ((i < way .n) × (j < way .m)) ⌝ }
 {
-    let x = record_in(first, i);
+    let x = record_in(first, Place(i));
     let y = second_at(second, way, j);
     if i + 1 < way.n {
-        if record_in(first, i + 1) == y {
+        if record_in(first, Place(i + 1)) == y {
             return true;
         }
     }
@@ -84,7 +85,7 @@ fn next_step(first: &[u8], second: &[u8], way: Way, i: usize, j: usize) -> Step
     if way.m <= j {
         return Step::First;
     }
-    if record_in(first, i) == second_at(second, way, j) {
+    if record_in(first, Place(i)) == second_at(second, way, j) {
         return Step::Pair;
     }
     if first_goes(first, second, way, i, j) {
@@ -110,7 +111,7 @@ fn set_aside(first: &[u8], second: &[u8], way: Way, work: &mut [u64]) -> Left
                 pairs += 1;
             }
             Step::First => {
-                work[aside] = record_in(first, i) * 2;
+                work[aside] = record_in(first, Place(i)) * 2;
                 i += 1;
                 aside += 1;
             }

@@ -5,6 +5,7 @@ use super::word::wide;
 use super::word::word_at;
 use record_fields::legal;
 use records::Outcome;
+use records::Place;
 ghost use mathlib.Core.Path.{_≡_};
 ghost use mathlib.Core.Bool.{true};
 ghost use Prim.Native.Nat.{_+_, _*_, _≤_, _<_};
@@ -147,7 +148,7 @@ fn all_good(sheet: &[u8], width: usize, n: usize) -> bool
 {
     let mut i = 0;
     while i < n {
-        if !good_word(width, word_at(sheet, width, i)) {
+        if !good_word(width, word_at(sheet, width, Place(i))) {
             return false;
         }
         i += 1;
@@ -162,7 +163,7 @@ fn take_records(sheet: &[u8], width: usize, records: &mut [u64], n: usize)
 {
     let mut i = 0;
     while i < n {
-        records[i] = record_of(width, word_at(sheet, width, i));
+        records[i] = record_of(width, word_at(sheet, width, Place(i)));
         i += 1;
     }
 }

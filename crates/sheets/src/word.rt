@@ -2,6 +2,7 @@
 use record_fields::legal;
 use record_fields::legal_five;
 use record_fields::widen;
+use records::Place;
 ghost use mathlib.Core.Path.{_≡_};
 ghost use Prim.Native.Nat.{_+_, _*_, _≤_, _<_};
 ghost use lib.ListN.{length, take, drop};
@@ -34,15 +35,15 @@ fn seven_bytes(sheet: &[u8], at: usize) -> u64
     high * 1_099_511_627_776 + five_bytes(sheet, at + 2)
 }
 
-// The word of the index `i`.
-pub(crate) fn word_at(sheet: &[u8], width: usize, i: usize) -> u64
-    requires { ⌜ 4 + (widthSaid width) .bytes * (i + 1) ≤ length (now sheet) ⌝ }
-    ensures { λ r. ⌜ r ≡ numberWritten (take ((widthSaid width) .bytes) (drop (4 + (widthSaid width) .bytes * i) (now (sheet .entry)))) ⌝ }
+// The word at the place.
+pub(crate) fn word_at(sheet: &[u8], width: usize, place: Place) -> u64
+    requires { ⌜ 4 + (widthSaid width) .bytes * (place .0 + 1) ≤ length (now sheet) ⌝ }
+    ensures { λ r. ⌜ r ≡ numberWritten (take ((widthSaid width) .bytes) (drop (4 + (widthSaid width) .bytes * place .0) (now (sheet .entry)))) ⌝ }
 {
     if width == 5 {
-        five_bytes(sheet, 4 + 5 * i)
+        five_bytes(sheet, 4 + 5 * place.0)
     } else {
-        seven_bytes(sheet, 4 + 7 * i)
+        seven_bytes(sheet, 4 + 7 * place.0)
     }
 }
 
@@ -70,11 +71,11 @@ pub(crate) fn record_of(width: usize, word: u64) -> u64
     }
 }
 
-// The record of the index `i`.
-pub fn record_at(sheet: &[u8], width: usize, i: usize) -> u64
-    requires { ⌜ 4 + (widthSaid width) .bytes * (i + 1) ≤ length (now sheet) ⌝ }
+// The record at the place.
+pub fn record_at(sheet: &[u8], width: usize, place: Place) -> u64
+    requires { ⌜ 4 + (widthSaid width) .bytes * (place .0 + 1) ≤ length (now sheet) ⌝ }
     ensures { λ r. ⌜ r ≡ carried seven (widthSaid width) (bare (widthSaid width) (numberWritten (take ((widthSaid width) .bytes)
-        (drop (4 + (widthSaid width) .bytes * i) (now (sheet .entry)))))) ⌝ }
+        (drop (4 + (widthSaid width) .bytes * place .0) (now (sheet .entry)))))) ⌝ }
 {
-    record_of(width, word_at(sheet, width, i))
+    record_of(width, word_at(sheet, width, place))
 }

@@ -5,18 +5,12 @@ use Rattle.pairing.specs.Laws.Side.{some-first, some-second, within-firs
 use Rattle.pairing.proofs.walking.way_of.Statement.{statement}
 use Rattle.pairing.proofs.walking.way_of.Tie as tie
 
-sub-record-in : tie.Need-sub-record-in
-sub-record-in c = let h = some-first (c .before .before .pre) in omega arith
-
 record-in-requires : tie.Need-record-in-requires
 record-in-requires c κs = let h = some-first (c .before .before .pre) in within-first (c .before .before .pre) (omega arith)
 
 record-in-requires-2 : tie.Need-record-in-requires-2
 record-in-requires-2 c κs = let h = some-first (c .before .before .before .pre) in within-first (c .before .before .before .pre)
     (omega arith)
-
-sub-record-in-2 : tie.Need-sub-record-in-2
-sub-record-in-2 c = let h = some-second (c .before .before .before .before .pre) in omega arith
 
 record-in-requires-3 : tie.Need-record-in-requires-3
 record-in-requires-3 c κs = let h = some-second (c .before .before .before .before .pre) in within-second
@@ -30,10 +24,10 @@ pub way-of-spec : {M : Type 1} → statement M
 way-of-spec =
     tie.close
     (tie.spec
-    sub-record-in
+    (λ c. let h = some-first (c .before .before .pre) in omega arith)
     record-in-requires
     record-in-requires-2
-    sub-record-in-2
+    (λ c. let h = some-second (c .before .before .before .before .pre) in omega arith)
     record-in-requires-3
     record-in-requires-4
     (λ c. search needs))

@@ -35,37 +35,37 @@ read b i s w is e = e ∙ ap (λ (v : Width). numberWritten (take (v .bytes) (dr
 
 mul-five-bytes : tie.Need-mul-five-bytes
 mul-five-bytes c =
-    let a = c .before .before in omega (arith, fits-five (a .args .i) (a .args .sheet .now) (c .if1 .taken) (a .pre))
+    let a = c .before .before .before in omega (arith, fits-five (a .args .place .0) (a .args .sheet .now) (c .before .if1 .taken) (a .pre))
 
 add-five-bytes : tie.Need-add-five-bytes
 add-five-bytes c =
-    let a = c .before .before in omega (arith, fits-five (a .args .i) (a .args .sheet .now) (c .if1 .taken) (a .pre))
+    let a = c .before .before .before in omega (arith, fits-five (a .args .place .0) (a .args .sheet .now) (c .before .if1 .taken) (a .pre))
 
 five-bytes-requires : tie.Need-five-bytes-requires
 five-bytes-requires c κs =
-    let a = c .before .before in omega (arith, fits-five (a .args .i) (a .args .sheet .now) (c .if1 .taken) (a .pre))
+    let a = c .before .before .before in omega (arith, fits-five (a .args .place .0) (a .args .sheet .now) (c .before .if1 .taken) (a .pre))
 
 mul-seven-bytes : tie.Need-mul-seven-bytes
 mul-seven-bytes c =
-    let a = c .before .before in omega (arith, fits-seven (a .args .i) (a .args .sheet .now) (c .if1 .left) (a .pre))
+    let a = c .before .before .before in omega (arith, fits-seven (a .args .place .0) (a .args .sheet .now) (c .before .if1 .left) (a .pre))
 
 add-seven-bytes : tie.Need-add-seven-bytes
 add-seven-bytes c =
-    let a = c .before .before in omega (arith, fits-seven (a .args .i) (a .args .sheet .now) (c .if1 .left) (a .pre))
+    let a = c .before .before .before in omega (arith, fits-seven (a .args .place .0) (a .args .sheet .now) (c .before .if1 .left) (a .pre))
 
 seven-bytes-requires : tie.Need-seven-bytes-requires
 seven-bytes-requires c κs =
-    let a = c .before .before in omega (arith, fits-seven (a .args .i) (a .args .sheet .now) (c .if1 .left) (a .pre))
+    let a = c .before .before .before in omega (arith, fits-seven (a .args .place .0) (a .args .sheet .now) (c .before .if1 .left) (a .pre))
 
 returns : tie.Need-returns
 returns c =
-    let a = c .before .before .before .args in
-    read (a .width) (a .i) (a .sheet .now) five (is-five (c .before .if1 .taken)) (c .five-bytes .ensures .0)
+    let a = c .before .before .before .before .args in
+    read (a .width) (a .place .0) (a .sheet .now) five (is-five (c .before .before .if1 .taken)) (c .five-bytes .ensures .0)
 
 returns-2 : tie.Need-returns-2
 returns-2 c =
-    let a = c .before .before .before .args in
-    read (a .width) (a .i) (a .sheet .now) seven (is-seven (c .before .if1 .left)) (c .seven-bytes .ensures)
+    let a = c .before .before .before .before .args in
+    read (a .width) (a .place .0) (a .sheet .now) seven (is-seven (c .before .before .if1 .left)) (c .seven-bytes .ensures)
 
 pub word-at-spec : {M : Type 1} → statement M
 word-at-spec =
