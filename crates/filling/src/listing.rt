@@ -16,7 +16,8 @@ ghost use Rattle.table.specs.Listing.{Writable, recordsListed};
 // The vertices that are listed from `start` on.
 pub(crate) fn fill_vertices(text: &[u8], start: usize, structure: u64, out: &mut [u64], at: Place)
     requires { ⌜ Writable false structure (now text) start (at .0) (now out) ⌝ }
-    ensures { λ _. ⌜ now (out .exit) ≡ wrote (at .0) (recordsListed false structure (valuesAt (now (text .entry)) start)) (now (out .entry)) ⌝ }
+    ensures { λ _. ⌜ now (out .exit) ≡ wrote (at .0) (recordsListed false structure (valuesAt (now (text .entry)) start))
+        (now (out .entry)) ⌝ }
 {
     let mut i = start;
     let mut place = at.0;
@@ -40,7 +41,8 @@ pub(crate) fn fill_vertices(text: &[u8], start: usize, structure: u64, out: &mut
 // The voxels that are listed from `start` on.
 pub(crate) fn fill_voxels(text: &[u8], start: usize, structure: u64, out: &mut [u64], at: Place)
     requires { ⌜ Writable true structure (now text) start (at .0) (now out) ⌝ }
-    ensures { λ _. ⌜ now (out .exit) ≡ wrote (at .0) (recordsListed true structure (valuesAt (now (text .entry)) start)) (now (out .entry)) ⌝ }
+    ensures { λ _. ⌜ now (out .exit) ≡ wrote (at .0) (recordsListed true structure (valuesAt (now (text .entry)) start))
+        (now (out .entry)) ⌝ }
 {
     let mut i = start;
     let mut next = at.0;

@@ -38,7 +38,8 @@ fn seven_bytes(sheet: &[u8], at: usize) -> u64
 // The word at the place.
 pub(crate) fn word_at(sheet: &[u8], width: usize, place: Place) -> u64
     requires { ⌜ 4 + (widthSaid width) .bytes * (place .0 + 1) ≤ length (now sheet) ⌝ }
-    ensures { λ r. ⌜ r ≡ numberWritten (take ((widthSaid width) .bytes) (drop (4 + (widthSaid width) .bytes * place .0) (now (sheet .entry)))) ⌝ }
+    ensures { λ r. ⌜ r ≡ numberWritten (take ((widthSaid width) .bytes)
+        (drop (4 + (widthSaid width) .bytes * place .0) (now (sheet .entry)))) ⌝ }
 {
     if width == 5 {
         five_bytes(sheet, 4 + 5 * place.0)

@@ -6,7 +6,8 @@ use Rattle.filling.proofs.stretches.fill_all.Statement.{statement}
 use Rattle.filling.proofs.stretches.fill_all.Tie as tie
 
 abbrev Inv-loop : tie.InvT-loop
-Inv-loop text maps judged records₀ next₀ i₀ records next i = OverHeld text maps judged (Fill (mapsAt text maps) records₀ (next .0) records) i
+Inv-loop text maps judged records₀ next₀ i₀ records next i =
+    OverHeld text maps judged (Fill (mapsAt text maps) records₀ (next .0) records) i
 
 abbrev μ-loop : tie.MeasureT-loop
 μ-loop text maps judged records₀ next₀ i₀ records next i = maps .count - i
