@@ -1,7 +1,8 @@
 -- LABELS: one answer for every input, the same for two texts of one document, and there is one; 24 and 25 in statements about all places.
 use mathlib.Core.Path.{_≡_, refl, sym, ap, _∙_}
 use mathlib.Core.Logic.{_↔_}
-use mathlib.Core.List.{List, [], _∷_}
+use mathlib.Core.List.{List, [], _∷_, _++_, append-assoc}
+use mathlib.Core.Option.{Option}
 use mathlib.Core.Bool.{Bool, true, false}
 use Prim.Native.Nat.{ℕ, _≤_, _<_}
 use native.Mathlib.Omega.{arith}
@@ -11,13 +12,16 @@ use lib.ListN.{length, getD}
 use borrow.Author.Tests.{ltb-true, lt-ltb}
 use Rattle.lists.specs.Lists.{any, twoOf}
 use Rattle.lists.specs.Quantifiers.{any-iff}
+use Rattle.lists.specs.Refusals.{_when_, first}
+use Rattle.lists.specs.Laws.Refusals.{first-kept}
+use Rattle.grammar.specs.Document.{Element}
 use Rattle.grammar.specs.Parser.{parse}
 use Rattle.grammar.specs.Erased.{Node, WritesDocument}
 use Rattle.numbers.specs.Numbers.{sameKey}
 use Rattle.numbers.specs.Laws.Keys.{same-key, key-same}
 use Rattle.cifti.specs.Maps.{Map, labelsMaps}
-use Rattle.cifti.specs.Conditions.{listedDimensions, keyTwice, labelsTwice}
-use Rattle.cifti.specs.Labels.{keysRefusal, keysCount, keysGiven, keysAfterwards, labelRefusal, labelPart}
+use Rattle.cifti.specs.Conditions.{conditionsOfHeader, conditionsOfLabels, ofMaps, listedDimensions, keyTwice, labelsTwice}
+use Rattle.cifti.specs.Labels.{noTable, labelsRefusals, keysRefusal, keysCount, keysGiven, keysAfterwards, labelRefusal, labelPart}
 use Rattle.cifti.specs.Labels.{Keys, LabelNumber, LabelPart}
 use Rattle.cifti.specs.Laws.Text.{answers-by, answers-unique, answers-same}
 use Rattle.cifti.specs.Laws.Unseen.{keys-unseeing, count-unseeing, after-unseeing, label-unseeing}
@@ -39,6 +43,15 @@ module _ {text lengths : List ℕ} {d i : ℕ} {k : ℤ} where
 
   pub label-part-unique : {s t : List ℕ} → LabelPart text lengths d i k s → LabelPart text lengths d i k t → s ≡ t
   label-part-unique r q = answers-unique (r .asked) (q .asked)
+
+-- ---- 24 AND 25 ARE TOLD BEFORE 18: what refuses a text before a table is asked for refuses it whatever table is asked for.
+
+pub before-table : (lengths : List ℕ) (size d i : ℕ) (e : Option Element) (n : ℕ) → (n ≡ 0 → ⊥)
+    → first (conditionsOfHeader lengths size e ++ conditionsOfLabels e) ≡ n → first (labelsRefusals lengths size d i e) ≡ n
+unfolding labelsRefusals
+before-table lengths size d i e n z h =
+    ap first (sym (append-assoc (conditionsOfHeader lengths size e) (conditionsOfLabels e) (18 when ofMaps (noTable d i) e ∷ [])))
+    ∙ first-kept (conditionsOfHeader lengths size e ++ conditionsOfLabels e) (18 when ofMaps (noTable d i) e ∷ []) n z h
 
 -- ---- TWO TEXTS OF ONE DOCUMENT, neither too long, get the same number, count and keys.
 

@@ -227,8 +227,7 @@ module _ (lengths : List ℕ) (d i : ℕ) where
   before-size : (m n : ℕ) → m ≤ 16777216 → n ≤ 16777216 → (e : Option Element)
       → labelsRefusals lengths m d i e ≡ labelsRefusals lengths n d i e
   unfolding labelsRefusals
-  before-size m n h k e =
-      ap (λ a. a ++ (conditionsOfLabels e ++ (18 when ofMaps (noTable d i) e ∷ []))) (header-size lengths m n e h k)
+  before-size m n h k e = rw (header-size lengths m n e h k) refl
 
   pub keys-unseeing : (room : ℕ) → Unseeing (λ size. keysRefusal lengths size d i room)
   unfolding keysRefusal ofMaps there
