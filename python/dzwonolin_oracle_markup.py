@@ -28,6 +28,8 @@ END_TAG = re.compile(rb"</(?P<name>%b)%b*>" % (NAME, BLANK))
 DECLARATION = re.compile(
     rb"<\?xml%b+version%b*=%b*(?:\"1\.0\"|'1\.0')"
     rb"(?:%b+encoding%b*=%b*(?:\"UTF-8\"|'UTF-8'))?%b*\?>" % ((BLANK,) * 7))
+DOCTYPE = re.compile(rb"<!DOCTYPE[^\[\]<>]*>")
+DATA, DATA_END = b"<![CDATA[", b"]]>"
 REFERENCE = re.compile(rb"&(amp|lt|gt|quot|apos);")
 REFERENCES = {b"amp": b"&", b"lt": b"<", b"gt": b">", b"quot": b'"', b"apos": b"'"}
 LONE_AMPERSAND = re.compile(rb"&(?!(?:amp|lt|gt|quot|apos);)")
@@ -152,11 +154,26 @@ def start_tag(text, at):
 
 
 def add_run(element, raw, at):
-    """A stretch of text, at a place; it joins the run before it, where only comments stand between."""
-    if b"]]>" in raw:
-        raise no_document("]]> in text", at + raw.index(b"]]>"))
+    """A stretch of text, at a place."""
+    if DATA_END in raw:
+        raise no_document("]]> in text", at + raw.index(DATA_END))
     check_references(raw, at)
-    run = decode(line_ends(raw))
+    join_run(element, decode(line_ends(raw)))
+
+
+def add_data(element, text, at):
+    """CDATA that begins at a place: its characters are meant as they are written. The place after it; the first ]]> ends it."""
+    end = text.find(DATA_END, at + len(DATA))
+    if end < 0:
+        raise no_document("CDATA that does not end", at)
+    join_run(element, line_ends(text[at + len(DATA):end]))
+    return end + len(DATA_END)
+
+
+def join_run(element, run):
+    """Characters join the run before them, where only comments stand between; none of them make no run."""
+    if not run:
+        return
     if element.contents and isinstance(element.contents[-1], bytearray):
         element.contents[-1] += run
     else:
@@ -182,6 +199,8 @@ def root_element(text, at):
             add_run(stack[-1], text[at:angle], at)
         if text.startswith(b"<!--", angle):
             at = comment_end(text, angle)
+        elif text.startswith(DATA, angle):
+            at = add_data(stack[-1], text, angle)
         elif text.startswith(b"</", angle):
             tag = END_TAG.match(text, angle)
             if not tag or tag["name"] != stack[-1].name:
@@ -198,12 +217,18 @@ def root_element(text, at):
     return root, at
 
 
+def root_start(text):
+    """Where the root begins: behind the declaration, a DOCTYPE, and blanks and comments round it, as far as they are there."""
+    declared = DECLARATION.match(text)
+    at = skip_aside(text, declared.end() if declared else 0)
+    doctype = DOCTYPE.match(text, at)
+    return skip_aside(text, doctype.end()) if doctype else at
+
+
 def document(text):
     """The root of the one document that these bytes write; refusal 3 where there is none."""
     check_characters(text)
-    declared = DECLARATION.match(text)
-    at = skip_aside(text, declared.end() if declared else 0)
-    root, at = root_element(text, at)
+    root, at = root_element(text, root_start(text))
     at = skip_aside(text, at)
     if at != len(text):
         raise no_document("something after the root", at)

@@ -46,12 +46,13 @@ def told(names):
     return ", ".join(sorted(name.decode() for name in names))
 
 
-def shape(element, attributes, children, text=False):
-    """The element has exactly these attributes, children within these bounds and,
+def shape(element, attributes, children, text=False, optional=()):
+    """The element has exactly these attributes, the optional ones or not, children within these bounds and,
     where it holds no text, only blanks between them."""
     names = {name for name, _ in element.attributes}
-    if names - set(attributes):
-        raise not_as_told(f"it has {told(names - set(attributes))}, which may not stand here", element, min(names - set(attributes)))
+    more = names - {*attributes, *optional}
+    if more:
+        raise not_as_told(f"it has {told(more)}, which may not stand here", element, min(more))
     if set(attributes) - names:
         raise not_as_told(f"it has no {told(set(attributes) - names)}", element)
     counts = collections.Counter(c.name for c in element.children())
@@ -85,13 +86,16 @@ def check_named_map(element):
 COLOURS = (b"Red", b"Green", b"Blue", b"Alpha")
 
 
+def check_table(element):
+    shape(element, [], {b"Label": (0, MANY)})
+    for label in element.children():
+        shape(label, [b"Key", *COLOURS], {}, text=True)
+
+
 def check_labelled_map(element):
     shape(element, [], {b"MapName": (1, 1), b"LabelTable": (1, 1), b"MetaData": (0, 1)})
     shape(element.child(b"MapName"), [], {}, text=True)
-    table = element.child(b"LabelTable")
-    shape(table, [], {b"Label": (0, MANY)})
-    for label in table.children():
-        shape(label, [b"Key", *COLOURS], {}, text=True)
+    check_table(element.child(b"LabelTable"))
     for data in element.children(b"MetaData"):
         check_metadata(data)
 
@@ -202,17 +206,26 @@ def decimal(word):
     return (-amount if sign == b"-" else amount), power
 
 
-def key_of(label):
-    """The key of a label, whose colours are from 0 to 1."""
-    word = label.value(b"Key")
+def key(word):
     if not KEY.match(word) or not -2 ** 31 <= int(word) < 2 ** 31:
         raise not_a_number("it must be a whole number of 32 bits, of 1 to 10 digits", word)
+    return int(word)
+
+
+def key_of(label):
+    """The key of a label, whose colours are from 0 to 1."""
+    found = key(label.value(b"Key"))
     for colour in COLOURS:
         value = label.value(colour)
         amount, power = decimal(value)
         if amount < 0 or amount * 10 ** max(power, 0) > 10 ** max(-power, 0):
             raise not_a_number("a colour must be from 0 to 1", value)
-    return int(word)
+    return found
+
+
+def table_of(element):
+    """(key, Label) of each Label of a table."""
+    return [(key_of(label), label) for label in element.children()]
 
 
 def dimension_list(word):
@@ -279,7 +292,7 @@ class Map:
         elif self.kind == "labels":
             self.named = element.children(b"NamedMap")
             self.length = len(self.named)
-            self.tables = [[(key_of(label), label) for label in n.child(b"LabelTable").children()] for n in self.named]
+            self.tables = [table_of(n.child(b"LabelTable")) for n in self.named]
         else:
             for volume in element.children(b"Volume"):
                 self.volume = volume_dimensions(volume.value(b"VolumeDimensions"))

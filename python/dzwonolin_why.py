@@ -50,8 +50,8 @@ def is_file(first: bytes) -> bool:
 LEFT_OUT = [
     (b"&#", "a number reference, as &#65;, which this grammar leaves out"),
     (b"&", "an & that begins none of &amp; &lt; &gt; &quot; &apos;"),
-    (b"<![CDATA[", "CDATA, which this grammar leaves out"),
-    (b"<!DOCTYPE", "a DOCTYPE, which this grammar leaves out"),
+    (b"<![CDATA[", "CDATA, which may stand inside an element alone"),
+    (b"<!DOCTYPE", "a DOCTYPE: one may stand before the root, without [, ] or < in it"),
     (b"<?xml", "a declaration that is not version 1.0 and, if it is told, encoding UTF-8; nothing else may stand in it"),
     (b"<?", "a processing instruction, which this grammar leaves out"),
 ]
