@@ -2,6 +2,7 @@
 
 PIECES = [b"<", b">", b"&", b"]]>", b"<!--", b"-->", b"--", b'"', b"'", b"/", b"=", b"&amp;", b"&#65;", b"&nbsp;",
           b"&amp", b"&AMP;", b"</Matrix>", b"<a/>", b"<a>", b"</a>", b"<![CDATA[x]]>", b"<?pi x?>",
+          b"<![CDATA[", b"<![CDATA[]]>", b"<![CDATA[ \r]]>", b"<![CDATA[]]]]>", b"<![CDATA[&lt;<a>]]>", b"<![cdata[]]>", b"<![CDATA]]>",
           b"<!DOCTYPE CIFTI>", b"\xef\xbb\xbf", b"\xef\xbf\xbe", b"\xef\xbf\xbf", b"\xed\xa0\x80", b"\xc0\x80",
           b"\xc1\xbf", b"\xe0\x9f\xbf", b"\xf0\x8f\xbf\xbf", b"\xf4\x90\x80\x80", b"\xf5\x80\x80\x80", b"\x80",
           b"\xc3", b"\xe2\x82", b"\xf0\x9f\x98", b"\x00", b"\x0b", b"\x0c", b"\x1f", b"\x7f", b"\xc2\x80",
@@ -10,10 +11,11 @@ PIECES = [b"<", b">", b"&", b"]]>", b"<!--", b"-->", b"--", b'"', b"'", b"/", b"
           b"<!--a--->", b"<>", b"< a/>"]
 FIRSTS = [b"\xef\xbb\xbf", b" <?xml version=\"1.0\"?>", b"<?xml version=\"1.1\"?>",
           b"<?xml version=\"1.0\" encoding=\"utf-8\"?>", b"<?xml?>", b"<?xml version=\"1.0\" standalone=\"yes\"?>",
-          b"<?xml encoding=\"UTF-8\" version=\"1.0\"?>", b"<?xmlversion=\"1.0\"?>", b"x", b"<!DOCTYPE CIFTI>",
+          b"<?xml encoding=\"UTF-8\" version=\"1.0\"?>", b"<?xmlversion=\"1.0\"?>", b"x", b"<!DOCTYPE CIFTI>", b"<!DOCTYPE>",
+          b"<!DOCTYPE a [ ]>", b"<!DOCTYPE a", b"<!doctype a>", b"<!DOCTYPE '>'>", b"<!DOCTYPE a--><!---->", b"<![CDATA[]]>",
           b"<?xml version=\"1.0\"encoding=\"UTF-8\"?>", b"<?XML version=\"1.0\"?>", b"<?xml version='1.0\"?>",
           b"<a/>", b"]]>", b"&amp;", b"<?xml version=\"1.0\" ? >"]
-LASTS = [b"x", b"<a/>", b"\x00", b"&amp;", b"]]>", b"<!--", b"<!-- -->", b"\xef\xbb\xbf", b"</CIFTI>", b" \n",
+LASTS = [b"x", b"<a/>", b"<![CDATA[]]>", b"<!DOCTYPE a>", b"\x00", b"&amp;", b"]]>", b"<!--", b"<!-- -->", b"\xef\xbb\xbf", b"</CIFTI>", b" \n",
          b"<?xml version=\"1.0\"?>"]
 
 

@@ -244,6 +244,7 @@ def main():
         elif shows:
             run.outline(shows, f"seed {given.seed} text {number}", texts.case(given.seed, number).text)
             run.outline(shows, f"seed {given.seed} line ends {number}", texts.line_ends(given.seed, number))
+            run.outline(shows, f"seed {given.seed} marked {number}", texts.marked(given.seed, number))
         else:
             run.one(given.seed, number, given.large)
     print("numbers:", ", ".join(f"{n}: {k}" for n, k in sorted(run.numbers.items())))

@@ -3,7 +3,7 @@
 A Node is an element. Its numbers and words are strings, so that a damage can
 put anything there. `Style.write` writes a document by the markup grammar:
 either quote, blanks wherever they may stand, comments inside text (numbers
-too), references, and the declaration or none.
+too), references, CDATA, and the declaration and a DOCTYPE or none.
 """
 
 STRUCTURES = (
@@ -19,6 +19,13 @@ PHRASES = ["", " ", "a", "map 1", "rest & task", "x < y", "\"both\" 'quotes'", "
            "&lt;", "&amp;lt;", "tab\there", "two\r\nlines", "\r", "\r\r\n", "\n\r", "old\rmac", "\ufeff", "\u00a0", "\x7f", "5 > 4", "--", "]]>", "<!--no-->"]
 MANY_BLANKS = [" ", " ", " ", "\n", "\t", "\r", "  ", "\r\n", " \n\t"]
 COMMENTS = ["", " ", "a", "<b>&", "]]>", "- -", "é", "12", "]]", "<?xml?>", "&amp;", "\t\n\r", "<![CDATA[", "->", "> "]
+DOCTYPES = ["<!DOCTYPE>", "<!DOCTYPE CIFTI>", '<!DOCTYPE GIFTI SYSTEM "http://www.nitrc.org/frs/download.php/1594/gifti.dtd">',
+            "<!DOCTYPEa\r\n-->", "<!DOCTYPE a PUBLIC '-//é&' \"'/?>"]
+
+
+def data(value):
+    """CDATA that reads as these characters, or two of them and more where ]]> stands among them."""
+    return "<![CDATA[" + value.replace("]]>", "]]]]><![CDATA[>") + "]]>"
 
 
 class Node:
@@ -116,15 +123,19 @@ class Document:
         count = self.rng.randint(1, min(size, 4))
         for _ in range(count):
             keys = self.rng.sample(range(-40, 40), self.rng.choice([0, 1, 2, 9])) + self.rng.sample([-2 ** 31, 2 ** 31 - 1], 1)
-            self.rng.shuffle(keys)
-            table = [Node("Label", [("Key", str(key))] + [(c, self.rng.choice(["0", "1", "0.5", "+1.0", "-0", "1e-3", "0.25"]))
-                                                          for c in ("Red", "Green", "Blue", "Alpha")], [self.phrase()]) for key in keys]
-            named = [Node("MapName", (), [self.phrase()]), Node("LabelTable", (), table)]
+            named = [Node("MapName", (), [self.phrase()]), self.table(keys)]
             if self.rng.random() < 0.3:
                 named.append(self.metadata())
             self.rng.shuffle(named)
             one.contents.append(Node("NamedMap", (), named))
         return count
+
+    def table(self, keys):
+        """A table of labels of these keys, in any order."""
+        self.rng.shuffle(keys)
+        colours = ["0", "1", "0.5", "+1.0", "-0", "1e-3", "0.25"]
+        return Node("LabelTable", (), [Node("Label", [("Key", str(key))] + [(c, self.rng.choice(colours))
+                                       for c in ("Red", "Green", "Blue", "Alpha")], [self.phrase()]) for key in keys])
 
     def series(self, one, size):
         points = self.rng.choice([1, 2, self.rng.randint(1, size), self.rng.randint(1, 1048576), 1048576])
@@ -247,10 +258,10 @@ class Style:
             inside = inside.replace("--", "-")
         return "<!--" + inside.rstrip("-") + "-->"
 
-    def aside(self):
-        """Blanks and comments."""
+    def aside(self, inside=False):
+        """Blanks and comments, and inside an element CDATA of blanks."""
         while self.often():
-            self.out.append(self.rng.choice([self.blanks(1), self.comment()]))
+            self.out.append(self.rng.choice([self.blanks(1), self.comment()] + [data(self.blanks())] * inside))
 
     def equals(self):
         return self.blanks() + "=" + self.blanks()
@@ -267,21 +278,32 @@ class Style:
         return quote + "".join(letters) + quote
 
     def text(self, value):
-        """Characters as text; comments may stand between any two of them."""
+        """Characters as text; comments may stand between any two of them, and any of them in CDATA."""
         if not value.strip("0123456789 \n") and not self.often(3):
             self.out.append(value)
             return
-        comments = self.often()
-        for at, letter in enumerate(value):
+        comments, marked, at = self.often(), self.often(), 0
+        while at < len(value):
             if comments and self.rng.random() < 0.05:
                 self.out.append(self.comment())
-            if letter in "&<" or (letter in ">\"'" and self.often()):
-                letter = REFERENCES[letter]
-            elif letter == ">" and value[max(0, at - 2):at] == "]]":
-                letter = self.rng.choice(["&gt;", "<!---->>", self.comment() + ">"])
-            self.out.append(letter)
+            if marked and self.rng.random() < 0.1:
+                end = at + self.rng.choice([0, 1, 1, 2, 5, 40, len(value)])
+                self.out.append(data(value[at:end]))
+                at = end
+            else:
+                self.out.append(self.letter(value, at))
+                at += 1
         if comments and self.rng.random() < 0.3:
             self.out.append(self.comment())
+
+    def letter(self, value, at):
+        """A character of a text, as itself or by a reference."""
+        letter = value[at]
+        if letter in "&<" or (letter in ">\"'" and self.often()):
+            return REFERENCES[letter]
+        if letter == ">" and value[max(0, at - 2):at] == "]]":
+            return self.rng.choice(["&gt;", "<!---->>", self.comment() + ">", "<![CDATA[>]]>"])
+        return letter
 
     def listed(self, words):
         if not self.often(2):
@@ -305,13 +327,13 @@ class Style:
         spaced = not any(isinstance(c, str) for c in contents) and node.name not in ("Name", "Value", "MapName")
         for one in contents:
             if spaced:
-                self.aside()
+                self.aside(inside=True)
             if isinstance(one, str):
                 self.text(one)
             else:
                 self.element(one)
         if spaced:
-            self.aside()
+            self.aside(inside=True)
         self.out.append("</" + node.name + self.blanks() + ">")
 
     def declaration(self):
@@ -326,6 +348,9 @@ class Style:
         self.out = []
         self.declaration()
         self.aside()
+        if self.often():
+            self.out.append(self.rng.choice(DOCTYPES))
+            self.aside()
         self.element(root)
         self.aside()
         return "".join(self.out).encode("utf-8", "surrogatepass")

@@ -9,6 +9,7 @@ import argparse
 import collections
 import pathlib
 import random
+import sys
 
 import byte_damages
 import damages
@@ -94,6 +95,17 @@ def line_ends(seed, number):
                      for name, quote in ("b'", 'c"'))
     contents = some(4 * ends + inside + ["<!---->", "<!--\r\n-\r-->", "<c/>", "<d>\r</d>"])
     return f"{some(ends)}<a{values}{some(ends)}>{contents}</a{some(ends)}>{some(ends)}".encode()
+
+
+def marked(seed, number):
+    """A small document with CDATA among text, brackets, references, comments and ends of lines, in every order, and DOCTYPEs before it."""
+    rng = random.Random(f"{seed}/marked/{number}")
+    pieces = ["<![CDATA[", "]]>", "]", "]]", ">", "\r", "\n", "x", " ", "&amp;", "&gt;", "<!---->", "<b/>", "<b>\r</b>", "é", "]]>",
+              "<![CDATA[]]>", "<![CDATA[\r]]>", "<![CDATA[<b>&]]>", "<![CDATA[]]]]>", "<![CDATA[>]]>", "<![CDATA[--]]>"]
+    good = [piece for piece in pieces if piece not in ("<![CDATA[", "]]>", ">")]
+    before = "".join(rng.choice(["", "", " ", "<!---->"] + documents.DOCTYPES) for _ in range(rng.choice([0, 0, 1, 2])))
+    inside = "".join(rng.choice(pieces if rng.random() < 0.3 else good) for _ in range(rng.randint(0, 9)))
+    return f"{before}<a>{inside}</a>".encode()
 
 
 def case(seed, number, large=False):
