@@ -10,12 +10,12 @@
      1  lengths are not 2 or 3, or one is 0 or above 1,048,576
      2  text above 16,777,216 bytes
      3  no document of the markup grammar writes this text
-     4  the root is not CIFTI with Version 2
+     4  the root is not CIFTI with Version 2; of a GIFTI file: not GIFTI with Version 1.0
      5  a map of kind PARCELS
      6  an element, attribute, child, named word or non-blank text is not as the format says
-     7  a number's form, limit or fixed value, or the sixteen of the transformation; a colour outside 0 to 1
+     7  a number's form, limit or fixed value, or the sixteen of the transformation; a colour outside 0 to 1; malformed Base64
      8  some dimension is not listed exactly once, or a listed one does not exist
-     9  a map's length is not that of a dimension it applies to
+     9  a map's length is not that of a dimension it applies to; of a GIFTI file: its arrays are not as many as it says
     10  two models of a map share type and structure
     11  a model does not list as many numbers as it says, or an index of the map is in no range or in two
     12  a vertex or voxel is outside its surface or volume
@@ -25,7 +25,7 @@
     16  an illegal record
     17  the slice to be written is too short
     18  map name: no such dimension, it is neither scalars nor labels, or the index is not below its length; keys and label
-        names: the same of a dimension that is not labels
+        names: the same of a dimension that is not labels; GIFTI keys: no such array
     19  find: no such record; asking a list: no such index or record; label name: no such key
     20  a file under 544 bytes; its size field or magic is not NIfTI-2's single file; a data offset below 544
     21  a file's dim[0] is not 6 or 7, one of dim[1] to dim[4] is not 1, or one of dim[5] to dim[dim[0]] is below 1
@@ -34,7 +34,11 @@
     24  a key twice in one label table
     25  the labels maps together list more than one dimension
     26  making a list: a type and structure comes back after another; asking: a bad list
-   In a call on a file 20 to 23 come first, in this order, and then those of the read.
+    29  a GIFTI array of another encoding, intent or type than ASCII or Base64Binary, NIFTI_INTENT_LABEL, NIFTI_TYPE_INT32
+    30  a GIFTI array does not hold as many keys as its Dim0
+    31  a key of a GIFTI array that no Label of the table has
+   In a call on a file 20 to 23 come first, in this order, and then those of the read. Of a GIFTI label file the order is 2, 3, 4, 6,
+   29, 7, 9, 24, 18, 30, 31, 17.
 
    The slices `answer`, `part`, `place` and `count` take the rest of an answer. They are written on every
    call, refused or not, from their start; what lies past the numbers named below is left as it was. Where
@@ -61,12 +65,12 @@ static inline const char *dz_reason(uint64_t number)
     case 1: return "lengths are not 2 or 3, or one is 0 or above 1,048,576";
     case 2: return "text above 16,777,216 bytes";
     case 3: return "no document of the markup grammar writes this text";
-    case 4: return "the root is not CIFTI with Version 2";
+    case 4: return "the root is not CIFTI with Version 2; of a GIFTI file: not GIFTI with Version 1.0";
     case 5: return "a map of kind PARCELS";
     case 6: return "an element, attribute, child, named word or non-blank text is not as the format says";
-    case 7: return "a number's form, limit or fixed value, or the sixteen of the transformation; a colour outside 0 to 1";
+    case 7: return "a number's form, limit or fixed value, or the sixteen of the transformation; a colour outside 0 to 1; malformed Base64";
     case 8: return "some dimension is not listed exactly once, or a listed one does not exist";
-    case 9: return "a map's length is not that of a dimension it applies to";
+    case 9: return "a map's length is not that of a dimension it applies to; of a GIFTI file: its arrays are not as many as it says";
     case 10: return "two models of a map share type and structure";
     case 11: return "a model does not list as many numbers as it says, or an index of the map is in no range or in two";
     case 12: return "a vertex or voxel is outside its surface or volume";
@@ -75,7 +79,7 @@ static inline const char *dz_reason(uint64_t number)
     case 15: return "sheet count 0 or above 1,048,576; unpacking: also not a sheet";
     case 16: return "an illegal record";
     case 17: return "the slice to be written is too short";
-    case 18: return "map name: no such dimension, it is neither scalars nor labels, or the index is not below its length; keys and label names: the same of a dimension that is not labels";
+    case 18: return "map name: no such dimension, it is neither scalars nor labels, or the index is not below its length; keys and label names: the same of a dimension that is not labels; GIFTI keys: no such array";
     case 19: return "find: no such record; asking a list: no such index or record; label name: no such key";
     case 20: return "a file under 544 bytes; its size field or magic is not NIfTI-2's single file; a data offset below 544";
     case 21: return "a file's dim[0] is not 6 or 7, one of dim[1] to dim[4] is not 1, or one of dim[5] to dim[dim[0]] is below 1";
@@ -84,6 +88,9 @@ static inline const char *dz_reason(uint64_t number)
     case 24: return "a key twice in one label table";
     case 25: return "the labels maps together list more than one dimension";
     case 26: return "making a list: a type and structure comes back after another; asking: a bad list";
+    case 29: return "a GIFTI array of another encoding, intent or type than ASCII or Base64Binary, NIFTI_INTENT_LABEL, NIFTI_TYPE_INT32";
+    case 30: return "a GIFTI array does not hold as many keys as its Dim0";
+    case 31: return "a key of a GIFTI array that no Label of the table has";
     default: return "not a number of refusal";
     }
 }
@@ -179,6 +186,18 @@ uint64_t dz_label_name(const uint8_t *text, size_t text_len,
                        uint64_t dimension, uint64_t index,
                        int32_t key,
                        uint64_t *part, size_t part_len);
+
+/* The keys of one array of a GIFTI label file, named by its place from 0: a text with a table of labels and arrays of their keys, in
+   ASCII or in Base64 of either order of bytes. Refusals 2, 3, 4, 6, 29, 7, 9, 24, 18, 30, 31, and then 17 where the list lent is
+   short; the first of this order that applies. But for 18 and 17 they are of all arrays, whichever is asked for.
+
+   keys            accepted: the keys, from the start; places past the last are left as they were. Refused: all left as
+                   it was. Room for 1,048,576 keys is always enough.
+   count           [0] = how many keys were written. Refused: 0. */
+uint64_t dz_gifti_keys(const uint8_t *text, size_t text_len,
+                       uint64_t array,
+                       int32_t *keys, size_t keys_len,
+                       uint64_t *count, size_t count_len);
 
 /* The first place of a number in the records. Refusal 19.
 

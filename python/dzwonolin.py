@@ -26,6 +26,7 @@ refusal, and raise nothing for a bad text:
     dzwonolin.map_name(text, [2, 91282], 0, 1)     (0, b'the second name')
     dzwonolin.label_keys(text, [2, 91282], 0, 1)   (0, the keys of the second label table)
     dzwonolin.label_name(text, [2, 91282], 0, 1, 7)    (0, b'the name of key 7 in it')
+    dzwonolin.gifti_keys("lh.aparc.label.gii", 0)  (0, the keys of the first array of a GIFTI label file), by its path or its bytes
     dzwonolin.read_file("brain.dscalar.nii")       the same of a NIfTI-2 file, by its path or its bytes
     dzwonolin.front("brain.dscalar.nii")           its number, lengths, and where the header text starts and how long it is
     dzwonolin.file_map_name("brain.dscalar.nii", 0, 1)
@@ -51,10 +52,11 @@ import os
 import pathlib
 import platform
 import sys
+from dzwonolin_labels import call_gifti_keys, call_label_keys, gifti_keys, label_keys, label_name  # noqa: F401
 from dzwonolin_slices import TEXT_LIMIT, NoLibrary, _bytes, _Lent, _machine_of, _number, _numbers, _room, _Shared  # noqa: F401
 
-__all__ = ["read", "read_file", "front", "file_map_name", "map_name", "map_names", "label_keys", "label_name", "find", "pack", "unpack",
-           "unfold", "compare", "Answer", "Dimension", "Front", "STRUCTURES", "UNITS"]
+__all__ = ["read", "read_file", "front", "file_map_name", "map_name", "map_names", "label_keys", "label_name", "gifti_keys", "find",
+           "pack", "unpack", "unfold", "compare", "Answer", "Dimension", "Front", "STRUCTURES", "UNITS"]
 __all__ += ["open", "File", "Refused", "NoLibrary", "reason", "has"]
 __version__ = "1.0.0"
 
@@ -93,7 +95,8 @@ _FUNCTIONS.update({"dz_model_list": _SLICE * 3, "dz_structure_at": _SLICE + (cty
 _FUNCTIONS.update({"dz_compare": _SLICE * 4, "dz_tail": _SLICE * 4})
 # labels
 _FUNCTIONS.update({"dz_label_keys": _SLICE * 2 + (ctypes.c_uint64,) * 2 + _SLICE * 2,
-                   "dz_label_name": _SLICE * 2 + (ctypes.c_uint64,) * 2 + (ctypes.c_int32,) + _SLICE})
+                   "dz_label_name": _SLICE * 2 + (ctypes.c_uint64,) * 2 + (ctypes.c_int32,) + _SLICE,
+                   "dz_gifti_keys": _SLICE + (ctypes.c_uint64,) + _SLICE * 2})
 
 
 # ----------------------------------------------------------- library and slices
@@ -199,32 +202,6 @@ def map_names(text, lengths, dimension):
     number = _library().dz_map_names(text, len(text), lengths, len(lengths), dimension, places, len(places), count, 1)
     told = places[:2 * count[0]]
     return number, [text[start:start + length] for start, length in zip(told[::2], told[1::2])]
-
-
-def call_label_keys(text, lengths, dimension, index, keys, count):
-    """dz_label_keys on slices as they are; its number."""
-    text = _bytes(text)
-    return _library().dz_label_keys(text, len(text), lengths, len(lengths), dimension, index, keys, len(keys), count, len(count))
-
-
-def label_keys(text, lengths, dimension, index):
-    """(0, the keys of that label table in text order) or (number, []). Room is made here, so 17 is not given."""
-    room, count = 1024, (ctypes.c_uint64 * 1)()
-    while True:
-        keys = (ctypes.c_int32 * room)()
-        number = call_label_keys(text, _numbers(lengths), _number(dimension), _number(index), keys, count)
-        if number != 17:
-            return number, keys[:count[0]]
-        room = len(text)
-
-
-def label_name(text, lengths, dimension, index, key):
-    """(0, the bytes between the tags of the Label with that key, as written) or (number, b'')."""
-    if not -(1 << 31) <= key < 1 << 31:
-        raise ValueError("a key is a whole number of 32 bits with a sign")
-    data, sizes, part = _bytes(text), _numbers(lengths), (ctypes.c_uint64 * 2)()
-    number = _library().dz_label_name(data, len(data), sizes, len(sizes), _number(dimension), _number(index), key, part, 2)
-    return number, bytes(text[part[0]:part[0] + part[1]])
 
 
 def _front(lent):

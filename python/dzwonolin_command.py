@@ -11,7 +11,7 @@ import re
 import sys
 
 import dzwonolin
-from dzwonolin_shown import COMMANDS, Check, Wall, shown
+from dzwonolin_shown import COMMANDS, Check, Command, Labels, Wall, shown
 from dzwonolin_slices import streamed
 
 FINE, DIFFERENT, USAGE, NOT_ASKED = 0, 1, 2, 3
@@ -58,12 +58,12 @@ def inputs(given):
             yield path
 
 
-def opened(path, lengths):
+def opened(path, command, given):
     """The file, a stream where it is -."""
     if path != "-":
-        return dzwonolin.open(path, lengths)
+        return command.opened(path, given)
     try:
-        file = dzwonolin.open(streamed(sys.stdin.buffer, lengths is not None), lengths)
+        file = command.opened(streamed(sys.stdin.buffer, command.is_text(given)), given)
     except dzwonolin.Refused as refused:
         raise dzwonolin.Refused(refused.number, "standard input") from None
     file.name = "standard input"
@@ -77,15 +77,18 @@ def wrong_with(path, error):
     return f"{path}: {error.strerror or error}"
 
 
-def hint(path, refused, lengths):
+def hint(path, refused, command, given):
     """What a file looks like that is no NIfTI-2 file, or that is one and was taken for a text."""
     if refused.number not in (2, 3, 20) or not os.path.isfile(path):
         return ""
     import dzwonolin_why as why
     with open(path, "rb") as stream:
         first = stream.read(600)
-    found = why.looks_like(first) if lengths is None else why.WITHOUT_LENGTHS if why.is_file(first) else ""
-    return f" ({found})" if found and (refused.number == 20 or lengths is not None) else ""
+    if isinstance(command, Labels):
+        found = why.NO_LABELS if why.is_file(first) else why.packed(first)
+    else:
+        found = why.looks_like(first) if given.lengths is None else why.WITHOUT_LENGTHS if why.is_file(first) else ""
+    return f" ({found})" if found and (refused.number == 20 or command.is_text(given)) else ""
 
 
 class Run:
@@ -125,7 +128,7 @@ class Run:
         elif not self.given.tsv:
             sys.stdout.writelines(line + "\n" for line in lines)
         if loud and not self.given.json:
-            told(f"{name}: refused {refused.number}: {refused.reason}{hint(path, refused, self.given.lengths)}")
+            told(f"{name}: refused {refused.number}: {refused.reason}{hint(path, refused, self.command, self.given)}")
         self.failed(DIFFERENT)
 
     def not_asked(self, path, error):
@@ -139,7 +142,7 @@ class Run:
     def one(self, path):
         name = "standard input" if path == "-" else path
         try:
-            file = opened(path, self.given.lengths)
+            file = opened(path, self.command, self.given)
             file.name = name
             self.accepted(name, file)
         except dzwonolin.Refused as refused:
@@ -174,6 +177,7 @@ class Run:
 EXTRA = {"why": "dzwonolin why brain.dscalar.nii; dzwonolin why 11", "compare": "dzwonolin compare old.dscalar.nii new.dscalar.nii"}
 EPILOG = """
 FILE is a CIFTI-2 file (.nii); with --lengths it is the text of a header; - is standard input.
+For labels FILE is a GIFTI label file (.label.gii).
 
 examples:
 {examples}
@@ -191,8 +195,8 @@ def comparing():
         return False
 
 
-def common(parser):
-    parser.add_argument("--lengths", type=lengths_of, metavar="L,L", help="FILE is a header text, for a matrix of these lengths")
+def common(parser, command=Command()):
+    command.lengths(parser, lengths_of)
     form = parser.add_mutually_exclusive_group()
     form.add_argument("--json", action="store_true", help="an object for each file, a line each")
     form.add_argument("--tsv", action="store_true", help="a table with tabs, its first line the heads")
@@ -219,7 +223,7 @@ def parser_of():
             part.add_argument("files", metavar="FILE", nargs=1)
             part.set_defaults(recursive=False)
         one.arguments(part)
-        common(part)
+        common(part, one)
     words = "why a file is refused, and where; or the words for a number"
     part = kinds.add_parser("why", help=words, description=words, formatter_class=raw,
                             epilog="example: " + EXTRA["why"].replace("; ", "\n         "))

@@ -4,12 +4,14 @@ REASONS = {
     1: "lengths are not 2 or 3, or one is 0 or above 1,048,576",
     2: "text above 16,777,216 bytes",
     3: "no document of the markup grammar writes this text",
-    4: "the root is not CIFTI with Version 2",
+    4: "the root is not CIFTI with Version 2; of a GIFTI file: not GIFTI with Version 1.0",
     5: "a map of kind PARCELS",
     6: "an element, attribute, child, named word or non-blank text is not as the format says",
-    7: "a number's form, limit or fixed value, or the sixteen of the transformation; a colour outside 0 to 1",
+    7: "a number's form, limit or fixed value, or the sixteen of the transformation; a colour outside 0 to 1; "
+        "malformed Base64",
     8: "some dimension is not listed exactly once, or a listed one does not exist",
-    9: "a map's length is not that of a dimension it applies to",
+    9: "a map's length is not that of a dimension it applies to; of a GIFTI file: its arrays are not as many as it "
+        "says",
     10: "two models of a map share type and structure",
     11: "a model does not list as many numbers as it says, or an index of the map is in no range or in two",
     12: "a vertex or voxel is outside its surface or volume",
@@ -20,7 +22,7 @@ REASONS = {
     16: "an illegal record",
     17: "the slice to be written is too short",
     18: "map name: no such dimension, it is neither scalars nor labels, or the index is not below its length; keys and "
-        "label names: the same of a dimension that is not labels",
+        "label names: the same of a dimension that is not labels; GIFTI keys: no such array",
     19: "find: no such record; asking a list: no such index or record; label name: no such key",
     20: "a file under 544 bytes; its size field or magic is not NIfTI-2's single file; a data offset below 544",
     21: "a file's dim[0] is not 6 or 7, one of dim[1] to dim[4] is not 1, or one of dim[5] to dim[dim[0]] is below 1",
@@ -29,6 +31,10 @@ REASONS = {
     24: "a key twice in one label table",
     25: "the labels maps together list more than one dimension",
     26: "making a list: a type and structure comes back after another; asking: a bad list",
+    29: "a GIFTI array of another encoding, intent or type than ASCII or Base64Binary, NIFTI_INTENT_LABEL, "
+        "NIFTI_TYPE_INT32",
+    30: "a GIFTI array does not hold as many keys as its Dim0",
+    31: "a key of a GIFTI array that no Label of the table has",
 }
 
 WHAT_TO_DO = {
@@ -38,18 +44,24 @@ WHAT_TO_DO = {
     2: "Look whether the file is a header text at all: a whole .nii file goes in without `--lengths`. Nothing longer "
         "is read.",
     3: "A tag that is not closed, a bare `&` or `<` and a damaged character are for the sender to mend. Number "
-        "references (`&#65;`), CDATA, DOCTYPE, a byte-order mark and UTF-16 are XML but are not read here: have the "
-        "header written without them, in UTF-8. A compressed file must be unpacked first.",
+        "references (`&#65;`), a DOCTYPE with `[`, a byte-order mark and UTF-16 are XML but are not read here: have "
+        "the header written without them, in UTF-8. A compressed file must be unpacked first.",
     4: "It is a file of another format, or CIFTI-1, which is not read. Convert CIFTI-1 with Workbench: `wb_command "
-        "-file-convert -cifti-version-convert`.",
+        "-file-convert -cifti-version-convert`. Workbench writes Version 1 into GIFTI files: save the file anew by "
+        "nibabel, with `im.version = \"1.0\"` (README).",
     5: "Nothing is wrong with the file. Maps of parcels are not read by this library.",
     6: "An element, or an attribute, child or word in it, is misspelt, missing or too many. The sender's program must "
-        "write it as CIFTI-2 says.",
+        "write it as CIFTI-2 says. Of a GIFTI label file: schema attributes of the root and a "
+        "CoordinateSystemTransformMatrix are not read, and Labels need a Key and four colours; README says how a file "
+        "becomes one that is read.",
     7: "Look for signs, blanks beside commas, more than seven digits, and a transformation whose last row is not 0 0 "
-        "0 1. The sender's program must write the number as CIFTI-2 says.",
+        "0 1. The sender's program must write the number as CIFTI-2 says. Base64 is malformed where a letter is of "
+        "another alphabet, where padding is missing, too much or followed by more, and where the bits that are left "
+        "over are not 0.",
     8: "Each dimension of the matrix needs exactly one map. Look at AppliesToMatrixDimension of the maps, and, if you "
         "typed the lengths, whether there are as many as the matrix has.",
-    9: "The header and the matrix do not belong together, or the lengths were typed in the wrong order.",
+    9: "The header and the matrix do not belong together, or the lengths were typed in the wrong order. Of a GIFTI "
+        "file: arrays were added or lost, and NumberOfDataArrays was kept.",
     10: "A structure stands twice as a surface, or twice as voxels, in one map. The sender must join the two models, "
         "or name them rightly.",
     11: "Do not use the data: its rows may belong to other places than they seem to. The sender's program must give "
@@ -67,7 +79,7 @@ WHAT_TO_DO = {
     17: "Lend a longer slice: 4 bytes and 7 for each record to pack, a place for each record to unpack, 64 models for "
         "a list.",
     18: "Ask along the dimension of the named maps, usually 0, with an index below its length. `dzwonolin counts FILE` "
-        "shows the dimensions.",
+        "shows the dimensions. Arrays of a GIFTI file are counted from 0; `dzwonolin labels FILE` shows them all.",
     19: "The location is not in this table. Nothing is wrong with it: ask another, or look whether structure and type "
         "are those meant.",
     20: "It is no CIFTI-2 file: look whether it is compressed (.nii.gz), an older NIfTI-1 volume, or a header text, "
@@ -82,4 +94,10 @@ WHAT_TO_DO = {
     25: "A matrix has labels along one dimension alone. Ask the sender what the other dimension is.",
     26: "Make the list from the records of one brain map's stretch, as they were read; and ask with the list as it was "
         "made.",
+    29: "The file is no label file, or its arrays are packed by zlib, which is not read. Save it anew with arrays of "
+        "Base64Binary: by `gifti_tool -infile A.gii -write_gifti B.gii -encoding BASE64`, or by nibabel (README).",
+    30: "Do not use the data: keys are missing or too many, so they may belong to other vertices than they seem to. "
+        "The sender must send the file again.",
+    31: "The array uses a key that the table of labels lacks, often 0 for what has no label. The sender must add a "
+        "Label for it, or say which one is meant.",
 }

@@ -16,7 +16,7 @@ def columns(rows) -> list[str]:
     """Rows as lines with their columns one below the other, numbers to the right."""
     rows = [[str(cell) for cell in row] for row in rows]
     widths = [max(map(len, column)) for column in zip(*rows)]
-    return ["  ".join(cell.rjust(width) if cell.isdigit() else cell.ljust(width) for cell, width in zip(row, widths)).rstrip()
+    return ["  ".join(cell.rjust(width) if cell.lstrip("-").isdigit() else cell.ljust(width) for cell, width in zip(row, widths)).rstrip()
             for row in rows]
 
 
@@ -33,6 +33,17 @@ class Command:
 
     def arguments(self, parser):
         pass
+
+    def lengths(self, parser, kind):
+        """The option for the text of a header, where the command takes one."""
+        parser.add_argument("--lengths", type=kind, metavar="L,L", help="FILE is a header text, for a matrix of these lengths")
+
+    def is_text(self, given) -> bool:
+        """Whether FILE is a text, and not a NIfTI-2 file."""
+        return given.lengths is not None
+
+    def opened(self, file, given):
+        return dzwonolin.open(file, given.lengths)
 
     def wrong_use(self, given) -> str:
         """What is wrong with the arguments, if they do not go together."""
@@ -186,4 +197,37 @@ class Wall(Command):
         return bool(given.against and self.said(file, given))
 
 
-COMMANDS = {"counts": Counts(), "card": Card(), "list": Listed(), "names": Names(), "check": Check(), "wall": Wall()}
+class Labels(Command):
+    """the keys of a GIFTI label file, and how many places have each"""
+    example = "dzwonolin labels lh.aparc.label.gii; dzwonolin labels lh.aparc.label.gii 0"
+    many, heads = False, ("array", "key", "count")
+
+    def arguments(self, parser):
+        parser.add_argument("array", metavar="ARRAY", type=int, nargs="?", help="of this array alone, from 0")
+
+    def lengths(self, parser, kind):
+        parser.set_defaults(lengths=None)
+
+    def is_text(self, given):
+        return True
+
+    def opened(self, file, given):
+        from dzwonolin_labels import GiftiLabels
+        no_such = given.array is not None and not 0 <= given.array < 1 << 64
+        return GiftiLabels(file, (1 << 64) - 1 if no_such else given.array)
+
+    def rows(self, file, given):
+        return file.counts()
+
+    def plain(self, file, given):
+        for array in file.keys:
+            if len(file.keys) > 1:
+                yield f"array {array}"
+            yield from columns([one[1:] for one in file.counts() if one.array == array])
+
+    def fields(self, file, given):
+        told = {array: [{"key": one.key, "count": one.count} for one in file.counts() if one.array == array] for array in file.keys}
+        return {"arrays": [{"array": array, "length": len(file.keys[array]), "keys": keys} for array, keys in told.items()]}
+
+
+COMMANDS = {"counts": Counts(), "card": Card(), "list": Listed(), "names": Names(), "check": Check(), "wall": Wall(), "labels": Labels()}

@@ -24,15 +24,21 @@ MOST = 5
 PACKED = {b"\x1f\x8b": "gzip", b"BZh": "bzip2", b"\xfd7zXZ": "xz", b"PK\3\4": "zip", b"\x28\xb5\x2f\xfd": "zstd"}
 
 
+def packed(first: bytes) -> str:
+    name = next((name for mark, name in PACKED.items() if first.startswith(mark)), "")
+    return f"it is compressed, by {name}: unpack it first" if name else ""
+
+
 def looks_like(first: bytes) -> str:
     """What bytes are that are no NIfTI-2 file or no header text, as far as their front tells."""
-    for mark, name in PACKED.items():
-        if first.startswith(mark):
-            return f"it is compressed, by {name}: CIFTI files are not, so unpack it first"
+    if packed(first):
+        return packed(first)
     if first[:4] in (b"\x5c\1\0\0", b"\0\0\1\x5c"):
         return "it is a NIfTI-1 file: CIFTI-2 is NIfTI-2"
     if first[:2] in (b"\xff\xfe", b"\xfe\xff") or first[:4] in (b"<\0?\0", b"\0<\0?"):
         return "it is text in UTF-16"
+    if re.match(rb"[^\0]*<GIFTI", first):
+        return "it looks like a GIFTI file: dzwonolin labels reads those of labels"
     if re.match(rb"(\xef\xbb\xbf)?[ \t\r\n]*<", first):
         return "it looks like a header text: give the lengths of its matrix, as --lengths 2,91282"
     if re.match(rb"[0-9]+(,[0-9]+)*\r?\n<", first):
@@ -40,6 +46,7 @@ def looks_like(first: bytes) -> str:
     return ""
 
 
+NO_LABELS = "it is a NIfTI-2 file and no GIFTI label file"
 WITHOUT_LENGTHS = "it is a NIfTI-2 file and no header text: ask without --lengths"
 
 

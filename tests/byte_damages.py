@@ -1,4 +1,5 @@
 """Ways to spoil the bytes of a text: flips, cuts, insertions and faults of UTF-8 and of markup."""
+import re
 
 PIECES = [b"<", b">", b"&", b"]]>", b"<!--", b"-->", b"--", b'"', b"'", b"/", b"=", b"&amp;", b"&#65;", b"&nbsp;",
           b"&amp", b"&AMP;", b"</Matrix>", b"<a/>", b"<a>", b"</a>", b"<![CDATA[x]]>", b"<?pi x?>",
@@ -15,8 +16,12 @@ FIRSTS = [b"\xef\xbb\xbf", b" <?xml version=\"1.0\"?>", b"<?xml version=\"1.1\"?
           b"<!DOCTYPE a [ ]>", b"<!DOCTYPE a", b"<!doctype a>", b"<!DOCTYPE '>'>", b"<!DOCTYPE a--><!---->", b"<![CDATA[]]>",
           b"<?xml version=\"1.0\"encoding=\"UTF-8\"?>", b"<?XML version=\"1.0\"?>", b"<?xml version='1.0\"?>",
           b"<a/>", b"]]>", b"&amp;", b"<?xml version=\"1.0\" ? >"]
-LASTS = [b"x", b"<a/>", b"<![CDATA[]]>", b"<!DOCTYPE a>", b"\x00", b"&amp;", b"]]>", b"<!--", b"<!-- -->", b"\xef\xbb\xbf", b"</CIFTI>", b" \n",
+LASTS = [b"x", b"<a/>", b"<![CDATA[]]>", b"<!DOCTYPE a>",
+         b"\x00", b"&amp;", b"]]>", b"<!--", b"<!-- -->", b"\xef\xbb\xbf", b"</CIFTI>", b" \n",
          b"<?xml version=\"1.0\"?>"]
+
+DOCTYPES = [b"<!DOCTYPE a>", b"<!DOCTYPE a><!DOCTYPE a>", b"<!DOCTYPE a [ ]>", b"<!DOCTYPE a]>", b"<!DOCTYPE a <b>>", b"<!DOCTYPE '>'>",
+            b"<!DOCTYPE a -- \x00>", b"<!DOCTYPE a", b"<!DOCTYPE>", b"<!doctype a>", b"<!DOCTYPE a--><!-- -->", b"<![CDATA[]]>"]
 
 
 def spot(rng, text):
@@ -57,6 +62,12 @@ def before(rng, text):
     return rng.choice(FIRSTS) + text
 
 
+def before_root(rng, text):
+    """What may stand before the root once, and what may not."""
+    root = re.search(rb"<[A-Za-z_]", text)
+    return text[:root.start()] + rng.choice(DOCTYPES) + text[root.start():] if root else text
+
+
 def after(rng, text):
     return text + rng.choice(LASTS)
 
@@ -69,4 +80,4 @@ def end_tag(rng, text):
     return text[:at] + rng.choice([b"</x>", b"</", b"< /", b"</ ", b""]) + text[at + rng.choice([0, 2]):]
 
 
-ON_BYTES = [flip, flip, flip, cut, remove, remove, insert, insert, insert, again, before, after, end_tag]
+ON_BYTES = [flip, flip, flip, cut, remove, remove, insert, insert, insert, again, before, before_root, after, end_tag]

@@ -3,6 +3,7 @@
 Texts and parts are strings of bytes as latin-1, sheets are in hexadecimal. Slices lent for writing are given with their contents and
 answered whole. A decimal is [amount, power of ten]. A call that is not here is not in the library yet.
 """
+import array as arrays
 import ctypes
 import pathlib
 import subprocess
@@ -105,6 +106,16 @@ def label_keys(text, lengths, dimension, index, keys):
 def label_name(text, lengths, dimension, index, key):
     number, part = dzwonolin.label_name(text.encode("latin-1"), lengths, dimension, index, key)
     return {"number": number, "part": part.decode("latin-1")}
+
+
+def gifti_keys(text, array, keys):
+    lent, count = (ctypes.c_int32 * len(keys))(*keys), lent_numbers([7])
+    given = text.encode("latin-1")
+    with dzwonolin._Lent(given) as bytes_lent:
+        number = dzwonolin.call_gifti_keys(bytes_lent, array, lent, count)
+    if number != 17 and dzwonolin.gifti_keys(given, array) != (number, arrays.array("i", lent[:count[0]])):
+        raise ValueError("with room of its own the keys are answered otherwise")
+    return {"number": number, "count": count[0], "keys": list(lent)}
 
 
 def find(records, number):

@@ -1,4 +1,4 @@
-"""The proved library against the oracle, on texts from a seed, the paper's examples and real headers.
+"""The proved library against the oracle, on texts and GIFTI label files from a seed, the paper's examples and real headers.
 
     python3 tests/differential.py --count 20000 --seed 1
     python3 tests/differential.py --seconds 60 --large --real
@@ -11,6 +11,7 @@ refusal, around every lent slice), and that the work space is zero; of the liste
 'N compared, M differ'. Where the machine is not x86-64 the library and the lister run under the kit's emulator.
 """
 import argparse
+import array as arrays
 import collections
 import ctypes
 import pathlib
@@ -24,7 +25,9 @@ sys.path[:0] = [str(HERE), str(HERE.parent / "python")]
 
 import dzwonolin  # noqa: E402
 import emulation  # noqa: E402
+import gifti_texts  # noqa: E402
 import dzwonolin_oracle as oracle  # noqa: E402
+import dzwonolin_oracle_gifti as oracle_gifti  # noqa: E402
 import dzwonolin_oracle_markup as oracle_markup  # noqa: E402
 import paper  # noqa: E402
 import real  # noqa: E402
@@ -119,6 +122,19 @@ class Comparison:
             fine = fine and names[1][alone] == dzwonolin.map_name(text, lengths, dimension, alone)[1]
         fine = fine and names[0] == (0 if wanted == 17 else wanted)
         self.check(f"{name}: all names of {dimension}: {got}, wanted {wanted}", fine)
+
+    def gifti_keys(self, seed, number):
+        """dz_gifti_keys with marked slices, on a GIFTI label file from the seed, and the module's gifti_keys."""
+        rng, case = random.Random(f"{seed}/compare gifti/{number}"), gifti_texts.case(seed, number)
+        wanted, told = oracle_gifti.gifti_keys(case.text, case.array, case.room)
+        self.numbers[wanted] += wanted > 0
+        keys, count = Lent(rng, case.room, ctypes.c_int32), Lent(rng, rng.choice([1, 1, 2, 0]))
+        with dzwonolin._Lent(case.text) as lent:
+            got = dzwonolin.call_gifti_keys(lent, case.array, keys.slice, count.slice)
+        fine = got == wanted and keys.holds(told) and count.holds([len(told)][:count.length])
+        if wanted != 17:
+            fine = fine and dzwonolin.gifti_keys(case.text, case.array) == (wanted, arrays.array("i", told))
+        self.check(f"seed {seed} GIFTI file {number} ({case.label}): {got}, wanted {wanted}", fine)
 
     def find(self, rng, name, records):
         asked = [rng.getrandbits(64), 0] + ([rng.choice(records), records[0], records[-1], records[-1] + 1] if records else [])
@@ -247,6 +263,7 @@ def main():
             run.outline(shows, f"seed {given.seed} marked {number}", texts.marked(given.seed, number))
         else:
             run.one(given.seed, number, given.large)
+            run.gifti_keys(given.seed, number)
     print("numbers:", ", ".join(f"{n}: {k}" for n, k in sorted(run.numbers.items())))
     print(f"{run.compared} compared, {run.differ} differ")
     return 1 if run.differ else 0

@@ -16,7 +16,7 @@ SHAPES = {"dz_read": "bnNNN", "dz_map_name": "bnvvN", "dz_find": "nvN", "dz_pack
           "dz_front": "bN", "dz_read_file": "bNNN", "dz_file_map_name": "bvvN",
           "dz_model_list": "nNN", "dz_structure_at": "nvN", "dz_index_of": "nnvN",
           "dz_compare": "bbNN", "dz_tail": "bbNN", "dz_map_names": "bnvNN",
-          "dz_label_keys": "bnvvKN", "dz_label_name": "bnvvvN"}
+          "dz_label_keys": "bnvvKN", "dz_label_name": "bnvvvN", "dz_gifti_keys": "bvKN"}
 
 
 def needed():

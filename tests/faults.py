@@ -4,10 +4,12 @@
 Each fault is put into a copy of the oracle behind the C interface. The last line is 'N found, M missed'.
 """
 import argparse
+import base64
 import importlib
 import pathlib
 import re
 import sys
+import types
 
 HERE = pathlib.Path(__file__).resolve().parent
 sys.path[:0] = [str(HERE), str(HERE.parent / "python")]
@@ -18,10 +20,11 @@ import standin  # noqa: E402
 
 
 def copy_of_oracle():
-    """The oracle's three modules, loaded anew."""
-    names = ["dzwonolin_oracle_markup", "dzwonolin_oracle_rules", "dzwonolin_oracle"]
+    """The oracle's four modules, loaded anew; that of GIFTI label files is its `gifti`."""
+    names = ["dzwonolin_oracle_markup", "dzwonolin_oracle_rules", "dzwonolin_oracle_gifti", "dzwonolin_oracle"]
     kept = {name: sys.modules.pop(name) for name in names}
     copy = importlib.import_module("dzwonolin_oracle")
+    copy.gifti = importlib.import_module("dzwonolin_oracle_gifti")
     sys.modules.update(kept)
     return copy
 
@@ -152,10 +155,118 @@ def names_from_one(o):
     o.map_names = names
 
 
+# ---- CDATA and DOCTYPE
+
+def last_end(o):
+    """The last ]]> ends CDATA, and not the first."""
+    def add(element, text, at):
+        end = text.rfind(b"]]>", at)
+        if end < 0:
+            raise o.markup.no_document("CDATA that does not end", at)
+        o.markup.join_run(element, o.markup.line_ends(text[at + 9:end]))
+        return end + 3
+    o.markup.add_data = add
+
+
+def references_in_data(o):
+    whole = o.markup.add_data
+
+    def add(element, text, at):
+        end = whole(element, text, at)
+        o.markup.check_references(text[at:end], at)
+        return end
+    o.markup.add_data = add
+
+
+def data_parts_numbers(o):
+    whole = o.markup.add_data
+
+    def add(element, text, at):
+        o.markup.join_run(element, b" ")
+        return whole(element, text, at)
+    o.markup.add_data = add
+
+
+def two_doctypes(o):
+    o.markup.DOCTYPE = re.compile(rb"(?:<!DOCTYPE[^\[\]<>]*>)+")
+
+
+def subset_passes(o):
+    o.markup.DOCTYPE = re.compile(rb"<!DOCTYPE[^<>]*>")
+
+
+# ---- GIFTI label files
+
+def coded_as_python_has_it(o):
+    """Base64 without a look at the bits that are left over."""
+    o.gifti.base64 = types.SimpleNamespace(b64decode=base64.b64decode, b64encode=lambda found: Same())
+
+
+class Same(bytes):
+    """Equal to anything."""
+    def __ne__(self, other):
+        return False
+
+
+def letters_of_urls(o):
+    whole = o.gifti.base64.b64decode
+    o.gifti.coded = lambda element: whole(element.text().translate(bytes.maketrans(b"-_", b"+/"), o.gifti.BLANKS) + b"==")
+
+
+def endian_exchanged(o):
+    o.gifti.ENDIANS = {b"BigEndian": "<", b"LittleEndian": ">"}
+
+
+def first_array_alone(o):
+    whole = o.gifti.Labels.__init__
+
+    def init(self, root):
+        whole(self, root)
+        for one in self.arrays[1:]:
+            one.fits = lambda: True
+    o.gifti.Labels.__init__ = init
+
+
+def asked_array_zero(o):
+    whole = o.gifti.accepted
+    o.gifti.accepted = lambda text, array, room: whole(text, array and 0, room)
+
+
+def unknown_key_passes(o):
+    o.gifti.Labels.known = lambda self: Known(key for key, _ in self.table)
+
+
+class Known(set):
+    """Has every key."""
+    def issuperset(self, keys):
+        return True
+
+
+def children_in_any_order(o):
+    o.gifti.ORDER = types.SimpleNamespace(index=lambda name: 0)
+
+
+def schema_attributes_pass(o):
+    whole = o.rules.shape
+    more = (b"xmlns:xsi", b"xsi:noNamespaceSchemaLocation")
+    o.rules.shape = lambda *given, text=False, optional=(): whole(*given, text=text, optional=(*optional, *more))
+
+
+def other_encoding_is_6(o):
+    def check(array):
+        if array.value(b"Encoding") not in o.gifti.READ[b"Encoding"]:
+            raise o.Refused(6)
+    whole = o.gifti.check_array
+    o.gifti.check_array = lambda array: (whole(array), check(array))
+
+
+ON_MARKUP = [last_end, references_in_data, data_parts_numbers, two_doctypes, subset_passes]
+ON_LABELS = [coded_as_python_has_it, letters_of_urls, endian_exchanged, first_array_alone, asked_array_zero, unknown_key_passes,
+             children_in_any_order, schema_attributes_pass, other_encoding_is_6]
 FAULTS = [only_refuses, no_records, fills_in_text_order, counts_by_sum, decodes_twice, voxels_by_structure,
           first_model_only, first_map_only, room_last, signs_in_wholes, seven_before_six, depth_seventeen, long_names,
           overlong_utf8, comment_parts_numbers, power_dropped, written_power_only, limit_off_by_one, name_past_nine,
-          names_from_one]
+          names_from_one] + ON_MARKUP + ON_LABELS
 # Shown by few texts: tried where there are so many.
 RARE = {limit_off_by_one: 3000}
 
@@ -163,11 +274,15 @@ RARE = {limit_off_by_one: 3000}
 def found(fault, seed, count):
     """The number of the first text on which the fault shows, or None."""
     standin.oracle = copy_of_oracle()
+    standin.gifti = standin.oracle.gifti
     fault(standin.oracle)
     standin.install(dzwonolin)
     run = differential.Comparison(0)
     for number in range(count):
-        run.one(seed, number, False)
+        if fault in ON_LABELS:
+            run.gifti_keys(seed, number)
+        else:
+            run.one(seed, number, False)
         if run.differ:
             return number
     return None

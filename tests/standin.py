@@ -5,6 +5,7 @@
 import ctypes
 
 import dzwonolin_oracle as oracle
+import dzwonolin_oracle_gifti as gifti
 
 KINDS = {"brain": 1, "series": 2, "scalars": 3, "labels": 4}
 
@@ -53,6 +54,13 @@ def dz_map_names(text, text_len, lengths, lengths_len, dimension, places, places
     return number
 
 
+def dz_gifti_keys(text, text_len, array, keys, keys_len, count, count_len):
+    number, told = gifti.gifti_keys(ctypes.string_at(text, text_len), array, keys_len)
+    store((ctypes.c_int32 * keys_len).from_address(keys) if keys_len else [], told)
+    store(numbers(count, count_len), [len(told)])
+    return number
+
+
 def dz_find(records, records_len, number, place, place_len):
     refusal, found = oracle.find(list(numbers(records, records_len)), number)
     store(numbers(place, place_len), [found])
@@ -74,10 +82,10 @@ def dz_unpack(sheet, sheet_len, records, records_len, count, count_len):
 
 
 class Library:
-    """Has the six functions, each behind a C function pointer."""
+    """Has these functions, each behind a C function pointer."""
 
     def __init__(self, signatures):
-        for function in (dz_read, dz_map_name, dz_map_names, dz_find, dz_pack, dz_unpack):
+        for function in (dz_read, dz_map_name, dz_map_names, dz_gifti_keys, dz_find, dz_pack, dz_unpack):
             kind = ctypes.CFUNCTYPE(ctypes.c_uint64, *signatures[function.__name__])
             callback = kind(function)
             setattr(self, function.__name__ + "_kept", callback)

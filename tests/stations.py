@@ -1,4 +1,4 @@
-"""The small CIFTI-2 files under examples/, which documents and tests read.
+"""The small CIFTI-2 files, and the GIFTI label file, under examples/, which documents and tests read.
 
     python3 tests/stations.py            writes them
 `station` is a good file. `nineteen_days` has the same counts, and the right cortex's vertices started again from 0: for nineteen days
@@ -40,6 +40,24 @@ TEXT = b"""<?xml version="1.0" encoding="UTF-8"?>
   </Matrix>
 </CIFTI>
 """
+LABELS = b"""<?xml version="1.0" encoding="UTF-8"?>
+<!DOCTYPE GIFTI SYSTEM "http://www.nitrc.org/frs/download.php/115/gifti.dtd">
+<GIFTI Version="1.0" NumberOfDataArrays="1">
+  <MetaData>
+    <MD><Name><![CDATA[AnatomicalStructurePrimary]]></Name><Value><![CDATA[CortexLeft]]></Value></MD>
+  </MetaData>
+  <LabelTable>
+    <Label Key="0" Red="0" Green="0" Blue="0" Alpha="0"><![CDATA[???]]></Label>
+    <Label Key="1" Red="0.78" Green="0.23" Blue="0.12" Alpha="1"><![CDATA[bankssts]]></Label>
+    <Label Key="5" Red="0.86" Green="0.08" Blue="0.39" Alpha="1"><![CDATA[cuneus]]></Label>
+  </LabelTable>
+  <DataArray Intent="NIFTI_INTENT_LABEL" DataType="NIFTI_TYPE_INT32" ArrayIndexingOrder="RowMajorOrder"
+             Dimensionality="1" Dim0="12" Encoding="ASCII" Endian="LittleEndian" ExternalFileName="" ExternalFileOffset="">
+    <MetaData/>
+    <Data>0 0 1 1 5 5 5 1 0 0 5 5</Data>
+  </DataArray>
+</GIFTI>
+"""
 
 
 def nii(text, lengths=LENGTHS, order="<"):
@@ -68,6 +86,7 @@ FILES = {
     "station.dscalar.nii": nii(TEXT),
     "nineteen_days.dscalar.nii": nii(changed(b">3 4 10<", b">0 1 2<")),
     "misspelt.dscalar.nii": nii(changed(b"STRUCTURE_CORTEX_RIGHT", b"STRUCTURE_CORTEX_RIGTH")),
+    "station.label.gii": LABELS,
 }
 
 if __name__ == "__main__":

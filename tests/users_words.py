@@ -43,7 +43,7 @@ class Words(unittest.TestCase):
 
     def test_each_example_gives_its_number(self):
         known = {"dzwonolin": dzwonolin, "A": paper.CASE_A, "R": paper.RECORDS_A, "B": stations.TEXT,
-                 "F": stations.FILES["station.dscalar.nii"], "L": LABEL, "labelled": labelled}
+                 "F": stations.FILES["station.dscalar.nii"], "L": LABEL, "labelled": labelled, "G": stations.LABELS}
         for number, (_, example, _) in tool().sections().items():
             with self.subTest(number=number):
                 self.assertEqual(eval(example, dict(known)), number)

@@ -16,7 +16,7 @@ enum { GUARD = 64, MARK = 0xA5, ARGUMENTS = 6 };
 
 /* b, n: bytes and numbers to be read; B, N, K: bytes, numbers and keys to be written; v: a number. */
 static const char *const SHAPES[] = {"bnNNN", "bnvvN", "nvN", "nBN", "bNN", "bN", "bNNN", "bvvN", "nNN", "nvN", "nnvN",
-                                     "bbNN", "bbNN", "bnvNN", "bnvvKN", "bnvvvN"};
+                                     "bbNN", "bbNN", "bnvNN", "bnvvKN", "bnvvvN", "bvKN"};
 
 struct argument {
     uint64_t count;
@@ -98,7 +98,8 @@ static uint64_t call(uint64_t function, struct argument *a)
     case 12: return dz_tail(BYTES(0), BYTES(1), NUMBERS(2), NUMBERS(3));
     case 13: return dz_map_names(BYTES(0), NUMBERS(1), a[2].count, NUMBERS(3), NUMBERS(4));
     case 14: return dz_label_keys(BYTES(0), NUMBERS(1), a[2].count, a[3].count, KEYS(4), NUMBERS(5));
-    default: return dz_label_name(BYTES(0), NUMBERS(1), a[2].count, a[3].count, (int32_t)a[4].count, NUMBERS(5));
+    case 15: return dz_label_name(BYTES(0), NUMBERS(1), a[2].count, a[3].count, (int32_t)a[4].count, NUMBERS(5));
+    default: return dz_gifti_keys(BYTES(0), a[1].count, KEYS(2), NUMBERS(3));
     }
 }
 
