@@ -3,6 +3,7 @@
     python3 tests/empty.py
 Each function is called on case A's arguments with every choice of its slices left empty, once with an address and once with null.
 """
+import array
 import ctypes
 import itertools
 import pathlib
@@ -14,8 +15,10 @@ sys.path[:0] = [str(HERE), str(HERE.parent / "python")]
 import dzwonolin  # noqa: E402
 import emulation  # noqa: E402
 import paper  # noqa: E402
+import stations  # noqa: E402
 
-# A slice to be read is bytes or a list of numbers, one to be written a number of places, and a plain number a tuple of one.
+# A slice to be read is bytes or a list of numbers, one to be written a number of places, an array of keys or a buffer of bytes, and a
+# plain number a tuple of one.
 CALLS = {
     "dz_read": [paper.CASE_A, [2, 3], 3, 3, dzwonolin.ANSWER],
     "dz_map_name": [paper.CASE_A, [2, 3], (0,), (1,), 2],
@@ -31,6 +34,7 @@ CALLS = {
     "dz_index_of": [paper.LIST_A, paper.RECORDS_A, (paper.RECORDS_A[1],), 1],
     "dz_compare": [paper.SHEET_A, paper.SHEET_A, 6, 4],
     "dz_tail": [paper.SHEET_A, paper.SHEET_A, 6, 3],
+    "dz_gifti_keys": [stations.LABELS, (0,), array.array("i", [7] * 12), 1],
 }
 # The number where the slices named by their places are empty.
 NUMBERS = {
@@ -48,6 +52,7 @@ NUMBERS = {
     ("dz_index_of", (0,)): 19, ("dz_index_of", (1,)): 26, ("dz_index_of", (3,)): 0,
     ("dz_compare", (0,)): 15, ("dz_compare", (1,)): 15, ("dz_compare", (2,)): 13, ("dz_compare", (3,)): 0,
     ("dz_tail", (0,)): 15, ("dz_tail", (1,)): 15, ("dz_tail", (2,)): 13, ("dz_tail", (3,)): 0,
+    ("dz_gifti_keys", (0,)): 3, ("dz_gifti_keys", (2,)): 17, ("dz_gifti_keys", (3,)): 0,
 }
 
 
@@ -57,6 +62,8 @@ def slice_of(given, empty):
         return b"" if empty else given
     if isinstance(given, bytearray):
         return (ctypes.c_uint8 * (0 if empty else len(given)))()
+    if isinstance(given, array.array):
+        return (ctypes.c_int32 * (0 if empty else len(given)))(*([] if empty else given))
     if isinstance(given, int):
         return (ctypes.c_uint64 * (0 if empty else given))(*([7] * (0 if empty else given)))
     return dzwonolin._numbers([] if empty else given)

@@ -12,7 +12,7 @@ sys.path[:0] = [str(HERE), str(HERE.parent / "python")]
 import dzwonolin  # noqa: E402
 import emulation  # noqa: E402
 
-PARTS = ["users_command", "users_wall", "users_words", "users_why", "users_python", "users_scripts"]
+PARTS = ["users_command", "users_wall", "users_words", "users_why", "users_python", "users_labels", "users_scripts"]
 
 if __name__ == "__main__":
     emulation.ready(dzwonolin)

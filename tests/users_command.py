@@ -115,7 +115,7 @@ class Statuses(InFolder):
     def test_help_has_an_example_for_each_command(self):
         status, out, _ = asked("--help")
         self.assertEqual(status, 0)
-        for name in ("counts", "card", "list", "names", "check", "wall", "why"):
+        for name in ("counts", "card", "list", "names", "check", "wall", "labels", "why"):
             self.assertIn(f"  dzwonolin {name} ", out)
             status, told, _ = asked(name, "--help")
             self.assertEqual((status, "example: dzwonolin" in told), (0, True))
