@@ -51,9 +51,7 @@ WHAT_TO_DO = {
         "nibabel, with `im.version = \"1.0\"` (README).",
     5: "Nothing is wrong with the file. Maps of parcels are not read by this library.",
     6: "An element, or an attribute, child or word in it, is misspelt, missing or too many. The sender's program must "
-        "write it as CIFTI-2 says. Of a GIFTI label file: schema attributes of the root and a "
-        "CoordinateSystemTransformMatrix are not read, and Labels need a Key and four colours; README says how a file "
-        "becomes one that is read.",
+        "write it as CIFTI-2 says. Of GIFTI label files README tells which are read, and how others become such files.",
     7: "Look for signs, blanks beside commas, more than seven digits, and a transformation whose last row is not 0 0 "
         "0 1. The sender's program must write the number as CIFTI-2 says. Base64 is malformed where a letter is of "
         "another alphabet, where padding is missing, too much or followed by more, and where the bits that are left "
