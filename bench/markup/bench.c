@@ -126,6 +126,16 @@ int main(int count, char **files) {
     measure("<a></a><a></a>..", text, used, 5);
     fill("<r>", "<!---->", "</r>", big);
     measure("<!----><!---->..", text, used, 5);
+    fill("<r>", "<![CDATA[]]>", "</r>", big);
+    measure("<![CDATA[]]><![CDATA[]]>..", text, used, 5);
+    fill("<r>", "<![CDATA[1]]>", "</r>", big);
+    measure("<![CDATA[1]]><![CDATA[1]]>..", text, used, 5);
+    fill("<r><![CDATA[", "]", "]]></r>", big);
+    measure("<![CDATA[]]]]..", text, used, 5);
+    fill("<r><![CDATA[", "1234567 ", "]]></r>", big);
+    measure("CDATA of numbers", text, used, 5);
+    fill("<!DOCTYPE ", "x", "><r/>", big);
+    measure("a DOCTYPE", text, used, 5);
     fill("", " ", "<r/>", big);
     measure("blanks", text, used, 5);
     return 0;

@@ -79,9 +79,42 @@ def comments_between():
 def comments_in_numbers():
     numbers = b"".join(b"%d<!---->%d " % (n // 10, n % 10) for n in range(10, RECORDS - 200))
     count = RECORDS - 210
-    text = (MODEL % (0, count, b"SURFACE", b"CORTEX", b' SurfaceNumberOfVertices="1048576"') + b"<VertexIndices>"
-            + numbers + b"</VertexIndices></BrainModel>")
-    return brain(text), [1, count], 0
+    return brain(listed(numbers, count)), [1, count], 0
+
+
+def listed(numbers, count):
+    """One surface whose list is written so."""
+    return (MODEL % (0, count, b"SURFACE", b"CORTEX", b' SurfaceNumberOfVertices="1048576"') + b"<VertexIndices>" + numbers
+            + b"</VertexIndices></BrainModel>")
+
+
+def numbers_plain():
+    """The plain twin of `numbers_in_data`."""
+    return brain(listed(b" ".join(b"%d" % n for n in range(RECORDS)), RECORDS)), [1, RECORDS], 0
+
+
+def numbers_in_data():
+    return brain(listed(b"<![CDATA[" + b" ".join(b"%d" % n for n in range(RECORDS)) + b"]]>", RECORDS)), [1, RECORDS], 0
+
+
+def data_round_digits():
+    """CDATA round each digit; a number has one to six of them."""
+    many = 210000
+    numbers = b" ".join(b"".join(b"<![CDATA[%c]]>" % digit for digit in b"%d" % n) for n in range(many))
+    return brain(listed(numbers, many)), [1, many], 0
+
+
+def empty_data_in_list():
+    return brain(listed(often(b"<![CDATA[]]>", 800) + b"0", 1)), [1, 1], 0
+
+
+def empty_data_between():
+    return brain(often(b"<![CDATA[]]>", 800) + surface(0, [0])), [1, 1], 0
+
+
+def brackets_in_data():
+    return matrix(b"<MetaData><MD><Name/><Value><![CDATA[" + often(b"]", 800) + b"]]></Value></MD></MetaData>" + FIRST + BRAIN
+                  + surface(0, [0]) + b"</MatrixIndicesMap>"), [1, 1], 0
 
 
 def references():
@@ -185,7 +218,8 @@ def siblings_then_fault():
 TEXTS = [bare_models, alike_models, one_tag_of_attributes, tags_of_attributes, long_names, comments_between,
          comments_in_numbers, references, late_repeat_vertices, descending_vertices, woven_vertices,
          late_repeat_voxels, late_overlap, named_maps, labels_rising, labels_falling, labels_random, metadata, maps,
-         dimensions, blanks, open_tags, open_comment, siblings_then_fault]
+         dimensions, blanks, open_tags, open_comment, siblings_then_fault, numbers_plain, numbers_in_data, data_round_digits,
+         empty_data_in_list, empty_data_between, brackets_in_data]
 
 
 def main():
