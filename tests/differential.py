@@ -124,17 +124,23 @@ class Comparison:
         self.check(f"{name}: all names of {dimension}: {got}, wanted {wanted}", fine)
 
     def gifti_keys(self, seed, number):
-        """dz_gifti_keys with marked slices, on a GIFTI label file from the seed, and the module's gifti_keys."""
-        rng, case = random.Random(f"{seed}/compare gifti/{number}"), gifti_texts.case(seed, number)
-        wanted, told = oracle_gifti.gifti_keys(case.text, case.array, case.room)
+        """A GIFTI label file from the seed."""
+        case = gifti_texts.case(seed, number)
+        name = f"seed {seed} GIFTI file {number} ({case.label})"
+        self.array_keys(random.Random(f"{seed}/compare gifti/{number}"), name, case.text, case.array, case.room)
+
+    def array_keys(self, rng, name, text, array, room):
+        """dz_gifti_keys with marked slices, and the module's gifti_keys; the oracle's number."""
+        wanted, told = oracle_gifti.gifti_keys(text, array, room)
         self.numbers[wanted] += wanted > 0
-        keys, count = Lent(rng, case.room, ctypes.c_int32), Lent(rng, rng.choice([1, 1, 2, 0]))
-        with dzwonolin._Lent(case.text) as lent:
-            got = dzwonolin.call_gifti_keys(lent, case.array, keys.slice, count.slice)
+        keys, count = Lent(rng, room, ctypes.c_int32), Lent(rng, rng.choice([1, 1, 2, 0]))
+        with dzwonolin._Lent(text) as lent:
+            got = dzwonolin.call_gifti_keys(lent, array, keys.slice, count.slice)
         fine = got == wanted and keys.holds(told) and count.holds([len(told)][:count.length])
         if wanted != 17:
-            fine = fine and dzwonolin.gifti_keys(case.text, case.array) == (wanted, arrays.array("i", told))
-        self.check(f"seed {seed} GIFTI file {number} ({case.label}): {got}, wanted {wanted}", fine)
+            fine = fine and dzwonolin.gifti_keys(text, array) == (wanted, arrays.array("i", told))
+        self.check(f"{name}: {got}, wanted {wanted}", fine)
+        return wanted
 
     def find(self, rng, name, records):
         asked = [rng.getrandbits(64), 0] + ([rng.choice(records), records[0], records[-1], records[-1] + 1] if records else [])

@@ -1,16 +1,23 @@
-"""Real headers: the five files that Debian's libcifti-doc carries, fetched into a temporary folder.
+"""Real headers: the five files that Debian's libcifti-doc carries, fetched into a temporary folder; and the GIFTI files of python3-nibabel.
 
     python3 tests/real.py [DIR]      the library against the oracle on each; the texts are kept in DIR
 
 Texts and lengths are taken out of the files by the library, from each file as it is and in the other byte order.
 """
+import base64
 import pathlib
+import random
+import re
 import struct
 import subprocess
 import sys
 import tempfile
+import zlib
 
-PACKAGE = "libcifti-doc"
+PACKAGE, LABELS_PACKAGE = "libcifti-doc", "python3-nibabel"
+PARCELLATION = "rh.aparc.annot.gii"
+# What these GIFTI files give; the others are no label files of one dimension (6), or Caret's, without keys (6).
+NUMBERS = {PARCELLATION: 29, "its arrays unpacked": 31, "a Label more": 0}
 
 
 def turned(data):
@@ -40,28 +47,56 @@ def header(path):
     return data[front.start:front.start + front.length], front.lengths
 
 
+def fetched(package, pattern):
+    """The files of a Debian package that a pattern names, as paths in a folder that lasts; an OSError says why there are none."""
+    folder = tempfile.TemporaryDirectory()
+    for step in (["apt-get", "download", package], ["sh", "-c", "dpkg-deb -x *.deb ."]):
+        try:
+            done = subprocess.run(step, cwd=folder.name, capture_output=True, timeout=60)
+        except subprocess.TimeoutExpired:
+            raise OSError(step[0] + " took too long") from None
+        if done.returncode:
+            raise OSError(done.stderr.decode(errors="replace").strip().splitlines()[-1])
+    return folder, sorted(pathlib.Path(folder.name).rglob(pattern))
+
+
 def headers():
     """(file name, text, lengths) of each, or an OSError that says why there are none."""
-    with tempfile.TemporaryDirectory() as folder:
-        steps = [["apt-get", "download", PACKAGE], ["sh", "-c", "dpkg-deb -x *.deb ."]]
-        for step in steps:
-            try:
-                done = subprocess.run(step, cwd=folder, capture_output=True, timeout=60)
-            except subprocess.TimeoutExpired:
-                raise OSError(step[0] + " took too long") from None
-            if done.returncode:
-                raise OSError(done.stderr.decode(errors="replace").strip().splitlines()[-1])
-        files = sorted(pathlib.Path(folder).rglob("*.nii"))
+    folder, files = fetched(PACKAGE, "*.nii")
+    with folder:
         return [(f.name, *header(f)) for f in files]
 
 
-def headers_or_skipped():
-    """The same, none where they cannot be had, which is said."""
+def unpacked(text):
+    """A GIFTI file whose arrays of GZipBase64Binary are Base64Binary."""
+    def again(found):
+        return found[1] + base64.b64encode(zlib.decompress(base64.b64decode(found[2]))) + found[3]
+    return re.sub(rb"(<Data>)([^<]*)(</Data>)", again, text).replace(b'"GZipBase64Binary"', b'"Base64Binary"')
+
+
+def label_files():
+    """(file name, text, the number that it gives) of each GIFTI file; of a parcellation also with its arrays unpacked, where it has a
+    key that its table lacks, and with a Label for that key."""
+    folder, files = fetched(LABELS_PACKAGE, "*.gii")
+    with folder:
+        texts = {f.name: f.read_bytes() for f in files}
+    aparc = unpacked(texts[PARCELLATION])
+    texts["its arrays unpacked"] = aparc
+    texts["a Label more"] = aparc.replace(b"<LabelTable>", b'<LabelTable><Label Key="0" Red="0" Green="0" Blue="0" Alpha="0"/>')
+    return [(name, text, NUMBERS.get(name, 6)) for name, text in texts.items()]
+
+
+def or_skipped(what, found):
+    """What is found, none where it cannot be had, which is said."""
     try:
-        return headers()
+        return found()
     except OSError as reason:
-        print("real headers SKIPPED:", reason)
+        print(f"{what} SKIPPED:", reason)
         return []
+
+
+def headers_or_skipped():
+    return or_skipped("real headers", headers)
 
 
 def main():
@@ -71,7 +106,11 @@ def main():
     emulation.ready(dzwonolin)
     found, run = headers_or_skipped(), differential.Comparison(20)
     run.real(found)
-    print(f"{len(found)} real headers: {run.compared} compared, {run.differ} differ")
+    files = or_skipped("real GIFTI files", label_files)
+    for name, text, number in files:
+        wanted = run.array_keys(random.Random(name), name, text, 0, 1048576)
+        run.check(f"{name}: it was {number}", wanted == number)
+    print(f"{len(found)} real headers, {len(files)} GIFTI files: {run.compared} compared, {run.differ} differ")
     if len(sys.argv) > 1:
         for name, text, _ in found:
             (pathlib.Path(sys.argv[1]) / (name + ".xml")).write_bytes(text)
