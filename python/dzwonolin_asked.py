@@ -45,13 +45,13 @@ def library_number(data, lengths) -> int:
         return refused.number
 
 
-def place_words(spot, text: bytes) -> str:
-    """Where a spot is: its line and column in the header text, or its byte in the file."""
+def place_words(spot, text: bytes, what: str) -> str:
+    """Where a spot is: its line and column in the text, or its byte in the file."""
     if spot.place is None:
         return ""
     if not text:
         return f"byte {spot.place} of the file: "
-    return "line {}, column {} of the header text: ".format(*dzwonolin_why.line_and_column(text, spot.place))
+    return "line {}, column {} of the {}: ".format(*dzwonolin_why.line_and_column(text, spot.place), what)
 
 
 def spot_fields(spot, text: bytes) -> dict:
@@ -59,7 +59,7 @@ def spot_fields(spot, text: bytes) -> dict:
     return {"line": line, "column": column, "place": spot.place, "path": spot.path, "words": spot.words}
 
 
-def why_lines(number: int, reading: int, spots: list, text: bytes):
+def why_lines(number: int, reading: int, spots: list, text: bytes, what: str):
     if number != reading:
         yield DIFFER.format(number or "accepted", reading or "accepted")
     if not number:
@@ -67,14 +67,14 @@ def why_lines(number: int, reading: int, spots: list, text: bytes):
         return
     yield f"refused {number}: {REASONS[number]}"
     for spot in spots[:dzwonolin_why.MOST]:
-        yield from wrapped(f"  {place_words(spot, text)}{spot.path + ': ' if spot.path else ''}{command.shown(spot.words)}")
+        yield from wrapped(f"  {place_words(spot, text, what)}{spot.path + ': ' if spot.path else ''}{command.shown(spot.words)}")
     if len(spots) > dzwonolin_why.MOST:
         yield f"  and {len(spots) - dzwonolin_why.MOST} more"
     yield from wrapped(f"what to do: {WHAT_TO_DO[number]}")
     yield NOT_PROVED
 
 
-def why_rows(number: int, reading: int, spots: list, text: bytes):
+def why_rows(number: int, reading: int, spots: list, text: bytes, _: str):
     yield "number\treading\tline\tcolumn\tpath\twords"
     for spot in spots or [dzwonolin_why.Spot(None, None, "")]:
         fields = spot_fields(spot, text)
@@ -83,18 +83,26 @@ def why_rows(number: int, reading: int, spots: list, text: bytes):
 
 
 def why_data(name: str, data, given) -> int:
-    number = library_number(data, given.lengths)
     if given.lengths is None:
-        reading, spots, text = dzwonolin_why.explained_file(data)
-    else:
-        text = bytes(data[:TEXT_LIMIT + 1])
-        reading, spots = dzwonolin_why.explained(text, given.lengths)
+        return why_told(name, library_number(data, None), *dzwonolin_why.explained_file(data), given)
+    text = bytes(data[:TEXT_LIMIT + 1])
+    return why_told(name, library_number(data, given.lengths), *dzwonolin_why.explained(text, given.lengths), text, given)
+
+
+def why_labels(name: str, data, given) -> int:
+    """Of a GIFTI label file."""
+    import dzwonolin_why_labels
+    text = bytes(data[:TEXT_LIMIT + 1])
+    return why_told(name, dzwonolin.gifti_keys(data, 0)[0], *dzwonolin_why_labels.explained(text), text, given, "text")
+
+
+def why_told(name: str, number: int, reading: int, spots: list, text: bytes, given, what: str = "header text") -> int:
     if given.json:
         print(json.dumps({"file": name, "number": number, "reason": dzwonolin.reason(number), "independent_reading": reading,
                           "spots": [spot_fields(spot, text) for spot in spots], "proved": False}, ensure_ascii=False))
     else:
         lines = why_rows if given.tsv else why_lines
-        sys.stdout.writelines(line + "\n" for line in lines(number, reading, spots, text))
+        sys.stdout.writelines(line + "\n" for line in lines(number, reading, spots, text, what))
     return command.DIFFERENT if number or number != reading else command.FINE
 
 
@@ -107,7 +115,8 @@ def why(given) -> int:
         if about == "-":
             return why_data("standard input", streamed(sys.stdin.buffer, given.lengths is not None), given)
         with dzwonolin._Lent(about, text=given.lengths is not None, path=True) as lent:
-            return why_data(about, lent.file, given)
+            of_labels = given.lengths is None and dzwonolin_why.is_gifti(bytes(lent.file[:600]))
+            return (why_labels if of_labels else why_data)(about, lent.file, given)
     except dzwonolin.NoLibrary:
         raise
     except OSError as error:

@@ -177,7 +177,7 @@ class Run:
 EXTRA = {"why": "dzwonolin why brain.dscalar.nii; dzwonolin why 11", "compare": "dzwonolin compare old.dscalar.nii new.dscalar.nii"}
 EPILOG = """
 FILE is a CIFTI-2 file (.nii); with --lengths it is the text of a header; - is standard input.
-For labels FILE is a GIFTI label file (.label.gii).
+For labels FILE is a GIFTI label file (.label.gii), and for why it may be one.
 
 examples:
 {examples}

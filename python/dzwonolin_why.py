@@ -37,7 +37,7 @@ def looks_like(first: bytes) -> str:
         return "it is a NIfTI-1 file: CIFTI-2 is NIfTI-2"
     if first[:2] in (b"\xff\xfe", b"\xfe\xff") or first[:4] in (b"<\0?\0", b"\0<\0?"):
         return "it is text in UTF-16"
-    if re.match(rb"[^\0]*<GIFTI", first):
+    if is_gifti(first):
         return "it looks like a GIFTI file: dzwonolin labels reads those of labels"
     if re.match(rb"(\xef\xbb\xbf)?[ \t\r\n]*<", first):
         return "it looks like a header text: give the lengths of its matrix, as --lengths 2,91282"
@@ -52,6 +52,10 @@ WITHOUT_LENGTHS = "it is a NIfTI-2 file and no header text: ask without --length
 
 def is_file(first: bytes) -> bool:
     return first[4:7] == b"n+2"
+
+
+def is_gifti(first: bytes) -> bool:
+    return re.match(rb"[^\0]*<GIFTI", first) is not None
 
 
 LEFT_OUT = [
@@ -271,14 +275,19 @@ def twice_spots(reading):
                 met.setdefault(key, model.offset + n)
 
 
+def twice_in(reading, table):
+    """The keys that stand twice in a table of labels."""
+    met = {}
+    for key, label in table:
+        if key in met:
+            yield reading.spot(f"key {key} stands at {reading.paths[met[key].begin]} already", label, b"Key")
+        met.setdefault(key, label)
+
+
 def key_spots(reading):
     for one in reading.maps():
         for table in one.tables:
-            met = {}
-            for key, label in table:
-                if key in met:
-                    yield reading.spot(f"key {key} stands at {reading.paths[met[key].begin]} already", label, b"Key")
-                met.setdefault(key, label)
+            yield from twice_in(reading, table)
 
 
 def labels_spots(reading):

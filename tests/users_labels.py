@@ -7,6 +7,9 @@ import pathlib
 import struct
 
 import dzwonolin
+import dzwonolin_why
+import dzwonolin_why_labels
+import gifti_texts
 import stations
 from users_asked import InFolder, asked
 
@@ -99,3 +102,54 @@ class Command(InFolder):
         self.assertIn("NIfTI-2 file and no GIFTI", asked("labels", "examples/station.dscalar.nii")[2])
         self.assertIn("compressed, by gzip", asked("labels", self.write("a.label.gii", b"\x1f\x8b" + bytes(600)))[2])
         self.assertIn("dzwonolin labels", asked("counts", GOOD)[2])
+
+
+# (number, the example with something made something else, line, column, path, what the words hold)
+ARRAY = "GIFTI/DataArray"
+ROWS = [
+    (3, changed(b"<Data>", b"<Data>&"), 15, 11, None, "&amp;"),
+    (3, changed(b"<!DOCTYPE GIFTI", b"<!DOCTYPE GIFTI []"), 2, 1, None, "DOCTYPE"),
+    (4, changed(b'GIFTI Version="1.0"', b'GIFTI Version="1"'), 3, 8, "GIFTI", "must be '1.0'"),
+    (6, changed(b'Arrays="1"', b'Arrays="1" xmlns:xsi="a"'), 3, 45, "GIFTI", "xmlns:xsi, which may not stand here"),
+    (6, changed(b"    <MetaData/>", b"    <MetaData/><CoordinateSystemTransformMatrix/>"), 14, 16,
+     ARRAY + "/CoordinateSystemTransformMatrix", "may not stand here"),
+    (6, changed(b'"RowMajorOrder"', b'"RowMajor"'), 12, 70, ARRAY, "no order of indexing"),
+    (6, changed(b'"LittleEndian"', b'"Little"'), 13, 60, ARRAY, "no order of bytes"),
+    (6, coded("<", b'"x"').replace(b' Endian="x"', b""), 12, 3, ARRAY, "Base64Binary needs"),
+    (6, changed(b"</GIFTI>", b"<MetaData/></GIFTI>").replace(b"  <MetaData>", b"  <!--").replace(b"  </MetaData>", b"-->", 1), 17, 1,
+     "GIFTI/MetaData", "stands behind DataArray"),
+    (29, changed(b'"ASCII"', b'"GZipBase64Binary"'), 13, 43, ARRAY, "only ASCII and Base64Binary is read"),
+    (29, changed(b"INT32", b"FLOAT32"), 12, 42, ARRAY, "only NIFTI_TYPE_INT32"),
+    (7, changed(b"1 0 0 5 5", b"1 0 x 5 5"), 15, 29, ARRAY + "/Data", "'x'"),
+    (7, coded("<", b'"LittleEndian"').replace(b"AA</Data>", b"A</Data>"), 15, 5, ARRAY + "/Data", "Base64"),
+    (7, changed(b'Dim0="12"', b'Dim0="0"'), 13, 33, ARRAY, "from 1 to 1048576"),
+    (9, changed(b'Arrays="1"', b'Arrays="3"'), 3, 22, "GIFTI", "is 3, and there are 1"),
+    (24, changed(b'Key="5"', b'Key="01"'), 10, 12, "GIFTI/LabelTable/Label[3]", "key 1 stands at GIFTI/LabelTable/Label[2] already"),
+    (30, changed(b'Dim0="12"', b'Dim0="13"'), 13, 33, ARRAY, "Dim0 is 13, and it lists 12 numbers"),
+    (30, coded("<", b'"LittleEndian"').replace(b'"12"', b'"11"'), 13, 33, ARRAY, "it holds 48 bytes"),
+    (31, changed(b'Key="5"', b'Key="6"'), 15, 19, ARRAY + "/Data", "no Label has key 5, which stands at place 4, and 5 times in all"),
+]
+
+
+class Why(InFolder):
+    def test_each(self):
+        for number, text, line, column, path, words in ROWS:
+            with self.subTest(number=number, words=words):
+                self.assertEqual(dzwonolin.gifti_keys(text, 0)[0], number)
+                reading, spots = dzwonolin_why_labels.explained(text)
+                self.assertEqual(reading, number)
+                self.assertIn(words, spots[0].words)
+                self.assertEqual((*dzwonolin_why.line_and_column(text, spots[0].place), spots[0].path), (line, column, path))
+
+    def test_files_from_a_seed_are_explained(self):
+        for number in range(200):
+            text = gifti_texts.case(7, number).text
+            reading, spots = dzwonolin_why_labels.explained(text)
+            self.assertEqual((reading, bool(spots)), (dzwonolin.gifti_keys(text, 0)[0], bool(reading)))
+            self.assertTrue(all(spot.words for spot in spots))
+
+    def test_the_command(self):
+        self.assertEqual(asked("why", GOOD), (0, "accepted: no rule is broken\n", ""))
+        status, out, _ = asked("why", self.write("bad.label.gii", changed(b'Key="5"', b'Key="6"')))
+        self.assertEqual((status, out.splitlines()[0]), (1, f"refused 31: {dzwonolin.reason(31)}"))
+        self.assertIn("line 15, column 19 of the text: GIFTI/DataArray/Data: no Label has key 5", " ".join(out.split()))
