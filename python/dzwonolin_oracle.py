@@ -174,6 +174,36 @@ def map_names(text, lengths, dimension, room):
         return refusal.number, []
 
 
+def label_table(text, lengths, dimension, index):
+    """(key, Label) of each Label of that map's table; 1 to 9, 24, 25, 18."""
+    maps = maps_of(text, lengths)
+    check_labels(maps)
+    refuse_if(18, not 0 <= dimension < len(lengths))
+    one = next(m for m in maps if dimension in m.applies)
+    refuse_if(18, one.kind != "labels" or not 0 <= index < one.length)
+    return one.tables[index]
+
+
+def label_keys(text, lengths, dimension, index, room):
+    """(number, the keys of that table), with room for so many."""
+    try:
+        keys = [key for key, _ in label_table(text, lengths, dimension, index)]
+        refuse_if(17, room < len(keys))
+        return 0, keys
+    except Refused as refusal:
+        return refusal.number, []
+
+
+def label_name_place(text, lengths, dimension, index, key):
+    """(number, start and length in the text of what stands between the tags of the Label of a key)."""
+    try:
+        found = [label for one, label in label_table(text, lengths, dimension, index) if one == key]
+        refuse_if(19, not found)
+        return 0, found[0].begin, found[0].end - found[0].begin
+    except Refused as refusal:
+        return refusal.number, 0, 0
+
+
 def find(records, number):
     """(0, the first place) or (19, 0)."""
     for place, record in enumerate(records):

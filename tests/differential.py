@@ -123,6 +123,29 @@ class Comparison:
         fine = fine and names[0] == (0 if wanted == 17 else wanted)
         self.check(f"{name}: all names of {dimension}: {got}, wanted {wanted}", fine)
 
+    def labels(self, rng, name, text, lengths):
+        """dz_label_keys and dz_label_name with marked slices, and the module's label_keys and label_name."""
+        for dimension, index in texts.questions(rng, lengths):
+            known = oracle.label_keys(text, lengths, dimension, index, 1 << 32)[1]
+            self.label_keys(rng, name, text, lengths, dimension, index, max(0, len(known) + rng.choice([0, 0, 1, 5, -1])))
+            for key in [rng.choice(known or [0]), rng.choice([0, -1, 41, 2 ** 31 - 1, -2 ** 31])]:
+                wanted = oracle.label_name_place(text, lengths, dimension, index, key)
+                part, size = Lent(rng, rng.choice([2, 2, 3, 1, 0])), dzwonolin._numbers(lengths)
+                got = dzwonolin._library().dz_label_name(text, len(text), size, len(size), dimension, index, key, part.slice, part.length)
+                fine = got == wanted[0] and part.holds(wanted[1:] if part.length >= 2 else [])
+                told = dzwonolin.label_name(text, lengths, dimension, index, key)
+                fine = fine and told == (wanted[0], text[wanted[1]:wanted[1] + wanted[2]])
+                self.check(f"{name}: label name {dimension}, {index}, {key}: {got}, wanted {wanted[0]}", fine)
+
+    def label_keys(self, rng, name, text, lengths, dimension, index, room):
+        wanted, told = oracle.label_keys(text, lengths, dimension, index, room)
+        keys, count = Lent(rng, room, ctypes.c_int32), Lent(rng, rng.choice([1, 1, 2, 0]))
+        got = dzwonolin.call_label_keys(text, dzwonolin._numbers(lengths), dimension, index, keys.slice, count.slice)
+        fine = got == wanted and keys.holds(told) and count.holds([len(told)][:count.length])
+        if wanted != 17:
+            fine = fine and dzwonolin.label_keys(text, lengths, dimension, index) == (wanted, told)
+        self.check(f"{name}: label keys {dimension}, {index}: {got}, wanted {wanted}", fine)
+
     def gifti_keys(self, seed, number):
         """A GIFTI label file from the seed."""
         case = gifti_texts.case(seed, number)
@@ -189,6 +212,8 @@ class Comparison:
         wanted = self.read(rng, name, case.text, case.lengths, case.records_room, case.work_room)
         if number % 4 == 0:
             self.map_names(rng, name, case.text, case.lengths)
+        if number % 8 == 0 or number % 2 == 0 and b"LabelTable" in case.text:
+            self.labels(rng, name, case.text, case.lengths)
         if number % 8 == 0 or wanted.records and len(wanted.records) < 5000:
             self.find(rng, name, wanted.records)
         if wanted.records and len(wanted.records) < 5000:

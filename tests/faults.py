@@ -155,6 +155,11 @@ def names_from_one(o):
     o.map_names = names
 
 
+def first_table_only(o):
+    whole = o.label_table
+    o.label_table = lambda text, lengths, dimension, index: whole(text, lengths, dimension, index and 0)
+
+
 # ---- CDATA and DOCTYPE
 
 def last_end(o):
@@ -266,7 +271,7 @@ ON_LABELS = [coded_as_python_has_it, letters_of_urls, endian_exchanged, first_ar
 FAULTS = [only_refuses, no_records, fills_in_text_order, counts_by_sum, decodes_twice, voxels_by_structure,
           first_model_only, first_map_only, room_last, signs_in_wholes, seven_before_six, depth_seventeen, long_names,
           overlong_utf8, comment_parts_numbers, power_dropped, written_power_only, limit_off_by_one, name_past_nine,
-          names_from_one] + ON_MARKUP + ON_LABELS
+          names_from_one, first_table_only] + ON_MARKUP + ON_LABELS
 # Shown by few texts: tried where there are so many.
 RARE = {limit_off_by_one: 3000}
 

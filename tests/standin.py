@@ -54,9 +54,28 @@ def dz_map_names(text, text_len, lengths, lengths_len, dimension, places, places
     return number
 
 
+def keys_at(pointer, length):
+    """The lent slice of keys at a pointer."""
+    return (ctypes.c_int32 * length).from_address(pointer) if length else []
+
+
+def dz_label_keys(text, text_len, lengths, lengths_len, dimension, index, keys, keys_len, count, count_len):
+    number, told = oracle.label_keys(ctypes.string_at(text, text_len), list(numbers(lengths, lengths_len)), dimension, index, keys_len)
+    store(keys_at(keys, keys_len), told)
+    store(numbers(count, count_len), [len(told)])
+    return number
+
+
+def dz_label_name(text, text_len, lengths, lengths_len, dimension, index, key, part, part_len):
+    number, start, length = oracle.label_name_place(
+        ctypes.string_at(text, text_len), list(numbers(lengths, lengths_len)), dimension, index, key)
+    store(numbers(part, part_len), [start, length])
+    return number
+
+
 def dz_gifti_keys(text, text_len, array, keys, keys_len, count, count_len):
     number, told = gifti.gifti_keys(ctypes.string_at(text, text_len), array, keys_len)
-    store((ctypes.c_int32 * keys_len).from_address(keys) if keys_len else [], told)
+    store(keys_at(keys, keys_len), told)
     store(numbers(count, count_len), [len(told)])
     return number
 
@@ -85,7 +104,7 @@ class Library:
     """Has these functions, each behind a C function pointer."""
 
     def __init__(self, signatures):
-        for function in (dz_read, dz_map_name, dz_map_names, dz_gifti_keys, dz_find, dz_pack, dz_unpack):
+        for function in (dz_read, dz_map_name, dz_map_names, dz_label_keys, dz_label_name, dz_gifti_keys, dz_find, dz_pack, dz_unpack):
             kind = ctypes.CFUNCTYPE(ctypes.c_uint64, *signatures[function.__name__])
             callback = kind(function)
             setattr(self, function.__name__ + "_kept", callback)
