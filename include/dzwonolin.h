@@ -1,4 +1,4 @@
-/* Dzwonolin: a proved reader of CIFTI-2 headers, from C.
+/* Dzwonolin: a proved reader of CIFTI-2 headers, and of GIFTI label files, from C.
 
    Nothing here allocates, keeps state or calls the system. All memory is lent by the caller: each slice is
    a pointer and the number of its elements. Slices lent for writing overlap no other slice of the call. The
