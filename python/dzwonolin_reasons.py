@@ -55,7 +55,7 @@ WHAT_TO_DO = {
     7: "Look for signs, blanks beside commas, more than seven digits, and a transformation whose last row is not 0 0 "
         "0 1. The sender's program must write the number as CIFTI-2 says. Base64 is malformed where a letter is of "
         "another alphabet, where padding is missing, too much or followed by more, and where the bits that are left "
-        "over are not 0.",
+        "over are not 0. Colours of more than 15 digits are to be rounded (README).",
     8: "Each dimension of the matrix needs exactly one map. Look at AppliesToMatrixDimension of the maps, and, if you "
         "typed the lengths, whether there are as many as the matrix has.",
     9: "The header and the matrix do not belong together, or the lengths were typed in the wrong order. Of a GIFTI "
