@@ -3,3 +3,4 @@ pub mod Lists
 pub mod Sides
 pub mod AllNames
 pub mod Labels
+pub mod Gifti

@@ -3,4 +3,5 @@ pub mod Lists
 pub mod Sides
 pub mod AllNames
 pub mod Labels
+pub mod Gifti
 pub mod Laws

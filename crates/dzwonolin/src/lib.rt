@@ -3,6 +3,8 @@
 mod names;
 // Labels.
 mod labels;
+// GIFTI label files.
+mod gifti;
 
 use flat::tell_answer;
 use flat::tell_one;
