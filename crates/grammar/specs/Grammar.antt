@@ -1,5 +1,5 @@
 -- THE GRAMMAR: `Writes e s` says that the bytes `s` may write the document whose root is `e`. It is a relation, production by production;
--- `_⊹_` is one text after another. Nothing here reads: no production looks at what stands behind it, but for the one on `]]>` and for a
+-- `_⊹_` is one text after another. Nothing here reads: no production looks at what stands behind it, but for those on `]]>` and for a
 -- carriage return, which is no end of a line by itself where a line feed stands right behind it (`parted`).
 use mathlib.Core.Path.{_≡_, refl}
 use mathlib.Core.Logic.{_≢_}
@@ -8,7 +8,7 @@ use Prim.Native.Nat.{ℕ, suc, _≤_}
 use mathlib.Core.Bool.{Bool, true, false}
 use lib.Dec.{eqb}
 use lib.ListN.{length}
-use Rattle.grammar.specs.Bytes.{_⊹_, ascii, blank, nameStart, nameByte, quote, special, Each, Sequence, Row, begins, parted}
+use Rattle.grammar.specs.Bytes.{_⊹_, ascii, blank, nameStart, nameByte, quote, special, Each, Sequence, Row, begins, parted, closed, skipped}
 use Rattle.grammar.specs.Characters.{Character}
 use Rattle.grammar.specs.Document.{Attribute, attribute, Element, element, Contents, nothing, child, run, merged, together}
 
@@ -83,6 +83,15 @@ pub data Remark : List ℕ → List ℕ → Type 0 where
 pub data Comment : List ℕ → Type 0 where
   comment : {bs : List (List ℕ)} {w : List ℕ} → Sequence Remark bs w → Comment (ascii "<!--" ⊹ w ⊹ ascii "-->")
 
+-- A character of CDATA, as it is read and as it is written.
+pub data DataCharacter : List ℕ → List ℕ → Type 0 where
+  literal : {a : ℕ} {w : List ℕ} → Character a w → eqb a 13 ≡ false → DataCharacter (a ∷ w) (a ∷ w)
+  line-end : {w : List ℕ} → LineEnd w → DataCharacter (ascii "\n") w
+
+-- CDATA: what it reads as, and how it is written. `]]>` stands nowhere among its characters.
+pub data CData : List ℕ → List ℕ → Type 0 where
+  cdata : {bs : List (List ℕ)} {w : List ℕ} → Row DataCharacter closed bs w → CData (together bs) (ascii "<![CDATA[" ⊹ w ⊹ ascii "]]>")
+
 mutual
   -- An element that holds elements at most so deep, itself counted.
   pub data WritesElement : ℕ → Element → List ℕ → Type 0 where
@@ -93,12 +102,13 @@ mutual
         → Name n → Attributes l t → Each blank u
         → WritesElement (suc d) (element n l nothing []) (ascii "<" ⊹ n ⊹ t ⊹ u ⊹ ascii "/>")
 
-  -- Contents. A comment writes nothing, and parts no run. The bytes `]]>` stand nowhere in text.
+  -- Contents. A comment writes nothing; comments and CDATA part no run. The bytes `]]>` stand nowhere in text.
   pub data WritesContents : ℕ → Contents → List ℕ → Type 0 where
     none : {d : ℕ} → WritesContents d nothing []
     remark : {d : ℕ} {c : Contents} {w s : List ℕ} → Comment w → WritesContents d c s → WritesContents d c (w ⊹ s)
     character : {d : ℕ} {c : Contents} {b w s : List ℕ} → TextCharacter b w → parted w s ≡ false → begins (ascii "]]>") (w ⊹ s) ≡ false
         → WritesContents d c s → WritesContents d (merged b c) (w ⊹ s)
+    marked : {d : ℕ} {c : Contents} {b w s : List ℕ} → CData b w → WritesContents d c s → WritesContents d (merged b c) (w ⊹ s)
     inner : {d : ℕ} {e : Element} {c : Contents} {w s : List ℕ} → WritesElement d e w → WritesContents d c s
         → WritesContents d (child e c) (w ⊹ s)
 
@@ -122,7 +132,19 @@ pub data Aside : List ℕ → List ℕ → Type 0 where
   blank-aside : {a : ℕ} → blank a ≡ true → Aside [] (a ∷ [])
   comment-aside : {w : List ℕ} → Comment w → Aside [] w
 
+-- A character that a DOCTYPE passes over.
+pub data Skipped : List ℕ → List ℕ → Type 0 where
+  skip : {a : ℕ} {w : List ℕ} → Character a w → skipped a ≡ true → Skipped [] (a ∷ w)
+
+pub data Doctype : List ℕ → Type 0 where
+  doctype : {bs : List (List ℕ)} {w : List ℕ} → Sequence Skipped bs w → Doctype (ascii "<!DOCTYPE" ⊹ w ⊹ ascii ">")
+
+-- What stands between the declaration and the root: blanks and comments, and at most one DOCTYPE among them.
+pub data Prologue : List ℕ → Type 0 where
+  untyped : {bs : List (List ℕ)} {u : List ℕ} → Sequence Aside bs u → Prologue u
+  typed : {bs cs : List (List ℕ)} {u x v : List ℕ} → Sequence Aside bs u → Doctype x → Sequence Aside cs v → Prologue (u ⊹ x ⊹ v)
+
 -- A document, its elements at most 16 deep.
 pub data Writes : Element → List ℕ → Type 0 where
-  document : {p u w v : List ℕ} {bs cs : List (List ℕ)} {e : Element}
-      → Declaration p → Sequence Aside bs u → WritesElement 16 e w → Sequence Aside cs v → Writes e (p ⊹ u ⊹ w ⊹ v)
+  document : {p u w v : List ℕ} {cs : List (List ℕ)} {e : Element}
+      → Declaration p → Prologue u → WritesElement 16 e w → Sequence Aside cs v → Writes e (p ⊹ u ⊹ w ⊹ v)

@@ -1,7 +1,9 @@
 pub mod Sound
+pub mod SoundElements
 pub mod Facts
 pub mod Others
 pub mod Tokens
+pub mod Data
 pub mod Complete
 pub mod Classes
 pub mod Theorems

@@ -8,7 +8,7 @@ use Prim.Native.Nat.{ℕ, zero, suc}
 use mathlib.Core.Bool.{Bool, true, false, _&&_, _||_, not}
 use lib.Dec.{eqb, leb}
 use lib.ListN.{length}
-use Rattle.grammar.specs.Bytes.{ascii, blank, nameStart, nameByte, quote, special, begins, letter}
+use Rattle.grammar.specs.Bytes.{ascii, blank, nameStart, nameByte, quote, special, begins, letter, skipped}
 unfoldable pub use Rattle.grammar.specs.Bytes.{same}
 use Rattle.grammar.specs.Characters.{lead1, lead2, lead3, lead4, continues, noncharacter}
 use Rattle.grammar.specs.Document.{Attribute, attribute, Element, element, Contents, nothing, child, merged, together}
@@ -186,18 +186,40 @@ comment-at = do
   all-of (begins (ascii "--")) remark-at
   mark (ascii "-->")
 
+unfoldable pub data-byte : ℕ → Bool
+data-byte a = not (eqb a 13)
+
+unfoldable pub data-character-at : Reader (List ℕ)
+data-character-at s = alt (line-end-at (ascii "\n") s) (literal-at data-byte s)
+
+unfoldable pub data-at : Reader (List ℕ)
+data-at = do
+  mark (ascii "<![CDATA[")
+  bs ← all-of (begins (ascii "]]>")) data-character-at
+  mark (ascii "]]>")
+  pure (together bs)
+
 -- what stands at the front of contents
 pub data Look : Type 0 where
-  at-close at-comment at-element at-text : Look
+  at-close at-comment at-data at-element at-text : Look
 
-unfoldable pub look-by : Bool → Bool → Look
-look-by true t = at-close
-look-by false true = at-comment
-look-by false false = at-element
+-- behind `<!`
+unfoldable pub look-third : Bool → Look
+look-third true = at-data
+look-third false = at-comment
+
+unfoldable pub look₃ : List ℕ → Look
+look₃ [] = at-comment
+look₃ (b ∷ s) = look-third (eqb b 91)
+
+unfoldable pub look-by : Bool → Bool → Look → Look
+look-by true t l = at-close
+look-by false true l = l
+look-by false false l = at-element
 
 unfoldable pub look₂ : List ℕ → Look
 look₂ [] = at-element
-look₂ (b ∷ s) = look-by (eqb b 47) (eqb b 33)
+look₂ (b ∷ s) = look-by (eqb b 47) (eqb b 33) (look₃ s)
 
 unfoldable pub look-if : Bool → Look → Look
 look-if true l = l
@@ -237,6 +259,10 @@ contents-by more d at-close = pure nothing
 contents-by more d at-comment = do
   comment-at
   more d
+contents-by more d at-data = do
+  b ← data-at
+  c ← more d
+  pure (merged b c)
 contents-by more d at-element = do
   e ← element-at more d
   c ← more d
@@ -294,7 +320,30 @@ unfoldable pub aside-at : Reader (List ℕ)
 aside-at s = alt (blank-at s) (remarked-at s)
 
 unfoldable pub no-aside : List ℕ → Bool
-no-aside s = stops blank s && not (begins (ascii "<!") s)
+no-aside s = stops blank s && not (begins (ascii "<!-") s)
+
+unfoldable pub skipped-at : Reader (List ℕ)
+skipped-at = do
+  literal-at skipped
+  pure []
+
+unfoldable pub doctype-at : Reader (Unit {0})
+doctype-at = do
+  mark (ascii "<!DOCTYPE")
+  all-of (begins (ascii ">")) skipped-at
+  mark (ascii ">")
+
+unfoldable pub doctype-if : Bool → Reader (Unit {0})
+doctype-if false = pure tt
+doctype-if true = do
+  doctype-at
+  all-of no-aside aside-at
+  pure tt
+
+unfoldable pub prologue-at : Reader (Unit {0})
+prologue-at = do
+  all-of no-aside aside-at
+  λ s. doctype-if (begins (ascii "<!D") s) s
 
 unfoldable pub end-at : Reader (Unit {0})
 end-at [] = got tt []
@@ -303,7 +352,7 @@ end-at (a ∷ s) = fail
 unfoldable pub document-at : ℕ → Reader Element
 document-at n = do
   declaration-at
-  all-of no-aside aside-at
+  prologue-at
   e ← element-at (contents-at n) 16
   all-of no-aside aside-at
   end-at
@@ -320,8 +369,9 @@ parse s = answer (document-at (length s) s)
 unfoldable pub computing : List ℕ → Option Element
 unfolding name-at gap-at equals-at width-by width rest-by rest-at literal-at standsFor reference-at feed-if feed-at line-end-at text-byte
     text-at spacing space-at value-byte value-character-at value-at attribute-at ends closing same absent distinct attributes-at no-dash
-    plain-at dashed-at remark-at comment-at look-by look₂ look-if look empty-at full-at element-at contents-by contents-at setting-at
-    asking encoding-if declaration-if declaration-at blank-at remarked-at aside-at no-aside end-at document-at answer parse bind test
-    mark byte span stops alt many-step many all-of seen before blank letter nameStart nameByte quote special begins lead1 continues
-    lead2 lead3 lead4 noncharacter merged
+    plain-at dashed-at remark-at comment-at data-byte data-character-at data-at look-third look₃ look-by look₂ look-if look empty-at
+    full-at element-at contents-by contents-at setting-at asking encoding-if declaration-if declaration-at blank-at remarked-at aside-at
+    no-aside skipped-at doctype-at doctype-if prologue-at end-at document-at answer parse bind test mark byte span stops alt many-step
+    many all-of seen before blank letter nameStart nameByte quote special begins skipped lead1 continues lead2 lead3 lead4 noncharacter
+    merged
 computing s = parse s

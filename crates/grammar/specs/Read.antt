@@ -242,7 +242,7 @@ pub record RowItem {A : Type 0} (P : A → List ℕ → Type 0) (wrong : List �
   pub reads : {a : A} {w : List ℕ} → P a w → (r : List ℕ) → wrong w r ≡ false → p (w ++ r) ≡ got a r
   pub goes : {a : A} {w : List ℕ} → P a w → (r : List ℕ) → wrong w r ≡ false → stop (w ++ r) ≡ false
   pub long : {a : A} {w : List ℕ} → P a w → 0 < length w
-  pub apart : (w x : List ℕ) → wrong w x ≡ false → wrong w (x ++ end) ≡ false
+  pub apart : {a : A} {w : List ℕ} → P a w → (x : List ℕ) → wrong w x ≡ false → wrong w (x ++ end) ≡ false
   pub stops-there : stop end ≡ true
 
 module _ {A : Type 0} {P : A → List ℕ → Type 0} {wrong : List ℕ → List ℕ → Bool} {stop : List ℕ → Bool} {p : Reader A} {end : List ℕ}
@@ -253,7 +253,7 @@ module _ {A : Type 0} {P : A → List ℕ → Type 0} {wrong : List ℕ → List
   row-many-complete (and-more {a} {l} {w} {s} k e t) n h =
       with-fuel (λ n. many stop p n ((w ++ s) ++ end) ≡ got (a ∷ l) end) (length (w ++ s)) n h λ m hm.
       let fits : length s < m = omega (arith, item .long k, length-append w s) in
-      let f = item .apart w s e in
+      let f = item .apart k s e in
       rw (append-assoc w s, many-suc, item .goes k (s ++ end) f, item .reads k (s ++ end) f, row-many-complete t m fits)
 
   pub row-complete : {l : List A} {w : List ℕ} → Row P wrong l w → all-of stop p (w ++ end) ≡ got l end

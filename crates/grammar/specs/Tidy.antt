@@ -1,16 +1,16 @@
 -- What a text writes is tidy: no run is empty, no two stand side by side, each name is a name, each tag's attributes have distinct names,
 -- 16 at most, and no run and no value holds a carriage return.
 use mathlib.Core.Path.{_≡_, refl}
-use mathlib.Core.Bool.{false}
+use mathlib.Core.Bool.{Bool, false}
 use native.Mathlib.Omega.{arith}
 use lib.Dec.{eqb}
 use mathlib.Core.List.{List, [], _∷_, _++_}
 use Prim.Native.Nat.{ℕ, suc, _≤_, _<_}
 use lib.ListN.{length}
-use Rattle.grammar.specs.Bytes.{Each, no-byte, a-byte, blank, Sequence, no-more, one-more, Row, none-more, and-more, parted}
+use Rattle.grammar.specs.Bytes.{Each, no-byte, a-byte, blank, Sequence, no-more, one-more, Row, none-more, and-more}
 use Rattle.grammar.specs.Document.{Attribute, attribute, Element, element, Contents, nothing, child, run, merged, together}
 use Rattle.grammar.specs.Grammar
-use Rattle.grammar.specs.Grammar.{Name, Reference, TextCharacter, ValueCharacter, Value, WritesAttribute, Distinct, Attributes}
+use Rattle.grammar.specs.Grammar.{Name, Reference, TextCharacter, ValueCharacter, Value, DataCharacter, CData, WritesAttribute, Distinct, Attributes}
 use Rattle.grammar.specs.Grammar.{WritesElement, WritesContents, Writes}
 use Rattle.grammar.specs.Laws.Facts.{no-return}
 use Rattle.grammar.specs.Laws.Others.{other, character-other}
@@ -39,21 +39,6 @@ mutual
     tidy-child : {d : ℕ} {e : Element} {c : Contents} → TidyElement d e → Tidy d c → Tidy d (child e c)
     tidy-run : {d : ℕ} {a : ℕ} {w : List ℕ} {c : Contents} → NoRun c → NoReturn (a ∷ w) → Tidy d c → Tidy d (run (a ∷ w) c)
 
-data Filled : List ℕ → Type 0 where
-  filled : {a : ℕ} {w : List ℕ} → Filled (a ∷ w)
-
-reference-filled : {b w : List ℕ} → Reference b w → Filled b
-reference-filled Grammar.amp = filled
-reference-filled Grammar.lt = filled
-reference-filled Grammar.gt = filled
-reference-filled Grammar.quot = filled
-reference-filled Grammar.apos = filled
-
-text-filled : {b w : List ℕ} → TextCharacter b w → Filled b
-text-filled (TextCharacter.literal h e f) = filled
-text-filled (TextCharacter.line-end k) = filled
-text-filled (TextCharacter.reference k) = reference-filled k
-
 -- what each character reads as holds no return
 reference-clean : {b w : List ℕ} → Reference b w → NoReturn b
 unfolding other
@@ -80,22 +65,32 @@ both-clean : {b w : List ℕ} → NoReturn b → NoReturn w → NoReturn (b ++ w
 both-clean no-byte k = k
 both-clean (a-byte e h) k = a-byte e (both-clean h k)
 
-row-clean : {q : ℕ} {bs : List (List ℕ)} {w : List ℕ} → Row (ValueCharacter q) parted bs w → NoReturn (together bs)
-row-clean none-more = no-byte
-row-clean (and-more h e t) = both-clean (value-clean h) (row-clean t)
+data-character-clean : {b w : List ℕ} → DataCharacter b w → NoReturn b
+unfolding other
+data-character-clean (DataCharacter.literal h e) = character-other 13 (omega arith) h e
+data-character-clean (DataCharacter.line-end k) = a-byte refl no-byte
+
+row-clean : {P : List ℕ → List ℕ → Type 0} {wrong : List ℕ → List ℕ → Bool} → ((b w : List ℕ) → P b w → NoReturn b)
+    → {bs : List (List ℕ)} {w : List ℕ} → Row P wrong bs w → NoReturn (together bs)
+row-clean clean none-more = no-byte
+row-clean clean (and-more h e t) = both-clean (clean _ _ h) (row-clean clean t)
 
 written-clean : {v w : List ℕ} → Value v w → NoReturn v
-written-clean (Grammar.value q h t) = row-clean t
+written-clean (Grammar.value q h t) = row-clean (λ b w k. value-clean k) t
+
+data-clean : {b w : List ℕ} → CData b w → NoReturn b
+data-clean (Grammar.cdata t) = row-clean (λ b w k. data-character-clean k) t
 
 attributes-clean : {l : List Attribute} {w : List ℕ} → Sequence WritesAttribute l w → NoReturns l
 attributes-clean no-more = no-value
 attributes-clean (one-more (Grammar.written u n e v) t) = a-value (written-clean v) (attributes-clean t)
 
-joined-tidy : {d : ℕ} {b : List ℕ} {c : Contents} → Filled b → NoReturn b → Tidy d c → Tidy d (merged b c)
+merged-tidy : {d : ℕ} {b : List ℕ} {c : Contents} → NoReturn b → Tidy d c → Tidy d (merged b c)
 unfolding merged
-joined-tidy filled n tidy-nothing = tidy-run no-contents n tidy-nothing
-joined-tidy filled n (tidy-child h k) = tidy-run no-run n (tidy-child h k)
-joined-tidy filled n (tidy-run h m k) = tidy-run h (both-clean n m) k
+merged-tidy no-byte k = k
+merged-tidy (a-byte e n) tidy-nothing = tidy-run no-contents (a-byte e n) tidy-nothing
+merged-tidy (a-byte e n) (tidy-child h k) = tidy-run no-run (a-byte e n) (tidy-child h k)
+merged-tidy (a-byte e n) (tidy-run h m k) = tidy-run h (both-clean (a-byte e n) m) k
 
 tidy-tag : {d : ℕ} {n t : List ℕ} {l : List Attribute} {c : Contents} {k : List ℕ} → Name n → Attributes l t → Tidy d c
     → TidyElement (suc d) (element n l c k)
@@ -107,7 +102,8 @@ element-tidy t = elim t as (λ d e w _. TidyElement d e) (λ d c w _. Tidy d c) 
   | Grammar.empty nm at hu ↦ tidy-tag nm at tidy-nothing
   | Grammar.none ↦ tidy-nothing
   | Grammar.remark k (t → ih) ↦ ih
-  | Grammar.character k p e (t → ih) ↦ joined-tidy (text-filled k) (text-clean k) ih
+  | Grammar.character k p e (t → ih) ↦ merged-tidy (text-clean k) ih
+  | Grammar.marked k (t → ih) ↦ merged-tidy (data-clean k) ih
   | Grammar.inner (k → ih₁) (t → ih₂) ↦ tidy-child ih₁ ih₂
 ]
 

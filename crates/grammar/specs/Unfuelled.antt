@@ -10,11 +10,12 @@ use Rattle.grammar.specs.Document.{Attribute, Element, element, Contents
 use Rattle.grammar.specs.Grammar.{WritesElement, WritesContents}
 use Rattle.grammar.specs.Read.{Read, fail, got, Reader, bind, test, mark, seen, alt, many, many-step, many-suc, all-of, Ok, failed}
 use Rattle.grammar.specs.Read.{good, ok-map, Takes, mark-sound, span-sound, test-sound}
-use Rattle.grammar.specs.Parser.{Look, at-close, at-comment, at-element, at-text, look, comment-at, text-at, name-at, attributes-at}
-use Rattle.grammar.specs.Parser.{empty-at, full-at, element-at, contents-by, contents-at}
-use Rattle.grammar.specs.Laws.Sound.{name-sound, attributes-sound, comment-sound, text-sound, element-sound, contents-sound}
+use Rattle.grammar.specs.Parser.{Look, at-close, at-comment, at-data, at-element, at-text, look, comment-at, text-at, name-at}
+use Rattle.grammar.specs.Parser.{attributes-at, empty-at, full-at, element-at, contents-by, contents-at}
+use Rattle.grammar.specs.Laws.Sound.{name-sound, attributes-sound, comment-sound, data-sound, text-sound}
+use Rattle.grammar.specs.Laws.SoundElements.{element-sound, contents-sound}
 use Rattle.grammar.specs.Laws.Tokens.{text-long}
-use Rattle.grammar.specs.Laws.Complete.{comment-long, contents-suc, element-long}
+use Rattle.grammar.specs.Laws.Complete.{comment-long, data-long, contents-suc, element-long}
 
 -- two continuations that agree on what is read
 pub bind-same : {A B : Type 0} {Q : A → List ℕ → Type 0} {m : Read A} (f g : A → List ℕ → Read B) → Ok Q m
@@ -83,6 +84,7 @@ by-same : (f g : ℕ → Reader Contents) (s : List ℕ) → ((d : ℕ) (s : Lis
 unfolding contents-by
 by-same f g s sound k d at-close = refl
 by-same f g s sound k d at-comment = bind-same _ _ (less (λ _ w h. comment-long h) (comment-sound s)) λ _ r h. k d r h
+by-same f g s sound k d at-data = bind-same _ _ (less (λ b w h. data-long h) (data-sound s)) λ b r h. rw (k d r h)
 by-same f g s sound k d at-element =
     rw (element-same f g s k d) (bind-same _ _ (less (λ e w h. element-long h) (element-sound g sound d s)) λ e r h. rw (k d r h))
 by-same f g s sound k d at-text =

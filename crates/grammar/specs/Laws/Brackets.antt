@@ -1,5 +1,5 @@
--- `]]>` in the paper's words: the three bytes stand nowhere in text. Contents are comments, elements, and stretches of characters between
--- them; the grammar's productions, which look at what stands behind each character, say the same.
+-- `]]>` in the paper's words: the three bytes stand nowhere in text. Contents are comments, CDATA, elements, and stretches of characters
+-- between them; the grammar's productions, which look at what stands behind each character, say the same.
 use mathlib.Core.Path.{_≡_, refl, subst}
 use mathlib.Core.Logic.{_↔_}
 use mathlib.Core.List.{List, [], _∷_, _++_, append-assoc, append-nil}
@@ -10,7 +10,7 @@ use lib.Dec.{eqb}
 use Rattle.grammar.specs.Bytes.{_⊹_, ascii, Row, none-more, and-more, begins, parted}
 use Rattle.grammar.specs.Document.{Contents, nothing, child, merged, Element}
 use Rattle.grammar.specs.Grammar
-use Rattle.grammar.specs.Grammar.{TextCharacter, Comment, WritesElement, WritesContents}
+use Rattle.grammar.specs.Grammar.{TextCharacter, Comment, CData, WritesElement, WritesContents}
 use Rattle.grammar.specs.Laws.Words.{Nowhere, nowhere-end, nowhere-more, nowhere-first, nowhere-drop, tail-past}
 use Rattle.grammar.specs.Laws.Tokens.{parted-apart}
 use Rattle.grammar.specs.Laws.Sound.{parted-less}
@@ -31,6 +31,7 @@ pub data Stretched (d : ℕ) : Contents → List ℕ → Type 0 where
   remark : {c : Contents} {w s : List ℕ} → Comment w → Stretched d c s → Stretched d c (w ⊹ s)
   stretch : {c : Contents} {bs : List (List ℕ)} {w s : List ℕ} → Row TextCharacter parted bs w → Nowhere (ascii "]]>") w → Ends s
       → Stretched d c s → Stretched d (runs bs c) (w ⊹ s)
+  marked : {c : Contents} {b w s : List ℕ} → CData b w → Stretched d c s → Stretched d (merged b c) (w ⊹ s)
   inner : {e : Element} {c : Contents} {w s : List ℕ} → WritesElement d e w → Stretched d c s → Stretched d (child e c) (w ⊹ s)
 
 under : (t : Bool) {p q : Bool} → (p ≡ false → q ≡ false) → (t && p) ≡ false → (t && q) ≡ false
@@ -88,6 +89,9 @@ alone {w = w} {s = s} h p f e t =
 comment-ends : {w : List ℕ} (s : List ℕ) → Comment w → Ends (w ++ s)
 comment-ends s (Grammar.comment q) = at-mark
 
+data-ends : {b w : List ℕ} (s : List ℕ) → CData b w → Ends (w ++ s)
+data-ends s (Grammar.cdata q) = at-mark
+
 element-ends : {d : ℕ} {e : Element} {w : List ℕ} (s : List ℕ) → WritesElement d e w → Ends (w ++ s)
 element-ends s (Grammar.full n a b c v) = at-mark
 element-ends s (Grammar.empty n a b) = at-mark
@@ -97,6 +101,7 @@ longer : {d : ℕ} {c : Contents} {b w s : List ℕ} → TextCharacter b w → p
 unfolding runs
 longer h p f none = alone h p f at-end none
 longer h p f (remark {s = s} q t) = alone h p f (comment-ends s q) (remark q t)
+longer h p f (marked {s = s} q t) = alone h p f (data-ends s q) (marked q t)
 longer h p f (inner {s = s} q t) = alone h p f (element-ends s q) (inner q t)
 longer {w = w} h p f (stretch {w = v} {s = s} q n e t) =
     let f₀ : begins (ascii "]]>") (w ++ v) ≡ false = less (ascii "]]>") (w ++ v) s (rw append-assoc f) in
@@ -107,6 +112,7 @@ stretches : {d : ℕ} {c : Contents} {k : List ℕ} → WritesContents d c k →
 stretches Grammar.none = none
 stretches (Grammar.remark q t) = remark q (stretches t)
 stretches (Grammar.character h p f t) = longer h p f (stretches t)
+stretches (Grammar.marked q t) = marked q (stretches t)
 stretches (Grammar.inner q t) = inner q (stretches t)
 
 -- each character of a stretch, with what stands behind it
@@ -141,6 +147,7 @@ writes : {d : ℕ} {c : Contents} {k : List ℕ} → Stretched d c k → WritesC
 writes none = Grammar.none
 writes (remark q t) = Grammar.remark q (writes t)
 writes (stretch q n e t) = characters q n e (writes t)
+writes (marked q t) = Grammar.marked q (writes t)
 writes (inner q t) = Grammar.inner q (writes t)
 
 pub text-words : (d : ℕ) (c : Contents) (k : List ℕ) → WritesContents d c k ↔ Stretched d c k

@@ -7,7 +7,7 @@ use mathlib.Core.Bool.{Bool, true, false, _&&_, _||_, not}
 use lib.Dec.{eqb, leb, ltb}
 use borrow.Author.Tests.{eqb-true, eqb-false}
 use Rattle.lists.specs.Laws.Booleans.{and-left, and-right}
-use Rattle.grammar.specs.Bytes.{ascii, blank, letter, nameStart, nameByte, quote, special}
+use Rattle.grammar.specs.Bytes.{ascii, blank, letter, nameStart, nameByte, quote, special, skipped}
 use Rattle.grammar.specs.Characters.{lead1, lead2, continues}
 
 -- the byte is one of the list
@@ -90,3 +90,8 @@ plainAscii a = ltb a 128 && (oneOf blanks a || not (ltb a 32))
 pub lead1-is : (a : ℕ) → a < 256 → lead1 a ≡ plainAscii a
 unfolding sameClass agree oneOf lead1 blank plainAscii
 lead1-is a h = alike-at lead1 plainAscii 256 refl a h
+
+-- A DOCTYPE holds no `[`, no `]` and no `<`, and `>` ends it.
+pub skipped-is : (a : ℕ) → a < 256 → skipped a ≡ not (oneOf (ascii "[]<>") a)
+unfolding sameClass agree oneOf skipped
+skipped-is a h = alike-at skipped (λ a. not (oneOf (ascii "[]<>") a)) 256 refl a h

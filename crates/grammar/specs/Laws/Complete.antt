@@ -13,8 +13,8 @@ use Rattle.grammar.specs.Bytes.{_⊹_, ascii, blank, nameStart, nameByte
 use Rattle.grammar.specs.Bytes.{no-more, one-more, begins, parted}
 use Rattle.grammar.specs.Document.{Attribute, attribute, Element, element, Contents, nothing, child, merged}
 use Rattle.grammar.specs.Grammar
-use Rattle.grammar.specs.Grammar.{Name, Gap, Equals, Reference, TextCharacter, Attributes, Comment, WritesElement, WritesContents}
-use Rattle.grammar.specs.Grammar.{Setting, Encoding, Declaration, Aside, Writes}
+use Rattle.grammar.specs.Grammar.{Name, Gap, Equals, Reference, TextCharacter, Attributes, Comment, CData, Doctype, Prologue}
+use Rattle.grammar.specs.Grammar.{WritesElement, WritesContents, Setting, Encoding, Declaration, Aside, Writes}
 use Rattle.grammar.specs.Read.{Read, fail, got, Reader, bind, test, mark, byte, span, stops, alt, all-of, test-complete}
 use Rattle.grammar.specs.Read.{mark-complete, mark-other, byte-complete, byte-other, span-complete, Item, all-of-complete}
 use Rattle.grammar.specs.Read.{with-fuel, seen-complete}
@@ -22,10 +22,11 @@ use Rattle.grammar.specs.Laws.Facts.{blank-in, nameStart-in}
 use Rattle.grammar.specs.Laws.Tokens.{name-complete, gap-complete, equals-complete, blanks-end-name, high-no-blank}
 use Rattle.grammar.specs.Laws.Tokens.{quote-ends-blanks, text-complete, text-long, parted-apart, ends-blanks}
 use Rattle.grammar.specs.Laws.Tokens.{attributes-complete, attributes-end-name, comment-complete}
-use Rattle.grammar.specs.Parser.{name-at, attributes-at, ends, closing, comment-at, Look, at-close, at-comment, at-element, at-text}
-use Rattle.grammar.specs.Parser.{look, look₂, look-by, look-if, empty-at, full-at, element-at, contents-by, contents-at, setting-at}
-use Rattle.grammar.specs.Parser.{asking, encoding-if, declaration-if, declaration-at, blank-at, remarked-at, aside-at, no-aside}
-use Rattle.grammar.specs.Parser.{end-at, document-at, answer, parse}
+use Rattle.grammar.specs.Laws.Data.{data-complete, doctype-complete}
+use Rattle.grammar.specs.Parser.{name-at, attributes-at, ends, closing, comment-at, Look, at-close, at-comment, at-data, at-element}
+use Rattle.grammar.specs.Parser.{at-text, look, look₂, look₃, look-third, look-by, look-if, empty-at, full-at, element-at}
+use Rattle.grammar.specs.Parser.{contents-by, contents-at, setting-at, asking, encoding-if, declaration-if, declaration-at}
+use Rattle.grammar.specs.Parser.{blank-at, remarked-at, aside-at, no-aside, doctype-if, prologue-at, end-at, document-at, answer, parse}
 
 -- an element begins with `<` and the first byte of a name
 pub data Opening : List ℕ → Type 0 where
@@ -135,7 +136,7 @@ none-read {d} = record {
 }
 
 pub comment-looks : {w : List ℕ} → Comment w → (r : List ℕ) → look (w ++ r) ≡ at-comment
-unfolding look look₂ look-if look-by
+unfolding look look₂ look₃ look-third look-if look-by
 comment-looks (Grammar.comment t) r = refl
 
 pub comment-long : {w : List ℕ} → Comment w → 0 < length w
@@ -148,6 +149,22 @@ remark-read {d} {c} {w} {s} k ih = record {
       with-fuel (λ n. contents-at n d ((w ++ s) ++ (60 ∷ 47 ∷ r)) ≡ got c (60 ∷ 47 ∷ r)) (length (w ++ s)) n h λ m hm.
       let fits : length s < m = omega (arith, comment-long k, length-append w s) in
       rw (append-assoc w s, contents-suc, comment-looks k, comment-complete k) (ih .reads m fits r);
+}
+
+pub data-looks : {b w : List ℕ} → CData b w → (r : List ℕ) → look (w ++ r) ≡ at-data
+unfolding look look₂ look₃ look-third look-if look-by
+data-looks (Grammar.cdata t) r = refl
+
+pub data-long : {b w : List ℕ} → CData b w → 0 < length w
+data-long (Grammar.cdata t) = omega arith
+
+marked-read : {d : ℕ} {c : Contents} {b w s : List ℕ} → CData b w → ContentsRead d c s → ContentsRead d (merged b c) (w ⊹ s)
+unfolding contents-by bind
+marked-read {d} {c} {b} {w} {s} k ih = record {
+  reads = λ n h r.
+      with-fuel (λ n. contents-at n d ((w ++ s) ++ (60 ∷ 47 ∷ r)) ≡ got (merged b c) (60 ∷ 47 ∷ r)) (length (w ++ s)) n h λ m hm.
+      let fits : length s < m = omega (arith, data-long k, length-append w s) in
+      rw (append-assoc w s, contents-suc, data-looks k, data-complete k, ih .reads m fits r);
 }
 
 text-looks : {b w : List ℕ} → TextCharacter b w → (r : List ℕ) → look (w ++ r) ≡ at-text
@@ -210,6 +227,7 @@ element-read t = elim t as (λ d e w _. ElementRead d e w) (λ d c w _. Contents
   | Grammar.none ↦ none-read
   | Grammar.remark k (t → ih) ↦ remark-read k ih
   | Grammar.character k p e (t → ih) ↦ character-read k p e ih
+  | Grammar.marked k (t → ih) ↦ marked-read k ih
   | Grammar.inner (k → ih₁) (t → ih₂) ↦ inner-read ih₁ ih₂
 ]
 
@@ -320,6 +338,40 @@ none-left : no-aside [] ≡ true
 unfolding no-aside stops begins
 none-left = refl
 
+-- the DOCTYPE
+doctype-ends-asides : {x : List ℕ} → Doctype x → (r : List ℕ) → no-aside (x ++ r) ≡ true
+unfolding no-aside stops begins blank
+doctype-ends-asides (Grammar.doctype t) r = refl
+
+doctype-begins : {x : List ℕ} → Doctype x → (r : List ℕ) → begins (ascii "<!D") (x ++ r) ≡ true
+unfolding begins
+doctype-begins (Grammar.doctype t) r = refl
+
+doctype-no-ask : {x : List ℕ} → Doctype x → (r : List ℕ) → begins (ascii "<?") (x ++ r) ≡ false
+unfolding begins
+doctype-no-ask (Grammar.doctype t) r = refl
+
+opening-no-doctype : {w : List ℕ} → Opening w → (r : List ℕ) → begins (ascii "<!D") (w ++ r) ≡ false
+unfolding begins
+opening-no-doctype (opening a w h) r = rw (nameStart-is-not a 33 h (omega arith))
+
+prologue-complete : {u w : List ℕ} → Prologue u → Opening w → (r : List ℕ) → prologue-at (u ++ (w ++ r)) ≡ got tt (w ++ r)
+unfolding prologue-at doctype-if bind
+prologue-complete {w = w} (Grammar.untyped h) o r =
+    rw (all-of-complete aside-item h (w ++ r) (opening-no-aside o r), opening-no-doctype o r)
+prologue-complete {w = w} (Grammar.typed {u = u} {x} {v} h k t) o r =
+    simp append-assoc (rw (
+      all-of-complete aside-item h (x ++ (v ++ (w ++ r))) (doctype-ends-asides k (v ++ (w ++ r))),
+      doctype-begins k (v ++ (w ++ r)),
+      doctype-complete k (v ++ (w ++ r)),
+      all-of-complete aside-item t (w ++ r) (opening-no-aside o r),
+    ))
+
+prologue-no-ask : {u w : List ℕ} → Prologue u → Opening w → (r : List ℕ) → begins (ascii "<?") (u ++ (w ++ r)) ≡ false
+prologue-no-ask {w = w} (Grammar.untyped h) o r = asides-no-ask h (w ++ r) (opening-no-ask o r)
+prologue-no-ask {w = w} (Grammar.typed {u = u} {x} {v} h k t) o r =
+    simp append-assoc (asides-no-ask h (x ++ (v ++ (w ++ r))) (doctype-no-ask k (v ++ (w ++ r))))
+
 document-complete : {e : Element} {s : List ℕ} → Writes e s → (n : ℕ) → length s ≤ n → document-at n s ≡ got e []
 unfolding document-at bind end-at
 document-complete (Grammar.document {p} {u} {w} {v} {e = e} h₁ h₂ h₃ h₄) n h =
@@ -327,8 +379,8 @@ document-complete (Grammar.document {p} {u} {w} {v} {e = e} h₁ h₂ h₃ h₄)
     let fits : length w ≤ n = omega (arith, simp length-append at h) in
     let last : all-of no-aside aside-at v ≡ got _ [] = rw append-nil at (all-of-complete aside-item h₄ [] none-left) in
     rw (
-      declaration-complete h₁ (u ++ (w ++ v)) (asides-no-ask h₂ (w ++ v) (opening-no-ask (ih .opens) v)),
-      all-of-complete aside-item h₂ (w ++ v) (opening-no-aside (ih .opens) v),
+      declaration-complete h₁ (u ++ (w ++ v)) (prologue-no-ask h₂ (ih .opens) v),
+      prologue-complete h₂ (ih .opens) v,
       ih .reads n fits v,
       last,
     )

@@ -1,35 +1,32 @@
--- What the parser finds, the text writes.
+-- What the readers below elements find, the text writes.
 use mathlib.Core.Path.{_≡_, refl, ap, sym, subst}
 use mathlib.Core.Logic.{_≢_}
 use mathlib.Core.List.{List, [], _∷_, _++_, append-assoc, append-nil}
-use mathlib.Core.Option.{Option, some}
-use mathlib.Core.Option
 use Prim.Native.Nat.{ℕ, zero, suc, _+_, _≤_, _<_}
 use mathlib.Core.Bool.{Bool, true, false, _&&_, _||_, not}
 use lib.Dec.{eqb, leb}
 use lib.ListN.{length, length-append}
 use borrow.Author.Tests.{leb-true, eq-eqb, eqb-true, not-true}
-use Rattle.lists.specs.Laws.Booleans.{and-left, and-right, clash}
+use Rattle.lists.specs.Laws.Booleans.{and-left, and-right, or-left, or-right, clash}
 use Rattle.grammar.specs.Bytes.{_⊹_, ascii, blank, nameStart, nameByte, quote, special, Each, no-byte, a-byte, Sequence, no-more}
-use Rattle.grammar.specs.Bytes.{one-more, begins, parted}
+use Rattle.grammar.specs.Bytes.{one-more, begins, parted, closed, skipped}
 use Rattle.grammar.specs.Characters.{Character, utf8-1, utf8-2, utf8-3, utf8-4, lead1, lead2, lead3, lead4, continues, noncharacter}
-use Rattle.grammar.specs.Document.{Attribute, attribute, Element, element, Contents, nothing, child, merged, together}
+use Rattle.grammar.specs.Document.{Attribute, attribute, together}
 use Rattle.grammar.specs.Grammar
 use Rattle.grammar.specs.Grammar.{Name, Gap, Equals, Reference, LineEnd, TextCharacter, ValueCharacter, Value, WritesAttribute}
-use Rattle.grammar.specs.Grammar.{Absent, Distinct, Attributes, Remark, Comment, WritesElement, WritesContents, Setting, Encoding}
-use Rattle.grammar.specs.Grammar.{Declaration, Aside, Writes}
+use Rattle.grammar.specs.Grammar.{Absent, Distinct, Attributes, Remark, Comment, DataCharacter, CData, Setting, Encoding, Declaration, Aside}
+use Rattle.grammar.specs.Grammar.{Skipped, Doctype, Prologue}
 use Rattle.grammar.specs.Read.{Read, fail, got, Reader, bind, test, mark, byte, span, alt, all-of, Ok, failed, good, bind-ok}
 use Rattle.grammar.specs.Read.{ok-map, ok-got, alt-ok, Takes, test-sound, mark-sound, byte-sound, span-sound, all-of-sound}
-use Rattle.grammar.specs.Read.{seen-sound, TakesWhole, whole-takes, row-sound}
+use Rattle.grammar.specs.Read.{TakesWhole, whole-takes, row-sound}
 use Rattle.grammar.specs.Parser
 use Rattle.grammar.specs.Parser.{name-at, gap-at, equals-at, CharacterWidth, one, two, three, four, width, rest-by, rest-at}
 use Rattle.grammar.specs.Parser.{literal-at, standsFor, reference-at, feed-if, feed-at, line-end-at, text-byte, text-at}
 use Rattle.grammar.specs.Parser.{spacing, space-at, value-byte, value-character-at, value-at}
 use Rattle.grammar.specs.Laws.Facts.{no-return}
 use Rattle.grammar.specs.Parser.{attribute-at, ends, closing, same, absent, distinct, attributes-at, no-dash, plain-at, dashed-at}
-use Rattle.grammar.specs.Parser.{remark-at, comment-at, Look, at-close, at-comment, at-element, at-text, look, empty-at, full-at}
-use Rattle.grammar.specs.Parser.{element-at, contents-by, contents-at, setting-at, asking, encoding-if, declaration-if}
-use Rattle.grammar.specs.Parser.{declaration-at, blank-at, remarked-at, aside-at, no-aside, end-at, document-at, answer, parse}
+use Rattle.grammar.specs.Parser.{remark-at, comment-at, data-byte, data-character-at, data-at, setting-at, asking, encoding-if, declaration-if}
+use Rattle.grammar.specs.Parser.{declaration-at, blank-at, remarked-at, aside-at, no-aside, skipped-at, doctype-at, doctype-if, prologue-at}
 
 pub name-sound : (s : List ℕ) → Ok (λ n r. (s ≡ n ++ r) × Name n) (name-at s)
 unfolding name-at
@@ -109,7 +106,7 @@ reference-whole Grammar.quot r = refl
 reference-whole Grammar.apos r = refl
 
 -- a character that begins with no carriage return
-other-whole : (a : ℕ) (w r : List ℕ) → eqb a 13 ≡ false → parted (a ∷ w) r ≡ false
+pub other-whole : (a : ℕ) (w r : List ℕ) → eqb a 13 ≡ false → parted (a ∷ w) r ≡ false
 unfolding parted
 other-whole a [] r e = rw e
 other-whole a (b ∷ w) r e = refl
@@ -263,51 +260,39 @@ comment-sound s =
     ok-map (mark-sound (ascii "-->") r₂) λ _ r₃ e₃.
     (_, simp append-assoc (cc), Grammar.comment (h₂ .2))
 
-pub element-sound : (within : ℕ → Reader Contents) → ((d : ℕ) (s : List ℕ) → Ok (Takes (WritesContents d) s) (within d s))
-    → (d : ℕ) (s : List ℕ) → Ok (Takes (WritesElement d) s) (element-at within d s)
-unfolding element-at empty-at full-at
-element-sound within ih zero s = failed
-element-sound within ih (suc d) s =
-    bind-ok (mark-sound (ascii "<") s) λ _ r₁ e₁.
-    bind-ok (name-sound r₁) λ n r₂ h₂.
-    bind-ok (attributes-sound r₂) λ l r₃ h₃.
-    bind-ok (span-sound blank r₃) λ u r₄ h₄.
-    alt-ok
-    (bind-ok (mark-sound (ascii "/>") r₄) λ _ r₅ e₅.
-    good (_, simp append-assoc (cc), Grammar.empty (h₂ .1) (h₃ .2) (h₄ .1)))
-    (bind-ok (mark-sound (ascii ">") r₄) λ _ r₅ e₅.
-    bind-ok (seen-sound (within d) r₅ (ih d r₅)) λ ck r₆ h₆.
-    bind-ok (mark-sound (ascii "</") r₆) λ _ r₇ e₇.
-    bind-ok (mark-sound n r₇) λ _ r₈ e₈.
-    bind-ok (span-sound blank r₈) λ v r₉ h₉.
-    bind-ok (mark-sound (ascii ">") r₉) λ _ r e.
-    good (_, simp append-assoc (cc), Grammar.full (h₂ .1) (h₃ .2) (h₄ .1) (h₆ .1) (h₉ .1)))
+data-literal : {w : List ℕ} → Literal data-byte w → (r : List ℕ) → DataCharacter w w × (parted w r ≡ false)
+unfolding data-byte
+data-literal (literal {a} {w} h e) r = let m = not-true (eqb a 13) e in (DataCharacter.literal h m, other-whole a w r m)
 
-contents-by-sound : (more : ℕ → Reader Contents) → ((d : ℕ) (s : List ℕ) → Ok (Takes (WritesContents d) s) (more d s))
-    → (d : ℕ) (k : Look) (s : List ℕ) → Ok (Takes (WritesContents d) s) (contents-by more d k s)
-unfolding contents-by
-contents-by-sound more ih d at-close s = good ([], refl, Grammar.none)
-contents-by-sound more ih d at-comment s =
-    bind-ok (comment-sound s) λ _ r₁ h₁.
-    ok-map (ih d r₁) λ c r₂ h₂. (_, simp append-assoc (cc), Grammar.remark (h₁ .2) (h₂ .2))
-contents-by-sound more ih d at-element s =
-    bind-ok (element-sound more ih d s) λ e r₁ h₁.
-    bind-ok (ih d r₁) λ c r₂ h₂. good (_, simp append-assoc (cc), Grammar.inner (h₁ .2) (h₂ .2))
-contents-by-sound more ih d at-text s =
-    bind-ok (test-sound (not (begins (ascii "]]>") s)) s) λ _ r₀ h₀.
-    bind-ok (text-whole r₀) λ b r₁ h₁.
-    bind-ok (ih d r₁) λ c r₂ h₂.
-    let e₁ = h₁ .1 in
-    let e₂ = h₂ .1 in
-    let whole : s ≡ (h₁ .0 ⊹ h₂ .0) ++ r₂ = simp append-assoc (cc) in
-    let clear = not-true (begins (ascii "]]>") s) (h₀ .0) in
-    let apart = parted-less (h₁ .0) (h₂ .0) r₂ (rw e₂ at (h₁ .3)) in
-    good (_, whole, Grammar.character (h₁ .2) apart (begins-less (ascii "]]>") (h₁ .0 ⊹ h₂ .0) r₂ (rw whole at clear)) (h₂ .2))
+data-character-whole : (s : List ℕ) → Ok (TakesWhole DataCharacter parted s) (data-character-at s)
+unfolding data-character-at
+data-character-whole s =
+    alt-ok (ok-map (line-end-sound (ascii "\n") s) λ b r h. (h .1 .0, h .1 .1, rw (h .0) (DataCharacter.line-end (h .1 .2)), h .1 .3))
+    (ok-map (literal-sound data-byte s) λ w r h. (let k = data-literal (h .1) r in (w, h .0, k .0, k .1)))
 
-pub contents-sound : (n d : ℕ) (s : List ℕ) → Ok (Takes (WritesContents d) s) (contents-at n d s)
-unfolding contents-at
-contents-sound zero d s = failed
-contents-sound (suc n) d s = contents-by-sound (contents-at n) (contents-sound n) d (look s) s
+pub data-character-sound : (s : List ℕ) → Ok (Takes DataCharacter s) (data-character-at s)
+data-character-sound s = whole-takes (data-character-whole s)
+
+data-character-open : (s : List ℕ) → begins (ascii "]]>") s ≡ false → Ok (TakesWhole DataCharacter closed s) (data-character-at s)
+unfolding closed
+data-character-open s e = ok-map (data-character-whole s) λ b r h.
+    (let q = h .1 in let f : begins (ascii "]]>") (h .0 ++ r) ≡ false = rw q at e in (h .0, h .1, h .2, rw (h .3) f))
+
+closed-less : (w x r : List ℕ) → closed w (x ++ r) ≡ false → closed w x ≡ false
+unfolding closed
+closed-less w x r e =
+    let p = parted-less w x r (or-left (parted w (x ++ r)) _ e) in
+    let there = or-right (parted w (x ++ r)) _ e in
+    let q : begins (ascii "]]>") (w ++ x) ≡ false = begins-less (ascii "]]>") (w ++ x) r (rw append-assoc there) in
+    rw p q
+
+pub data-sound : (s : List ℕ) → Ok (Takes CData s) (data-at s)
+unfolding data-at
+data-sound s =
+    bind-ok (mark-sound (ascii "<![CDATA[") s) λ _ r₁ e₁.
+    bind-ok (row-sound (begins (ascii "]]>")) data-character-open closed-less r₁) λ bs r₂ h₂.
+    bind-ok (mark-sound (ascii "]]>") r₂) λ _ r₃ e₃.
+    good (_, simp append-assoc (cc), Grammar.cdata (h₂ .2))
 
 pub setting-sound : (k v : List ℕ) (s : List ℕ) → Ok (Takes (λ _ w. Setting k v w) s) (setting-at k v s)
 unfolding setting-at
@@ -346,27 +331,32 @@ aside-sound s =
     alt-ok (bind-ok (byte-sound blank s) λ a r h. good (a ∷ [], h .0, Grammar.blank-aside (h .1)))
     (bind-ok (comment-sound s) λ _ r h. good (h .0, h .1, Grammar.comment-aside (h .2)))
 
-end-sound : (s : List ℕ) → Ok (λ _ r. (s ≡ []) × (r ≡ [])) (end-at s)
-unfolding end-at
-end-sound [] = good (refl, refl)
-end-sound (a ∷ s) = failed
+skipped-literal : {w : List ℕ} → Literal skipped w → Skipped [] w
+skipped-literal (literal h e) = Grammar.skip h e
 
-document-sound : (n : ℕ) (s : List ℕ) → Ok (λ e r. Writes e s) (document-at n s)
-unfolding document-at
-document-sound n s =
-    bind-ok (declaration-sound s) λ _ r₁ h₁.
+pub skipped-sound : (s : List ℕ) → Ok (Takes Skipped s) (skipped-at s)
+unfolding skipped-at
+skipped-sound s = bind-ok (literal-sound skipped s) λ w r h. good (w, h .0, skipped-literal (h .1))
+
+pub doctype-sound : (s : List ℕ) → Ok (Takes (λ _ w. Doctype w) s) (doctype-at s)
+unfolding doctype-at
+doctype-sound s =
+    bind-ok (mark-sound (ascii "<!DOCTYPE") s) λ _ r₁ e₁.
+    bind-ok (all-of-sound skipped-sound (begins (ascii ">")) r₁) λ bs r₂ h₂.
+    ok-map (mark-sound (ascii ">") r₂) λ _ r₃ e₃.
+    (_, simp append-assoc (cc), Grammar.doctype (h₂ .2))
+
+doctype-if-sound : {bs : List (List ℕ)} {u : List ℕ} → Sequence Aside bs u → (t : Bool) (s : List ℕ)
+    → Ok (λ _ r. (w : List ℕ) × (s ≡ w ++ r) × Prologue (u ++ w)) (doctype-if t s)
+unfolding doctype-if
+doctype-if-sound {u = u} h false s = good ([], refl, rw (append-nil u) (Grammar.untyped h))
+doctype-if-sound h true s =
+    bind-ok (doctype-sound s) λ _ r₁ h₁.
     bind-ok (all-of-sound aside-sound no-aside r₁) λ _ r₂ h₂.
-    bind-ok (element-sound (contents-at n) (contents-sound n) 16 r₂) λ e r₃ h₃.
-    bind-ok (all-of-sound aside-sound no-aside r₃) λ _ r₄ h₄.
-    bind-ok (end-sound r₄) λ _ r₅ h₅.
-    let whole : s ≡ h₁ .0 ⊹ h₂ .0 ⊹ h₃ .0 ⊹ h₄ .0 = cc (append-nil (h₄ .0)) in
-    good (rw whole (Grammar.document (h₁ .2) (h₂ .2) (h₃ .2) (h₄ .2)))
+    good (h₁ .0 ++ h₂ .0, simp append-assoc (cc), Grammar.typed h (h₁ .2) (h₂ .2))
 
-answer-sound : {s : List ℕ} {m : Read Element} {e : Element} → Ok (λ e r. Writes e s) m → answer m ≡ some e → Writes e s
-unfolding answer
-answer-sound failed q = clash (cc)
-answer-sound {s} {e = e} (good {a} h) q = let one : a ≡ e = cc in rw one at h
-
-pub parse-sound : (s : List ℕ) (e : Element) → parse s ≡ some e → Writes e s
-unfolding parse
-parse-sound s e q = answer-sound (document-sound (length s) s) q
+pub prologue-sound : (s : List ℕ) → Ok (Takes (λ _ w. Prologue w) s) (prologue-at s)
+unfolding prologue-at
+prologue-sound s =
+    bind-ok (all-of-sound aside-sound no-aside s) λ _ r₁ h₁.
+    ok-map (doctype-if-sound (h₁ .2) (begins (ascii "<!D") r₁) r₁) λ _ r₂ h₂. (h₁ .0 ++ h₂ .0, simp append-assoc (cc), h₂ .2)

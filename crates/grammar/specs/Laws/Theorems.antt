@@ -10,7 +10,7 @@ use Rattle.grammar.specs.Document.{Element}
 use Rattle.grammar.specs.Grammar.{Writes}
 use Rattle.grammar.specs.Erased.{Node, erased, erasedIn, WritesDocument, documentOf}
 use Rattle.grammar.specs.Parser.{parse}
-use Rattle.grammar.specs.Laws.Sound.{parse-sound}
+use Rattle.grammar.specs.Laws.SoundElements.{parse-sound}
 use Rattle.grammar.specs.Laws.Complete.{parse-complete}
 
 -- The parser answers the document that writes the text, and nothing where none does.

@@ -98,7 +98,7 @@ rest-complete (utf8-4 {a} {b} {c} {d} h k l) r =
     let w : width a ≡ four = width-4 a (omega arith) in
     rw (w, byte-complete (lead4 a) b h (c ∷ d ∷ r), byte-complete continues c k (d ∷ r), byte-complete continues d l r)
 
-literal-complete : (p : ℕ → Bool) {a : ℕ} {w : List ℕ} → Character a w → p a ≡ true → (r : List ℕ)
+pub literal-complete : (p : ℕ → Bool) {a : ℕ} {w : List ℕ} → Character a w → p a ≡ true → (r : List ℕ)
     → literal-at p (a ∷ (w ++ r)) ≡ got (a ∷ w) r
 unfolding literal-at bind
 literal-complete p {a} {w} h e r = rw (byte-complete p a e (w ++ r), rest-complete h r)
@@ -236,7 +236,7 @@ value-item q h r =
       reads = λ k r e. value-character-reads q k r e;
       goes = λ k r e. value-character-goes q h k r;
       long = λ k. value-character-long q k;
-      apart = λ w x e. parted-apart w x q r feed e;
+      apart = λ {a} {w} k x e. parted-apart w x q r feed e;
       stops-there = begins-one q r;
     }
 

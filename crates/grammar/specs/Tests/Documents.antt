@@ -107,11 +107,9 @@ feff-inside : legal (ascii "<a>" ++ (239 ∷ 187 ∷ 191 ∷ ascii "</a>")) ≡ 
 unfolding cases computing
 feff-inside = refl
 
--- CDATA, DOCTYPE, other `<?` and number references are not in the grammar
+-- other `<?` and number references are not in the grammar
 not-in-the-grammar : all illegal (
-    ascii "<a><![CDATA[x]]></a>"
-    ∷ ascii "<!DOCTYPE a><a/>"
-    ∷ ascii "<?b c?><a/>"
+    ascii "<?b c?><a/>"
     ∷ ascii "<a><?b c?></a>"
     ∷ ascii "<a>&#65;</a>"
     ∷ ascii "<a>&#x41;</a>"

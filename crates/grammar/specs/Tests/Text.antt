@@ -13,7 +13,7 @@ use Rattle.grammar.specs.Parser.{computing}
 use Rattle.grammar.specs.Tests.Documents.{legal, illegal, times, cases}
 
 -- the contents of an element are the one run `w`; the value of its attribute is `w`
-abbrev holds : List ℕ → List ℕ → Type 0
+abbrev pub holds : List ℕ → List ℕ → Type 0
 holds s w = documentOf (ascii "<a>" ++ (s ++ ascii "</a>")) ≡ some (node (ascii "a") [] (characters w none))
 
 abbrev has : List ℕ → List ℕ → Type 0
