@@ -4,6 +4,7 @@ pub mod Until
 pub mod References
 pub mod Comments
 pub mod Feeds
+pub mod Data
 pub mod Values
 pub mod Keys
 pub mod Heads
@@ -14,6 +15,7 @@ pub mod Pieces
 pub mod Between
 pub mod Tags
 pub mod Prologue
+pub mod Doctype
 pub mod Elements
 pub mod Document
 pub mod Unique

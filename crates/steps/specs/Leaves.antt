@@ -7,10 +7,11 @@ use lib.ListN.{length}
 use Rattle.grammar.specs.Bytes.{ascii, begins}
 use Rattle.grammar.specs.Read.{Read, fail, got, Reader, bind, mark, span, Ok, ok-map, mark-sound, span-sound, byte-complete, byte-other}
 use Rattle.grammar.specs.Parser.{name-at, gap-at, equals-at, literal-at, reference-at, line-end-at, value-character-at, value-at}
-use Rattle.grammar.specs.Parser.{remark-at}
+use Rattle.grammar.specs.Parser.{remark-at, data-character-at, skipped-at}
 use Rattle.grammar.specs.Laws.Sound.{name-sound, gap-sound, equals-sound, reference-sound, line-end-takes, value-character-sound}
-use Rattle.grammar.specs.Laws.Sound.{value-sound, remark-sound}
+use Rattle.grammar.specs.Laws.Sound.{value-sound, remark-sound, data-character-sound, skipped-sound}
 use Rattle.grammar.specs.Laws.Tokens.{line-end-long, value-character-long, remark-long}
+use Rattle.grammar.specs.Laws.Data.{data-character-long, skipped-long}
 use Rattle.grammar.specs.Unfuelled.{less}
 use Rattle.steps.specs.Laws.Until.{until}
 use Rattle.steps.specs.Step.{Tails, tails}
@@ -90,3 +91,25 @@ remark-tails s = tails (remark-sound s)
 -- a comment behind `<!--`
 unfoldable pub comment-rest-at : Reader (Unit {0})
 comment-rest-at = until (begins (ascii "--")) remark-at (mark (ascii "-->"))
+
+-- CDATA
+pub data-character-eats : (s : List ℕ) → Ok (λ _ r. length r < length s) (data-character-at s)
+data-character-eats s = less (λ _ w h. data-character-long h) (data-character-sound s)
+
+pub data-character-tails : (s : List ℕ) → Ok (Tails s) (data-character-at s)
+data-character-tails s = tails (data-character-sound s)
+
+-- CDATA behind `<![CDATA[`
+unfoldable pub data-rest-at : Reader (Unit {0})
+data-rest-at = until (begins (ascii "]]>")) data-character-at (mark (ascii "]]>"))
+
+-- A DOCTYPE
+pub skipped-eats : (s : List ℕ) → Ok (λ _ r. length r < length s) (skipped-at s)
+skipped-eats s = less (λ _ w h. skipped-long h) (skipped-sound s)
+
+pub skipped-tails : (s : List ℕ) → Ok (Tails s) (skipped-at s)
+skipped-tails s = tails (skipped-sound s)
+
+-- a DOCTYPE behind `<!DOCTYPE`
+unfoldable pub doctype-rest-at : Reader (Unit {0})
+doctype-rest-at = until (begins (ascii ">")) skipped-at (mark (ascii ">"))

@@ -3,13 +3,13 @@ use mathlib.Core.Path.{_≡_, refl}
 use mathlib.Core.List.{List, [], _∷_, _++_, append-assoc}
 use Prim.Native.Nat.{ℕ, _<_}
 use lib.ListN.{length}
-use Rattle.grammar.specs.Bytes.{ascii}
+use Rattle.grammar.specs.Bytes.{ascii, begins}
 use Rattle.grammar.specs.Grammar.{Aside, Declaration}
 use Rattle.grammar.specs.Read.{Read, fail, got, Reader, bind, _>>=_, _>>_, pure, mark, byte, all-of, Ok, good, bind-ok, ok-map}
 use Rattle.grammar.specs.Read.{all-of-sound}
 use Rattle.grammar.specs.Bytes.{quote}
-use Rattle.grammar.specs.Parser.{declaration-at, no-aside, aside-at, setting-at, encoding-if, ends, asking}
-use Rattle.grammar.specs.Laws.Sound.{aside-sound, declaration-sound}
+use Rattle.grammar.specs.Parser.{declaration-at, no-aside, aside-at, doctype-at, doctype-if, prologue-at, setting-at, encoding-if, ends, asking}
+use Rattle.grammar.specs.Laws.Sound.{aside-sound, declaration-sound, doctype-sound, prologue-sound}
 use Rattle.grammar.specs.Laws.Complete.{aside-long}
 use Rattle.grammar.specs.Unfuelled.{less}
 use Rattle.steps.specs.Step.{Tails, tails}
@@ -18,11 +18,15 @@ use Rattle.steps.specs.Step.{Tails, tails}
 unfoldable pub asides-at : Reader (List (List ℕ))
 asides-at = all-of no-aside aside-at
 
--- what stands before the root
-unfoldable pub prologue-at : Reader (List (List ℕ))
-prologue-at = do
+-- a DOCTYPE with the blanks and comments behind it, or nothing where none stands
+unfoldable pub typed-at : Reader (Unit {0})
+typed-at s = doctype-if (begins (ascii "<!D") s) s
+
+-- all that stands before the root
+unfoldable pub preamble-at : Reader (Unit {0})
+preamble-at = do
   declaration-at
-  asides-at
+  prologue-at
 
 -- the value `v` in quotes
 unfoldable pub quoted-at : List ℕ → Reader (Unit {0})
@@ -45,8 +49,11 @@ aside-eats s = less (λ b w h. aside-long h) (aside-sound s)
 pub declaration-tails : (s : List ℕ) → Ok (Tails s) (declaration-at s)
 declaration-tails s = tails (declaration-sound s)
 
-pub prologue-tails : (s : List ℕ) → Ok (Tails s) (prologue-at s)
-unfolding prologue-at
-prologue-tails s =
+pub doctype-tails : (s : List ℕ) → Ok (Tails s) (doctype-at s)
+doctype-tails s = tails (doctype-sound s)
+
+pub preamble-tails : (s : List ℕ) → Ok (Tails s) (preamble-at s)
+unfolding preamble-at
+preamble-tails s =
     bind-ok (declaration-tails s) λ _ r h.
-    ok-map (asides-tails r) λ l r₁ k. (h .0 ++ k .0, simp append-assoc (let a = h .1 in let b = k .1 in cc))
+    ok-map (prologue-sound r) λ l r₁ k. (h .0 ++ k .0, simp append-assoc (let a = h .1 in let b = k .1 in cc))

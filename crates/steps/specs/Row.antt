@@ -11,17 +11,18 @@ use Rattle.grammar.specs.Document.{Attribute, Element, element, Contents, nothi
 use Rattle.grammar.specs.Grammar.{WritesElement, WritesContents, Comment, TextCharacter}
 use Rattle.grammar.specs.Read.{Read, fail, got, Reader, bind, _>>=_, _>>_, pure, test, mark, span, alt, all-of, many-step, Ok, failed}
 use Rattle.grammar.specs.Read.{good, bind-ok, ok-map, ok-got, Takes, mark-sound, span-sound, test-sound, all-of-sound}
-use Rattle.grammar.specs.Parser.{Look, at-close, at-comment, at-element, at-text, look, comment-at, text-at, name-at, attributes-at}
-use Rattle.grammar.specs.Parser.{empty-at, full-at, element-at, contents-by, contents-at}
-use Rattle.grammar.specs.Laws.Sound.{name-sound, attributes-sound, comment-sound, text-sound, element-sound, contents-sound}
+use Rattle.grammar.specs.Parser.{Look, at-close, at-comment, at-data, at-element, at-text, look, comment-at, data-at, text-at, name-at}
+use Rattle.grammar.specs.Parser.{attributes-at, empty-at, full-at, element-at, contents-by, contents-at}
+use Rattle.grammar.specs.Laws.Sound.{name-sound, attributes-sound, comment-sound, data-sound, text-sound}
+use Rattle.grammar.specs.Laws.SoundElements.{element-sound, contents-sound}
 use Rattle.grammar.specs.Laws.Tokens.{text-long}
-use Rattle.grammar.specs.Laws.Complete.{comment-long, element-long}
+use Rattle.grammar.specs.Laws.Complete.{comment-long, data-long, element-long}
 use Rattle.steps.specs.Step.{Tails, tails}
 use Rattle.steps.specs.Keys.{Head, head, head-at}
 use Rattle.steps.specs.Laws.Until.{bind-assoc, bind-each}
 use Rattle.grammar.specs.Unfuelled.{bind-same, less, no-more-than, all-of-step, contents, contents-step}
 
--- what stands between children: a comment, or a character
+-- what stands between children: a comment, or characters: one of text, or those of CDATA
 pub data Piece : Type 0 where
   remark : Piece
   character : List ℕ → Piece
@@ -35,6 +36,9 @@ piece-by at-close = λ s. fail
 piece-by at-comment = do
   comment-at
   pure remark
+piece-by at-data = do
+  b ← data-at
+  pure (character b)
 piece-by at-element = λ s. fail
 piece-by at-text = do
   b ← text-piece-at
@@ -47,6 +51,7 @@ piece-at s = piece-by (look s) s
 unfoldable pub halts : Look → Bool
 halts at-close = true
 halts at-comment = false
+halts at-data = false
 halts at-element = true
 halts at-text = false
 
@@ -65,6 +70,7 @@ joins (character b ∷ l) c = merged b (joins l c)
 unfoldable pub children-by : ℕ → Look → Reader Contents
 children-by d at-close = pure nothing
 children-by d at-comment = λ s. fail
+children-by d at-data = λ s. fail
 children-by d at-element = do
   e ← element-at contents d
   c ← contents d
@@ -81,6 +87,7 @@ pieces-eat : (l : Look) (s : List ℕ) → Ok (λ _ r. length r < length s) (pie
 unfolding piece-by
 pieces-eat at-close s = failed
 pieces-eat at-comment s = bind-ok (less (λ _ w h. comment-long h) (comment-sound s)) λ _ r h. good h
+pieces-eat at-data s = bind-ok (less (λ b w h. data-long h) (data-sound s)) λ b r h. good h
 pieces-eat at-element s = failed
 pieces-eat at-text s = bind-ok (less (λ b w h. text-long h) (text-piece-sound s)) λ b r h. good h
 
@@ -187,11 +194,26 @@ module _ (d : ℕ) (s : List ℕ) (ih : (r : List ℕ) → length r < length s �
       (bind-same _ _ (less (λ b w h. text-long h) (text-piece-sound s)) λ b r h.
       follows (character b) r (merged b) h (first-character d b))
 
+  after-data : look s ≡ at-data → Split
+  unfolding halts contents-by piece-by bind
+  after-data e =
+      rw (
+        contents-step d s,
+        e,
+        pieces-go s (halts-at s at-data e),
+        piece-is s at-data e,
+        bind-assoc (bind (data-at s) (λ b r. got (character b) r)),
+        bind-assoc (data-at s),
+      )
+      (bind-same _ _ (less (λ b w h. data-long h) (data-sound s)) λ b r h.
+      follows (character b) r (merged b) h (first-character d b))
+
   split-cases : (l : Look) → look s ≡ l → Split
   unfolding halts contents-by children-by
   split-cases at-close e = stopped at-close e refl refl
   split-cases at-element e = stopped at-element e refl refl
   split-cases at-comment e = after-remark e
+  split-cases at-data e = after-data e
   split-cases at-text e = after-character e
 
 split-by : (n d : ℕ) (s : List ℕ) → length s < n → contents d s ≡ bind (pieces-at s) (after d)
@@ -220,6 +242,7 @@ piece-by-tails : (l : Look) (s : List ℕ) → Ok (Tails s) (piece-by l s)
 unfolding piece-by
 piece-by-tails at-close s = failed
 piece-by-tails at-comment s = bind-ok (comment-sound s) λ _ r h. good (h .0, h .1)
+piece-by-tails at-data s = bind-ok (data-sound s) λ b r h. good (h .0, h .1)
 piece-by-tails at-element s = failed
 piece-by-tails at-text s = bind-ok (text-piece-sound s) λ b r h. good (h .0, h .1)
 

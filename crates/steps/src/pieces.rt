@@ -2,11 +2,12 @@
 pub enum Front {
     Close,
     Comment,
+    Data,
     Start,
     Text,
 }
 
-// Where characters and comments end: before an end tag or the end of the text, before a start tag, or nowhere.
+// Where characters, comments and CDATA end: before an end tag or the end of the text, before a start tag, or nowhere.
 pub enum Between {
     Close(usize),
     Start(usize),

@@ -1,4 +1,4 @@
--- Characters and comments between tags, as far as they go: one piece further, and over plain bytes at once.
+-- Characters, comments and CDATA between tags, as far as they go: one piece further, and over plain bytes at once.
 use mathlib.Core.Path.{_≡_, refl, ap, sym, _∙_, subst}
 use mathlib.Core.List.{List, [], _∷_, _++_}
 use Prim.Native.Nat.{ℕ, _-_, _<_}
@@ -13,7 +13,7 @@ use Rattle.grammar.specs.Bytes.{ascii, blank, begins, parted, special, Each, no
 use Rattle.grammar.specs.Characters.{utf8-1, lead1}
 use Rattle.grammar.specs.Grammar.{TextCharacter}
 use Rattle.grammar.specs.Read.{Read, fail, got, bind, test, span, span-sound, Ok, ok-got}
-use Rattle.grammar.specs.Parser.{Look, at-close, at-comment, at-element, at-text, look, look-if, text-at}
+use Rattle.grammar.specs.Parser.{Look, at-close, at-comment, at-data, at-element, at-text, look, look-if, text-at}
 use Rattle.grammar.specs.Laws.Tokens.{text-complete}
 use Rattle.steps.specs.Step.{stepped, Went, went, went-on, fell}
 use Rattle.steps.specs.Leaves.{span-tails}
@@ -37,6 +37,7 @@ halts-piece : (l : Look) (s : List ℕ) → halts l ≡ true → piece-by l s �
 unfolding halts piece-by
 halts-piece at-close s e = refl
 halts-piece at-comment s e = clash (cc)
+halts-piece at-data s e = clash (cc)
 halts-piece at-element s e = refl
 halts-piece at-text s e = clash (cc)
 
@@ -44,6 +45,7 @@ halted-on : (l : Look) (i : ℕ) → halts l ≡ false → Between.Bad ≡ halte
 unfolding halts halted
 halted-on at-close i e = clash (cc)
 halted-on at-comment i e = refl
+halted-on at-data i e = refl
 halted-on at-element i e = clash (cc)
 halted-on at-text i e = refl
 

@@ -15,7 +15,8 @@ use Rattle.grammar.specs.Document.{Element}
 use Rattle.grammar.specs.Grammar.{Writes}
 use Rattle.grammar.specs.Read.{Read, fail, got, Reader, bind, all-of, all-of-sound}
 use Rattle.grammar.specs.Parser.{declaration-at, no-aside, aside-at, element-at, contents-at, document-at, end-at, answer, parse}
-use Rattle.grammar.specs.Laws.Sound.{declaration-sound, aside-sound, parse-sound}
+use Rattle.grammar.specs.Laws.Sound.{declaration-sound, aside-sound, prologue-sound}
+use Rattle.grammar.specs.Laws.SoundElements.{parse-sound}
 use Rattle.grammar.specs.Laws.Complete.{parse-complete}
 use Rattle.grammar.specs.Unfuelled.{contents, element-enough, bind-same, no-more-than}
 use Rattle.steps.specs.Step.{stepped, Went, went, fell, at-byte, at-end}
@@ -23,7 +24,7 @@ use Rattle.steps.specs.Laws.Until.{bind-assoc}
 use Rattle.steps.specs.declared.Step.{Step}
 use Rattle.steps.specs.declared.Step.the-variants.{To, No}
 use Rattle.steps.specs.Row.{element-tails}
-use Rattle.steps.specs.Prologue.{asides-at, asides-tails, prologue-at, prologue-tails}
+use Rattle.steps.specs.Prologue.{asides-at, asides-tails, preamble-at, preamble-tails}
 use Rattle.steps.specs.WellFormed.{WellFormed}
 
 -- the document's reader, without fuel
@@ -31,14 +32,14 @@ behind : Element → List ℕ → Read Element
 behind e r = bind (asides-at r) (λ _ r₁. bind (end-at r₁) (λ _ r₂. got e r₂))
 
 whole-at : Reader Element
-whole-at s = bind (prologue-at s) (λ _ r. bind (element-at contents 16 r) behind)
+whole-at s = bind (preamble-at s) (λ _ r. bind (element-at contents 16 r) behind)
 
 whole-is : (s : List ℕ) → document-at (length s) s ≡ whole-at s
-unfolding document-at prologue-at asides-at behind whole-at
+unfolding document-at preamble-at asides-at behind whole-at
 whole-is s =
     rw (bind-assoc (declaration-at s))
     (bind-same _ _ (no-more-than (declaration-sound s)) λ _ r₁ h₁.
-    bind-same _ _ (no-more-than (all-of-sound aside-sound no-aside r₁)) λ _ r₂ h₂.
+    bind-same _ _ (no-more-than (prologue-sound r₁)) λ _ r₂ h₂.
     let fits : length r₂ ≤ length s = omega arith in
     rw (element-enough (length s) 16 r₂ fits))
 
@@ -60,14 +61,14 @@ module _ (text : List ℕ) where
     refuses = λ e. clash (cc);
   }
 
-  module _ {r₁ : Step} (q₁ : r₁ ≡ stepped (length text) (prologue-at text)) where
+  module _ {r₁ : Step} (q₁ : r₁ ≡ stepped (length text) (preamble-at text)) where
     pub unrooted : r₁ ≡ No → WellFormed text false
     unfolding whole-at bind
-    unrooted e = refused (rw (fell (length text) (prologue-at text) (sym e ∙ q₁)))
+    unrooted e = refused (rw (fell (length text) (preamble-at text) (sym e ∙ q₁)))
 
     module _ {i : ℕ} (e₁ : r₁ ≡ To i) {r₂ : Step} (q₂ : r₂ ≡ stepped (length text) (element-at contents 16 (drop i text))) where
-      rooted : Went prologue-at text 0 i
-      rooted = went prologue-at text 0 i (prologue-tails text) (sym e₁ ∙ q₁)
+      rooted : Went preamble-at text 0 i
+      rooted = went preamble-at text 0 i (preamble-tails text) (sym e₁ ∙ q₁)
 
       pub rootless : r₂ ≡ No → WellFormed text false
       unfolding whole-at bind

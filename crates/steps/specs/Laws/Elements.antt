@@ -11,9 +11,9 @@ use Rattle.grammar.specs.Bytes.{ascii, blank}
 use Rattle.grammar.specs.Document.{Attribute, Element, element, Contents, nothing, child}
 use Rattle.grammar.specs.Read.{Read, fail, got, Reader, bind, alt, mark, mark-complete, mark-other, mark-sound, span, seen, before, Ok}
 use Rattle.grammar.specs.Read.{failed, good, ok-got, ok-map, bind-ok}
-use Rattle.grammar.specs.Parser.{Look, at-close, at-comment, at-element, at-text, look, name-at, attributes-at, empty-at, full-at}
+use Rattle.grammar.specs.Parser.{Look, at-close, at-comment, at-data, at-element, at-text, look, name-at, attributes-at, empty-at, full-at}
 use Rattle.grammar.specs.Parser.{element-at}
-use Rattle.grammar.specs.Laws.Sound.{contents-sound}
+use Rattle.grammar.specs.Laws.SoundElements.{contents-sound}
 use Rattle.grammar.specs.Unfuelled.{contents}
 use Rattle.steps.specs.Step.{stepped, Tails, tails, Went, went, went-on, arrives, refuses, fell, at-byte, at-end}
 use Rattle.steps.specs.Leaves.{mark-tails}
@@ -49,6 +49,7 @@ module _ (d n : ℕ) (s : List ℕ) where
   unfolding halted children-by stepped
   turn-by l r e at-close h = close r (turned l r e ∙ rw h)
   turn-by l r e at-comment h = bad (turned l r e ∙ rw h)
+  turn-by l r e at-data h = bad (turned l r e ∙ rw h)
   turn-by l r e at-element h =
       start l r e (turned l r e ∙ rw h (stepped-each n (element-at contents d r) _ (λ e r₁. contents d r₁) λ x r₁. stepped-value n
       (contents d r₁) (child x)))

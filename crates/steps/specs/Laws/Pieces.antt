@@ -13,8 +13,8 @@ use Rattle.grammar.specs.Bytes.{ascii, blank, begins, parted, special}
 use Rattle.grammar.specs.Characters.{utf8-1, lead1}
 use Rattle.grammar.specs.Grammar.{TextCharacter}
 use Rattle.grammar.specs.Read.{Read, fail, got, bind, alt, byte, test, mark}
-use Rattle.grammar.specs.Parser.{Look, at-close, at-comment, at-element, at-text, look, look-if, look₂, look-by, text-at, reference-at}
-use Rattle.grammar.specs.Parser.{standsFor, feed-at, line-end-at, text-byte, literal-at, comment-at}
+use Rattle.grammar.specs.Parser.{Look, at-close, at-comment, at-data, at-element, at-text, look, look-if, look₂, look₃, look-third, look-by, text-at}
+use Rattle.grammar.specs.Parser.{reference-at, standsFor, feed-at, line-end-at, text-byte, literal-at, comment-at, data-at}
 use Rattle.grammar.specs.Laws.Tokens.{text-complete, reference-other, line-end-other}
 use Rattle.steps.specs.Step.{stepped, arrives, refuses, at-byte, at-end}
 use Rattle.steps.specs.Leaves.{character-at, literal-is, literal-not}
@@ -46,40 +46,68 @@ module _ (s : List ℕ) (at : ℕ) where
       front-last k = rw (at-byte s at h, e, at-end s (at + 1) k)
 
       module _ (k : at + 1 < length s) where
-        twice : look (drop at s) ≡ look-by (eqb (getD s (at + 1) 0) 47) (eqb (getD s (at + 1) 0) 33)
+        twice : look (drop at s) ≡ look-by (eqb (getD s (at + 1) 0) 47) (eqb (getD s (at + 1) 0) 33) (look₃ (drop (at + 2) s))
         unfolding look look-if look₂
         twice = rw (at-byte s at h, e, at-byte s (at + 1) k)
+            (ap (λ n. look-by (eqb (getD s (at + 1) 0) 47) (eqb (getD s (at + 1) 0) 33) (look₃ (drop n s))) two)
+          where
+            two : (at + 1) + 1 ≡ at + 2
+            two = omega arith
 
         pub front-close : getD s (at + 1) 0 ≡ 47 → Front.Close ≡ front (look (drop at s))
         unfolding look-by front
         front-close q = rw (twice, eq-eqb _ _ q)
 
         module _ (f : getD s (at + 1) 0 ≡ 47 → ⊥) where
-          pub front-comment : getD s (at + 1) 0 ≡ 33 → Front.Comment ≡ front (look (drop at s))
-          unfolding look-by front
-          front-comment q = rw (twice, ne-eqb _ _ f, eq-eqb _ _ q)
+          pub front-marked : getD s (at + 1) 0 ≡ 33 → {x : Front} → x ≡ front (look₃ (drop (at + 2) s)) → x ≡ front (look (drop at s))
+          unfolding look-by
+          front-marked q k = k ∙ sym (ap front (rw (twice, ne-eqb _ _ f, eq-eqb _ _ q)))
 
           pub front-start : (getD s (at + 1) 0 ≡ 33 → ⊥) → Front.Start ≡ front (look (drop at s))
           unfolding look-by front
           front-start g = rw (twice, ne-eqb _ _ f, ne-eqb _ _ g)
+
+-- the front behind `<!`
+module _ (s : List ℕ) (at : ℕ) where
+  pub marked-cut : length s ≤ at → Front.Comment ≡ front (look₃ (drop at s))
+  unfolding look₃ front
+  marked-cut h = rw (at-end s at h)
+
+  module _ (h : at < length s) where
+    pub marked-data : getD s at 0 ≡ 91 → Front.Data ≡ front (look₃ (drop at s))
+    unfolding look₃ look-third front
+    marked-data e = rw (at-byte s at h, eq-eqb _ _ e)
+
+    pub marked-other : (getD s at 0 ≡ 91 → ⊥) → Front.Comment ≡ front (look₃ (drop at s))
+    unfolding look₃ look-third front
+    marked-other f = rw (at-byte s at h, ne-eqb _ _ f)
 
 -- a look, from the front that it shows
 front-is : (l k : Look) → front l ≡ front k → l ≡ k
 unfolding front
 front-is at-close at-close e = refl
 front-is at-close at-comment e = clash (cc)
+front-is at-close at-data e = clash (cc)
 front-is at-close at-element e = clash (cc)
 front-is at-close at-text e = clash (cc)
 front-is at-comment at-close e = clash (cc)
 front-is at-comment at-comment e = refl
+front-is at-comment at-data e = clash (cc)
 front-is at-comment at-element e = clash (cc)
 front-is at-comment at-text e = clash (cc)
+front-is at-data at-close e = clash (cc)
+front-is at-data at-comment e = clash (cc)
+front-is at-data at-data e = refl
+front-is at-data at-element e = clash (cc)
+front-is at-data at-text e = clash (cc)
 front-is at-element at-close e = clash (cc)
 front-is at-element at-comment e = clash (cc)
+front-is at-element at-data e = clash (cc)
 front-is at-element at-element e = refl
 front-is at-element at-text e = clash (cc)
 front-is at-text at-close e = clash (cc)
 front-is at-text at-comment e = clash (cc)
+front-is at-text at-data e = clash (cc)
 front-is at-text at-element e = clash (cc)
 front-is at-text at-text e = refl
 
@@ -206,22 +234,33 @@ module _ (text : List ℕ) (at : ℕ) where
 data Marked : Look → Type 0 where
   closes : Marked at-close
   remarks : Marked at-comment
+  holds-data : Marked at-data
   starts : Marked at-element
 
-marked-by : (t u : Bool) → Marked (look-by t u)
+third-marked : (s : List ℕ) → Marked (look₃ s)
+unfolding look₃ look-third
+third-marked [] = remarks
+third-marked (b ∷ s) = by (eqb b 91)
+  where
+    by : (t : Bool) → Marked (look-third t)
+    by true = holds-data
+    by false = remarks
+
+marked-by : (t u : Bool) (s : List ℕ) → Marked (look-by t u (look₃ s))
 unfolding look-by
-marked-by true u = closes
-marked-by false true = remarks
-marked-by false false = starts
+marked-by true u s = closes
+marked-by false true s = third-marked s
+marked-by false false s = starts
 
 look-open : (s : List ℕ) → Marked (look (60 ∷ s))
 unfolding look look-if look₂
 look-open [] = starts
-look-open (b ∷ s) = marked-by (eqb b 47) (eqb b 33)
+look-open (b ∷ s) = marked-by (eqb b 47) (eqb b 33) s
 
 no-text : {l : Look} → Marked l → l ≡ at-text → ⊥
 no-text closes e = clash (cc)
 no-text remarks e = clash (cc)
+no-text holds-data e = clash (cc)
 no-text starts e = clash (cc)
 
 -- a piece behind `<`
@@ -247,6 +286,12 @@ module _ (text : List ℕ) (at : ℕ) {f : Front} (q : f ≡ front (look (drop a
   piece-comment e k = k ∙ sym (stepped-value (length text) (comment-at (drop at text)) (λ _. remark))
       ∙ ap (stepped (length text)) (sym (piece-is at-comment e))
 
+  pub piece-data : f ≡ Front.Data → {x : Step} → x ≡ stepped (length text) (data-at (drop at text))
+      → x ≡ stepped (length text) (piece-at (drop at text))
+  unfolding front piece-by
+  piece-data e k = k ∙ sym (stepped-value (length text) (data-at (drop at text)) character)
+      ∙ ap (stepped (length text)) (sym (piece-is at-data e))
+
   look-is : at < length text → getD text at 0 ≡ 60 → look (drop at text) ≡ look (60 ∷ drop (at + 1) text)
   look-is h e = rw (at-byte text at h, e)
 
@@ -270,18 +315,24 @@ module _ (text : List ℕ) (at : ℕ) {f : Front} (q : f ≡ front (look (drop a
   unfolding front halted
   halt-comment e = halts-as at-comment e
 
+  pub halt-data : f ≡ Front.Data → Between.Bad ≡ halted (look (drop at text)) at
+  unfolding front halted
+  halt-data e = halts-as at-data e
+
   pub halt-text : f ≡ Front.Text → Between.Bad ≡ halted (look (drop at text)) at
   unfolding front halted
   halt-text e = halts-as at-text e
 
-pub ruleset fronts = (front-end, front-text, front-last, front-close, front-comment, front-start, needs)
+pub ruleset fronts = (front-end, front-text, front-last, front-close, front-marked, front-start, needs)
+
+pub ruleset marked-fronts = (marked-cut, marked-data, marked-other, needs)
 
 pub ruleset texts = (text-none, text-reference, text-return, text-open, text-plain, needs)
 
 pub ruleset brackets = (bracket-cut, bracket-clear, needs)
 
-pub ruleset tagged = (piece-close, piece-start, piece-comment, piece-text, needs)
+pub ruleset tagged = (piece-close, piece-start, piece-comment, piece-data, piece-text, needs)
 
 pub ruleset pieces = (piece-none, piece-byte, needs)
 
-pub ruleset halting-at = (halt-close, halt-start, halt-comment, halt-text, needs)
+pub ruleset halting-at = (halt-close, halt-start, halt-comment, halt-data, halt-text, needs)

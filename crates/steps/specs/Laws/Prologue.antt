@@ -15,7 +15,7 @@ use Rattle.grammar.specs.Read.{span, span-sound, stops, all-of, many-step, Ok, 
 use Rattle.grammar.specs.Laws.Facts.{blank-in}
 use Rattle.grammar.specs.Laws.Sound.{comment-sound, setting-sound}
 use Rattle.grammar.specs.Parser.{declaration-at, declaration-if, no-aside, aside-at, blank-at, remarked-at, comment-at, setting-at}
-use Rattle.grammar.specs.Parser.{encoding-if, ends, asking, gap-at, equals-at}
+use Rattle.grammar.specs.Parser.{encoding-if, ends, asking, gap-at, equals-at, prologue-at}
 use Rattle.grammar.specs.Unfuelled.{all-of-step, less}
 use Rattle.grammar.specs.Laws.Complete.{comment-long}
 use Rattle.steps.specs.Step.{stepped, tails, Tails, Went, went, went-on, arrives, refuses, fell, at-byte, at-end}
@@ -23,7 +23,7 @@ use Rattle.steps.specs.Leaves.{span-tails, mark-tails, gap-tails, equals
 use Rattle.steps.specs.Laws.Until.{bind-assoc, stepped-value, stepped-each}
 use Rattle.steps.specs.declared.Step.{Step}
 use Rattle.steps.specs.declared.Step.the-variants.{To, No}
-use Rattle.steps.specs.Prologue.{asides-at, asides-tails, aside-eats, prologue-at, declaration-tails, quoted-at, encoding-at}
+use Rattle.steps.specs.Prologue.{asides-at, asides-tails, aside-eats, preamble-at, declaration-tails, quoted-at, encoding-at}
 use Rattle.steps.specs.Laws.Parsing.{stuck, follows}
 
 -- BLANKS AND COMMENTS
@@ -57,7 +57,7 @@ span-ends p (a ∷ s) = go (p a) refl (span-ends p s)
     go false e ih = let f : not (p a) ≡ true = rw e in rw (e, span) (good f)
 
 -- `<` is no blank
-open-no-blank : (s : List ℕ) → begins (ascii "<!") s ≡ true → aside-at s ≡ remarked-at s
+open-no-blank : (s : List ℕ) → begins (ascii "<!-") s ≡ true → aside-at s ≡ remarked-at s
 unfolding begins aside-at blank-at alt bind blank
 open-no-blank [] e = clash (cc)
 open-no-blank (a ∷ s) e =
@@ -65,7 +65,7 @@ open-no-blank (a ∷ s) e =
     let other : blank a ≡ false = rw q in
     rw (byte-other blank a other s)
 
-aside-turn : (n : ℕ) (s : List ℕ) → begins (ascii "<!") s ≡ true
+aside-turn : (n : ℕ) (s : List ℕ) → begins (ascii "<!-") s ≡ true
     → stepped n (asides-at s) ≡ stepped n (bind (comment-at s) (λ _ r. asides-at r))
 unfolding no-aside remarked-at bind
 aside-turn n s e =
@@ -77,7 +77,7 @@ abbrev pub Asides : List ℕ → ℕ → ℕ → Type 0
 Asides text at i = stepped (length text) (asides-at (drop at text)) ≡ stepped (length text) (asides-at (drop i text))
 
 module _ (text : List ℕ) (at i : ℕ) (inv : Asides text at i) {j : ℕ}
-    (q : To j ≡ stepped (length text) (span blank (drop i text))) {t : Bool} (b : t ≡ begins (ascii "<!") (drop j text)) where
+    (q : To j ≡ stepped (length text) (span blank (drop i text))) {t : Bool} (b : t ≡ begins (ascii "<!-") (drop j text)) where
   skipped : Went (span blank) text i j
   skipped = went (span blank) text i j (span-tails blank (drop i text)) q
 
@@ -275,15 +275,16 @@ module _ (text : List ℕ) {t : Bool} (b : t ≡ begins (ascii "<?") text) where
             to₂ (follows encoding-at encoding-tails text j _ q₃ k k₃ λ _ _. follows (span blank)
             (span-tails blank) text k _ q₄ b refl λ _ _. l)
 
+-- ALL THAT STANDS BEFORE THE ROOT
 module _ (text : List ℕ) {r : Step} (q : r ≡ stepped (length text) (declaration-at text)) where
-  pub prologue-none : r ≡ No → No ≡ stepped (length text) (prologue-at text)
-  unfolding prologue-at
-  prologue-none e = stuck (length text) (declaration-at text) _ q e
+  pub preamble-none : r ≡ No → No ≡ stepped (length text) (preamble-at text)
+  unfolding preamble-at
+  preamble-none e = stuck (length text) (declaration-at text) _ q e
 
-  pub prologue-some : {i : ℕ} → r ≡ To i → {x : Step} → x ≡ stepped (length text) (asides-at (drop i text))
-      → x ≡ stepped (length text) (prologue-at text)
-  unfolding prologue-at
-  prologue-some {i} e l = follows declaration-at declaration-tails text 0 _ q i e λ _ _. l
+  pub preamble-some : {i : ℕ} → r ≡ To i → {x : Step} → x ≡ stepped (length text) (prologue-at (drop i text))
+      → x ≡ stepped (length text) (preamble-at text)
+  unfolding preamble-at
+  preamble-some {i} e l = follows declaration-at declaration-tails text 0 _ q i e λ _ _. l
 
 pub ruleset asides = (asides-end, asides-stuck, asides-on, asides-less, needs)
 
@@ -295,4 +296,4 @@ pub ruleset encodings = (encoding-none, encoding-some, needs)
 
 pub ruleset declarations = (declaration-none, declaration-other, declaration-unversioned, declaration-uncoded, declaration-whole, needs)
 
-pub ruleset prologues = (prologue-none, prologue-some, needs)
+pub ruleset preambles = (preamble-none, preamble-some, needs)
