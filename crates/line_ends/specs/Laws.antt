@@ -3,5 +3,6 @@ pub mod Alike
 pub mod Bytes
 pub mod Characters
 pub mod Comments
+pub mod Data
 pub mod Prologue
 pub mod Theorems

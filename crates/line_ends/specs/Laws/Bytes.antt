@@ -13,7 +13,7 @@ use Rattle.grammar.specs.Bytes.{ascii, blank, nameStart, nameByte, letter, quot
 use Rattle.grammar.specs.Grammar
 use Rattle.grammar.specs.Grammar.{Name}
 use Rattle.grammar.specs.Read.{fail, got, bind, mark, byte, span, mark-other, byte-other, byte-complete}
-use Rattle.grammar.specs.Parser.{name-at, gap-at, equals-at, ends, look, look-if, look₂, look-by}
+use Rattle.grammar.specs.Parser.{name-at, gap-at, equals-at, ends, look, look-if, look₂, look₃, look-third, look-by}
 use Rattle.grammar.specs.Laws.Facts.{quote-in, nameStart-in, nameByte-in}
 use Rattle.steps.specs.Laws.Feeds.{fed}
 use Rattle.line_ends.specs.LineEnds.{lineEnds}
@@ -206,11 +206,17 @@ ends-alike p [] = rw none-ends
 ends-alike p (a ∷ s) = ends-by p a s (ends-alike p s) (view (a ∷ s))
 
 -- what stands at the front of contents
+third-by : {s : List ℕ} → View s → look₃ (lineEnds s) ≡ look₃ s
+unfolding look₃ look-third
+third-by at-end = rw none-ends
+third-by (at-return s) = rw (return-ends s)
+third-by (at-other a s e) = rw (other-ends a s e)
+
 second-by : {s : List ℕ} → View s → look₂ (lineEnds s) ≡ look₂ s
 unfolding look₂ look-by
 second-by at-end = rw none-ends
 second-by (at-return s) = rw (return-ends s)
-second-by (at-other a s e) = rw (other-ends a s e)
+second-by (at-other a s e) = rw (other-ends a s e, third-by (view s))
 
 look-by-view : {s : List ℕ} → View s → look (lineEnds s) ≡ look s
 unfolding look look-if

@@ -10,7 +10,7 @@ use Rattle.lists.specs.Lists.{all}
 use Rattle.grammar.specs.Bytes.{ascii, blank, quote, begins}
 use Rattle.grammar.specs.Read.{Read, got, bind, alt, all-of, many-step, stops, byte-sound, byte-complete, byte-other, Ok}
 use Rattle.grammar.specs.Parser.{setting-at, asking, ends, encoding-if, declaration-if, declaration-at, blank-at, remarked-at, aside-at}
-use Rattle.grammar.specs.Parser.{no-aside, end-at}
+use Rattle.grammar.specs.Parser.{no-aside, doctype-if, prologue-at, end-at}
 use Rattle.grammar.specs.Laws.Sound.{aside-sound}
 use Rattle.grammar.specs.Laws.Complete.{aside-long}
 use Rattle.grammar.specs.Unfuelled.{less, all-of-step}
@@ -22,6 +22,7 @@ use Rattle.line_ends.specs.Laws.Alike.{same-reads, any-reads, then-any, 
 use Rattle.line_ends.specs.Laws.Bytes.{sign, quote-sign, mark-alike, begins-alike, byte-alike, blanks-alike, gap-alike, equals-alike}
 use Rattle.line_ends.specs.Laws.Bytes.{ends-alike}
 use Rattle.line_ends.specs.Laws.Comments.{comment-alike}
+use Rattle.line_ends.specs.Laws.Data.{doctype-alike}
 
 -- the declaration
 setting-alike : (k v : List ℕ) → all sign k ≡ true → all sign v ≡ true → {s t : List ℕ} → Ended s t
@@ -75,9 +76,9 @@ unfolding no-aside stops aside-at blank-at many-step bind alt
 blank-passed a s e = asides-step (a ∷ s) ∙ rw (e, byte-complete blank a e s)
 
 other-step : (a : ℕ) (s : List ℕ) → blank a ≡ false
-    → asides (a ∷ s) ≡ many-step (not (begins (ascii "<!") (a ∷ s))) remarked-at asides (a ∷ s)
+    → asides (a ∷ s) ≡ many-step (not (begins (ascii "<!-") (a ∷ s))) remarked-at asides (a ∷ s)
 unfolding no-aside stops aside-at blank-at many-step bind alt
-other-step a s e = asides-step (a ∷ s) ∙ rw e (go (not (begins (ascii "<!") (a ∷ s))))
+other-step a s e = asides-step (a ∷ s) ∙ rw e (go (not (begins (ascii "<!-") (a ∷ s))))
   where
     go : (t : Bool) → many-step t aside-at asides (a ∷ s) ≡ many-step t remarked-at asides (a ∷ s)
     go true = refl
@@ -112,10 +113,10 @@ module _ (n : ℕ) (ih : (r t : List ℕ) → length r < n → Ended r t → Ali
   other-asides a s h f true e = rw (blank-passed a s e, blank-passed a (lineEnds s) e)
       (then-any (ih s (lineEnds s) h ended) λ l k r t e. any-reads e)
   other-asides a s h f false e =
-      let here : begins (ascii "<!") (a ∷ lineEnds s) ≡ begins (ascii "<!") (a ∷ s) =
-      rw (other-ends a s f) at (begins-alike (ascii "<!") refl (a ∷ s)) in
+      let here : begins (ascii "<!-") (a ∷ lineEnds s) ≡ begins (ascii "<!-") (a ∷ s) =
+      rw (other-ends a s f) at (begins-alike (ascii "<!-") refl (a ∷ s)) in
       rw (other-step a s e, other-step a (lineEnds s) e, here)
-      (rw (other-ends a s f) at (remark-asides a s h f e (not (begins (ascii "<!") (a ∷ s)))))
+      (rw (other-ends a s f) at (remark-asides a s h f e (not (begins (ascii "<!-") (a ∷ s)))))
 
   asides-by : {s : List ℕ} → View s → length s < suc n → Alike Any (asides s) (asides (lineEnds s))
   asides-by at-end h = rw (none-ends, asides-none) (reads-any none-ends)
@@ -129,6 +130,23 @@ asides-within (suc n) s _ h ended = asides-by n (λ r t l e. asides-within n r t
 pub asides-alike : {s t : List ℕ} → Ended s t → Alike Any (all-of no-aside aside-at s) (all-of no-aside aside-at t)
 unfolding asides
 asides-alike {s} {t} e = asides-within (suc (length s)) s t (omega arith) e
+
+-- with at most one DOCTYPE
+typed-alike : (b : Bool) {s t : List ℕ} → Ended s t → Alike Same (doctype-if b s) (doctype-if b t)
+unfolding doctype-if
+typed-alike false e = same-reads e
+typed-alike true e =
+    then-same (doctype-alike e) λ _ r₁ t₁ e₁.
+    then-any (asides-alike e₁) λ u v r₂ t₂ e₂. same-reads e₂
+
+doctype-there : {s t : List ℕ} → Ended s t
+    → Alike Same (doctype-if (begins (ascii "<!D") s) s) (doctype-if (begins (ascii "<!D") t) t)
+unfolding sign all
+doctype-there {s} ended = rw (begins-alike (ascii "<!D") refl s) (typed-alike (begins (ascii "<!D") s) ended)
+
+pub prologue-alike : {s t : List ℕ} → Ended s t → Alike Same (prologue-at s) (prologue-at t)
+unfolding prologue-at
+prologue-alike e = then-any (asides-alike e) λ u v r₁ t₁ e₁. doctype-there e₁
 
 -- the end
 end-by : {s : List ℕ} → View s → Alike Same (end-at s) (end-at (lineEnds s))

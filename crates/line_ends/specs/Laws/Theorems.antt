@@ -1,6 +1,6 @@
 -- THE CORRECTION, IN THE STANDARD'S WORDS: a text says what it says with its line ends translated first.
 use mathlib.Core.Path.{_≡_, refl, ap, ap₂, sym, _∙_}
-use mathlib.Core.List.{List, [], _++_}
+use mathlib.Core.List.{List, [], _∷_, _++_}
 use mathlib.Core.Bool.{not}
 use mathlib.Core.Option.{some}
 use Prim.Native.Nat.{ℕ, zero, suc, _≤_, _<_}
@@ -12,12 +12,12 @@ use Rattle.grammar.specs.Document.{Attribute, Element, element, Contents, nothi
 use Rattle.grammar.specs.Erased.{node, Nodes, none, inner, characters, erased, erasedAll, erasedIn, documentOf}
 use Rattle.grammar.specs.Read.{Read, got, Reader, bind, all-of, seen, test, test-sound, mark-sound, span-sound}
 use Rattle.grammar.specs.Read.{all-of-sound}
-use Rattle.grammar.specs.Parser.{Look, at-close, at-comment, at-element, at-text, look}
-use Rattle.grammar.specs.Parser.{empty-at, full-at, element-at, contents-by, declaration-at, aside-at, no-aside, end-at}
+use Rattle.grammar.specs.Parser.{Look, at-close, at-comment, at-data, at-element, at-text, look}
+use Rattle.grammar.specs.Parser.{empty-at, full-at, element-at, contents-by, declaration-at, prologue-at, aside-at, no-aside, end-at}
 use Rattle.grammar.specs.Parser.{document-at, answer, parse}
-use Rattle.grammar.specs.Laws.Sound.{name-sound, attributes-sound, comment-sound, text-sound, declaration-sound, aside-sound}
+use Rattle.grammar.specs.Laws.Sound.{name-sound, attributes-sound, comment-sound, data-sound, text-sound, declaration-sound, prologue-sound}
 use Rattle.grammar.specs.Laws.Tokens.{text-long}
-use Rattle.grammar.specs.Laws.Complete.{comment-long}
+use Rattle.grammar.specs.Laws.Complete.{comment-long, data-long}
 use Rattle.grammar.specs.Unfuelled.{less, no-more-than, bind-same, contents, contents-step, element-enough}
 use Rattle.steps.specs.Row.{element-eats}
 use Rattle.line_ends.specs.LineEnds.{lineEnds}
@@ -26,7 +26,8 @@ use Rattle.line_ends.specs.Laws.Alike.{then-any, then-same, then-known, 
 use Rattle.line_ends.specs.Laws.Bytes.{sign, name-sign, mark-alike, begins-alike, name-alike, blanks-alike, look-alike}
 use Rattle.line_ends.specs.Laws.Characters.{text-alike, attributes-alike}
 use Rattle.line_ends.specs.Laws.Comments.{comment-alike}
-use Rattle.line_ends.specs.Laws.Prologue.{declaration-alike, asides-alike, end-alike}
+use Rattle.line_ends.specs.Laws.Data.{data-alike}
+use Rattle.line_ends.specs.Laws.Prologue.{declaration-alike, asides-alike, prologue-alike, end-alike}
 
 -- the same for the paper: all but the bytes that an element keeps between its tags
 pub record OneElement (e f : Element) : Type 0 where
@@ -45,17 +46,19 @@ one-child : {e f : Element} {c d : Contents} → OneElement e f → OneContents 
 unfolding erased
 one-child h k = record { nodes-same = ap₂ (λ x y. inner x y) (h .node-same) (k .nodes-same) }
 
--- a character in front of the paper's contents
+-- characters in front of the paper's contents
 unfoldable fronted : List ℕ → Nodes → Nodes
-fronted b none = characters b none
-fronted b (inner e c) = characters b (inner e c)
-fronted b (characters a c) = characters (b ++ a) c
+fronted [] c = c
+fronted (a ∷ b) none = characters (a ∷ b) none
+fronted (a ∷ b) (inner e c) = characters (a ∷ b) (inner e c)
+fronted (a ∷ b) (characters w c) = characters ((a ∷ b) ++ w) c
 
 merged-erased : (b : List ℕ) (c : Contents) → erasedAll (merged b c) ≡ fronted b (erasedAll c)
 unfolding erased merged fronted
-merged-erased b nothing = refl
-merged-erased b (child e c) = refl
-merged-erased b (run a c) = refl
+merged-erased [] c = refl
+merged-erased (a ∷ b) nothing = refl
+merged-erased (a ∷ b) (child e c) = refl
+merged-erased (a ∷ b) (run w c) = refl
 
 one-merged : (b : List ℕ) {c d : Contents} → OneContents c d → OneContents (merged b c) (merged b d)
 one-merged b {c} {d} k = record { nodes-same = merged-erased b c ∙ ap (fronted b) (k .nodes-same) ∙ sym (merged-erased b d) }
@@ -109,6 +112,9 @@ module _ (n : ℕ) (ih : (d : ℕ) (r t : List ℕ) → length r < n → Ended r
   by-alike d s h at-close = both-got one-nothing
   by-alike d s h at-comment =
       then-so (less (λ _ w k. comment-long k) (comment-sound s)) (comment-alike ended) λ _ r t l e. ih d r t (omega arith) e
+  by-alike d s h at-data =
+      then-so (less (λ b w k. data-long k) (data-sound s)) (data-alike ended) λ b r t l e.
+      then (ih d r t (omega arith) e) λ c c₁ r₂ t₂ q e₂. so-reads (one-merged b q) e₂
   by-alike d s h at-element =
       then-known (element-eats d s) (element-alike d (omega arith) ended) λ x y r₁ t₁ l q₁ e₁.
       then (ih d r₁ t₁ (omega arith) e₁) λ b c r₂ t₂ q₂ e₂. so-reads (one-child q₁ q₂) e₂
@@ -127,7 +133,7 @@ contents-within (suc n) d s _ h ended = rw (contents-step d s, contents-step d (
 whole : Reader Element
 whole s =
     bind (declaration-at s) λ _ r₁.
-    bind (all-of no-aside aside-at r₁) λ _ r₂.
+    bind (prologue-at r₁) λ _ r₂.
     bind (element-at contents 16 r₂) λ e r₃.
     bind (all-of no-aside aside-at r₃) λ _ r₄.
     bind (end-at r₄) λ _ r. got e r
@@ -136,7 +142,7 @@ whole-is : (n : ℕ) (s : List ℕ) → length s ≤ n → document-at n s ≡ w
 unfolding document-at whole
 whole-is n s h =
     bind-same _ _ (no-more-than (declaration-sound s)) λ _ r₁ h₁.
-    bind-same _ _ (no-more-than (all-of-sound aside-sound no-aside r₁)) λ _ r₂ h₂.
+    bind-same _ _ (no-more-than (prologue-sound r₁)) λ _ r₂ h₂.
     let fits : length r₂ ≤ n = omega arith in
     rw (element-enough n 16 r₂ fits)
 
@@ -144,7 +150,7 @@ whole-alike : {s t : List ℕ} → Ended s t → Alike OneElement (whole s) (who
 unfolding whole
 whole-alike e =
     then-same (declaration-alike e) λ _ r₁ t₁ e₁.
-    then-any (asides-alike e₁) λ u v r₂ t₂ e₂.
+    then-same (prologue-alike e₁) λ _ r₂ t₂ e₂.
     then (element-alike (suc (length r₂)) (contents-within (suc (length r₂))) 16 (omega arith) e₂) λ x y r₃ t₃ q e₃.
     then-any (asides-alike e₃) λ u v r₄ t₄ e₄.
     then-same (end-alike e₄) λ _ r₅ t₅ e₅. so-reads q e₅
