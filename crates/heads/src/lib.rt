@@ -4,6 +4,8 @@
 pub mod characters;
 // Comments.
 pub mod comments;
+// CDATA.
+pub mod data;
 // Values in quotes.
 pub mod values;
 // Attributes, and the head of a tag.
