@@ -11,6 +11,8 @@ pub mod pieces;
 pub mod tags;
 // Elements and their contents, which call each other.
 pub mod elements;
+// A DOCTYPE.
+pub mod doctype;
 // What stands before the root and behind it.
 pub mod prolog;
 

@@ -1,7 +1,8 @@
-// What stands between the tags in contents: characters and comments.
+// What stands between the tags in contents: characters, comments and CDATA.
 use heads::characters::character_end;
 use heads::characters::reference_end;
 use heads::comments::comment_end;
+use heads::data::data_end;
 use letters::blanks::feed_end;
 use letters::blanks::starts;
 use steps::Step;
@@ -11,10 +12,23 @@ ghost use mathlib.Core.Path.{_≡_};
 ghost use Prim.Native.Nat.{_<_};
 ghost use lib.ListN.{length, drop, getD};
 ghost use Rattle.grammar.specs.Read.{span};
-ghost use Rattle.grammar.specs.Parser.{look, text-at};
+ghost use Rattle.grammar.specs.Parser.{look, look₃, text-at};
 ghost use Rattle.steps.specs.Step.{stepped};
 ghost use Rattle.steps.specs.Row.{piece-at, pieces-at};
 ghost use Rattle.steps.specs.Pieces.{plain, front, halted, stoppedBy};
+
+// What stands behind `<!`.
+fn marked_front(text: &[u8], at: usize) -> Front
+    ensures { λ r. ⌜ r ≡ front (look₃ (drop at (now (text .entry)))) ⌝ }
+{
+    if text.len() <= at {
+        return Front::Comment;
+    }
+    if text[at] == b'[' {
+        return Front::Data;
+    }
+    Front::Comment
+}
 
 pub fn front_at(text: &[u8], at: usize) -> Front
     ensures { λ r. ⌜ r ≡ front (look (drop at (now (text .entry)))) ⌝ }
@@ -33,7 +47,7 @@ pub fn front_at(text: &[u8], at: usize) -> Front
         return Front::Close;
     }
     if b == b'!' {
-        return Front::Comment;
+        return marked_front(text, at + 2);
     }
     Front::Start
 }
@@ -69,7 +83,7 @@ fn bracket_end(text: &[u8], at: usize) -> Step
     Step::To(at + 1)
 }
 
-// A comment behind `<`, where no tag stands.
+// A comment or CDATA behind `<`, where no tag stands.
 fn remark_end(text: &[u8], at: usize) -> Step
     requires { ⌜ (at < length (now text)) × (getD (now text) at 0 ≡ 60) ⌝ }
     ensures { λ r. ⌜ r ≡ stepped (length (now (text .entry))) (piece-at (drop at (now (text .entry)))) ⌝ }
@@ -77,12 +91,13 @@ fn remark_end(text: &[u8], at: usize) -> Step
     match front_at(text, at) {
         Front::Close => Step::No,
         Front::Comment => comment_end(text, at),
+        Front::Data => data_end(text, at),
         Front::Start => Step::No,
         Front::Text => Step::No,
     }
 }
 
-// One comment, or one character of text.
+// One comment, one character of text, or CDATA.
 pub fn piece_end(text: &[u8], at: usize) -> Step
     ensures { λ r. ⌜ r ≡ stepped (length (now (text .entry))) (piece-at (drop at (now (text .entry)))) ⌝ }
 {
@@ -128,12 +143,13 @@ fn halt_at(text: &[u8], at: usize) -> Between
     match front_at(text, at) {
         Front::Close => Between::Close(at),
         Front::Comment => Between::Bad,
+        Front::Data => Between::Bad,
         Front::Start => Between::Start(at),
         Front::Text => Between::Bad,
     }
 }
 
-// Characters and comments, as far as they go.
+// Characters, comments and CDATA, as far as they go.
 pub fn between_end(text: &[u8], at: usize) -> Between
     ensures { λ r. ⌜ r ≡ stoppedBy (length (now (text .entry))) (pieces-at (drop at (now (text .entry)))) ⌝ }
 {

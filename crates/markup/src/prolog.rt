@@ -1,4 +1,5 @@
-// What stands round the root: the declaration, blanks and comments.
+// What stands round the root: the declaration, blanks and comments, a DOCTYPE.
+use super::doctype::doctype_end;
 use heads::comments::comment_end;
 use letters::blanks::asks;
 use letters::blanks::blanks_end;
@@ -10,9 +11,9 @@ use letters::classes::is_quote;
 use steps::Step;
 ghost use mathlib.Core.Path.{_≡_};
 ghost use lib.ListN.{length, drop};
-ghost use Rattle.grammar.specs.Parser.{declaration-at, setting-at};
+ghost use Rattle.grammar.specs.Parser.{declaration-at, setting-at, prologue-at};
 ghost use Rattle.steps.specs.Step.{stepped};
-ghost use Rattle.steps.specs.Prologue.{asides-at, prologue-at, quoted-at, encoding-at};
+ghost use Rattle.steps.specs.Prologue.{asides-at, typed-at, preamble-at, quoted-at, encoding-at};
 
 // Blanks and comments.
 pub fn asides_end(text: &[u8], at: usize) -> Step
@@ -21,7 +22,7 @@ pub fn asides_end(text: &[u8], at: usize) -> Step
     let mut i = at;
     loop {
         let j = blanks_end(text, i);
-        if !starts(text, j, b"<!") {
+        if !starts(text, j, b"<!-") {
             return Step::To(j);
         }
         match comment_end(text, j) {
@@ -106,12 +107,38 @@ pub fn declaration_end(text: &[u8]) -> Step
     }
 }
 
+// A DOCTYPE with the blanks and comments behind it, or nothing.
+fn typed_end(text: &[u8], at: usize) -> Step
+    ensures { λ r. ⌜ r ≡ stepped (length (now (text .entry))) (typed-at (drop at (now (text .entry)))) ⌝ }
+{
+    if text.len() <= at {
+        return Step::To(text.len());
+    }
+    if !starts(text, at, b"<!D") {
+        return Step::To(at);
+    }
+    match doctype_end(text, at) {
+        Step::To(i) => asides_end(text, i),
+        Step::No => Step::No,
+    }
+}
+
+// Blanks and comments, and at most one DOCTYPE among them.
+fn prologue_end(text: &[u8], at: usize) -> Step
+    ensures { λ r. ⌜ r ≡ stepped (length (now (text .entry))) (prologue-at (drop at (now (text .entry)))) ⌝ }
+{
+    match asides_end(text, at) {
+        Step::To(i) => typed_end(text, i),
+        Step::No => Step::No,
+    }
+}
+
 // Where the root begins.
 pub fn root_start(text: &[u8]) -> Step
-    ensures { λ r. ⌜ r ≡ stepped (length (now (text .entry))) (prologue-at (now (text .entry))) ⌝ }
+    ensures { λ r. ⌜ r ≡ stepped (length (now (text .entry))) (preamble-at (now (text .entry))) ⌝ }
 {
     match declaration_end(text) {
-        Step::To(i) => asides_end(text, i),
+        Step::To(i) => prologue_end(text, i),
         Step::No => Step::No,
     }
 }

@@ -15,4 +15,6 @@ front-at-spec =
     (λ c. search fronts)
     (λ c. search fronts)
     (λ c. search fronts)
+    (λ c κs. search fronts)
+    (λ c. search fronts)
     (λ c. search fronts))

@@ -14,4 +14,6 @@ halt-at-spec =
     (λ c. search halting-at)
     (λ c. search halting-at)
     (λ c. search halting-at)
+    (λ c. search halting-at)
+    (λ c. search halting-at)
     (λ c. search halting-at))

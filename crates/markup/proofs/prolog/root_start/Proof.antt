@@ -1,4 +1,4 @@
-use Rattle.steps.specs.Laws.Prologue.{prologues}
+use Rattle.steps.specs.Laws.Prologue.{preambles}
 use Rattle.markup.proofs.prolog.root_start.Statement.{statement}
 use Rattle.markup.proofs.prolog.root_start.Tie as tie
 
@@ -6,9 +6,9 @@ pub root-start-spec : {M : Type 1} → statement M
 root-start-spec =
     tie.close
     (tie.spec
-    (λ c κs. search prologues)
-    (λ c. search prologues)
-    (λ c κs. search prologues)
-    (λ c. search prologues)
-    (λ c. search prologues)
-    (λ c. search prologues))
+    (λ c κs. search preambles)
+    (λ c. search preambles)
+    (λ c κs. search preambles)
+    (λ c. search preambles)
+    (λ c. search preambles)
+    (λ c. search preambles))
