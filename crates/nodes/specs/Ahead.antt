@@ -1,15 +1,17 @@
--- What stands ahead in contents: behind comments and blanks (or, where words may stand, any characters) a child or the end tag. Total
--- on any bytes.
+-- What stands ahead in contents: behind comments and blanks (or, where words may stand, any characters), some of them in CDATA, a child
+-- or the end tag. Total on any bytes.
 use mathlib.Core.Path.{_≡_, refl, ap, _∙_}
 use mathlib.Core.List.{List, [], _++_}
 use Prim.Native.Nat.{ℕ, zero, suc, _-_, _≤_, _<_}
 use native.Mathlib.Omega.{arith}
-use mathlib.Core.Bool.{Bool, true, false}
+use mathlib.Core.Bool.{Bool, true, false, _||_}
+use Rattle.lists.specs.Lists.{all}
 use lib.ListN.{length, drop, length-append}
 use Rattle.grammar.specs.Bytes.{blank, Each}
-use Rattle.grammar.specs.Read.{Read, fail, got, span, span-sound, Ok, good, ok-map}
-use Rattle.grammar.specs.Parser.{Look, at-close, at-comment, at-element, at-text, look, comment-at}
-use Rattle.nodes.specs.Laws.Depth.{comment-eats}
+use Rattle.grammar.specs.Read.{Read, fail, got, span, span-sound, Ok, failed, good, ok-map}
+use Rattle.grammar.specs.Parser.{Look, at-close, at-comment, at-data, at-element, at-text, look, comment-at, data-at}
+use Rattle.nodes.specs.Laws.Depth.{comment-eats, data-eats}
+use Rattle.nodes.specs.Places.{pick}
 use Rattle.nodes.specs.Scan.{to-tag, to-tag-short, past-tag, tag-at}
 use Rattle.nodes.specs.declared.ahead.Ahead.{Ahead}
 use Rattle.nodes.specs.declared.ahead.Ahead.the-variants.{Child, End, Stray}
@@ -23,6 +25,11 @@ unfoldable pub past-gap : Bool → List ℕ → List ℕ
 past-gap true s = to-tag s
 past-gap false s = afterGap (span blank s)
 
+-- CDATA in a gap: any, where words may stand, and otherwise such that holds blanks alone
+unfoldable pub gap-data : Bool → Read (List ℕ) → Read (Unit {0})
+gap-data words fail = fail
+gap-data words (got b r) = pick (words || all blank b) (got tt r) fail
+
 unfoldable pub ending : ℕ → Read (Unit {0}) → Ahead
 ending n fail = Stray
 ending n (got u r) = End (n - length r)
@@ -31,15 +38,16 @@ unfoldable pub ahead-then : Read (Unit {0}) → (List ℕ → Ahead) → Ahead
 ahead-then fail more = Stray
 ahead-then (got u r) more = more r
 
-unfoldable pub ahead-by : Look → (List ℕ → Ahead) → ℕ → List ℕ → Ahead
-ahead-by at-close more n s = ending n (past-tag s)
-ahead-by at-comment more n s = ahead-then (comment-at s) more
-ahead-by at-element more n s = Child (n - length s)
-ahead-by at-text more n s = Stray
+unfoldable pub ahead-by : Bool → Look → (List ℕ → Ahead) → ℕ → List ℕ → Ahead
+ahead-by words at-close more n s = ending n (past-tag s)
+ahead-by words at-comment more n s = ahead-then (comment-at s) more
+ahead-by words at-data more n s = ahead-then (gap-data words (data-at s)) more
+ahead-by words at-element more n s = Child (n - length s)
+ahead-by words at-text more n s = Stray
 
 unfoldable pub ahead-within : ℕ → Bool → ℕ → List ℕ → Ahead
 ahead-within zero words n s = Stray
-ahead-within (suc m) words n s = ahead-by (look (past-gap words s)) (ahead-within m words n) n (past-gap words s)
+ahead-within (suc m) words n s = ahead-by words (look (past-gap words s)) (ahead-within m words n) n (past-gap words s)
 
 unfoldable pub ahead-at : Bool → ℕ → List ℕ → Ahead
 ahead-at words n s = ahead-within (suc (length s)) words n s
@@ -73,16 +81,29 @@ unfolding ahead-then
 then-same fail f g s h k = refl
 then-same (got u r) f g s (good h) k = k r h
 
-by-same : (f g : List ℕ → Ahead) (l : Look) (n : ℕ) (s : List ℕ) → ((r : List ℕ) → length r < length s → f r ≡ g r)
-    → ahead-by l f n s ≡ ahead-by l g n s
+pub gap-data-eats : (words : Bool) (s : List ℕ) → Ok (λ _ r. length r < length s) (gap-data words (data-at s))
+unfolding gap-data
+gap-data-eats words s = go (data-at s) (data-eats s)
+  where
+    by : (t : Bool) (r : List ℕ) → length r < length s → Ok (λ _ r. length r < length s) (pick {A = Read (Unit {0})} t (got tt r) fail)
+    by true r h = good h
+    by false r h = failed
+
+    go : (m : Read (List ℕ)) → Ok (λ _ r. length r < length s) m → Ok (λ _ r. length r < length s) (gap-data words m)
+    go fail h = failed
+    go (got b r) (good h) = by (words || all blank b) r h
+
+by-same : (words : Bool) (f g : List ℕ → Ahead) (l : Look) (n : ℕ) (s : List ℕ) → ((r : List ℕ) → length r < length s → f r ≡ g r)
+    → ahead-by words l f n s ≡ ahead-by words l g n s
 unfolding ahead-by
-by-same f g at-close n s h = refl
-by-same f g at-comment n s h = then-same (comment-at s) f g s (comment-eats s) h
-by-same f g at-element n s h = refl
-by-same f g at-text n s h = refl
+by-same words f g at-close n s h = refl
+by-same words f g at-comment n s h = then-same (comment-at s) f g s (comment-eats s) h
+by-same words f g at-data n s h = then-same (gap-data words (data-at s)) f g s (gap-data-eats words s) h
+by-same words f g at-element n s h = refl
+by-same words f g at-text n s h = refl
 
 ahead-suc : (m : ℕ) (words : Bool) (n : ℕ) (s : List ℕ)
-    → ahead-within (suc m) words n s ≡ ahead-by (look (past-gap words s)) (ahead-within m words n) n (past-gap words s)
+    → ahead-within (suc m) words n s ≡ ahead-by words (look (past-gap words s)) (ahead-within m words n) n (past-gap words s)
 unfolding ahead-within
 ahead-suc m words n s = refl
 
@@ -92,13 +113,13 @@ ahead-enough zero k words n s h j = absurd (omega arith)
 ahead-enough (suc m) zero words n s h j = absurd (omega arith)
 ahead-enough (suc m) (suc k) words n s h j =
     rw (ahead-suc m words n s, ahead-suc k words n s)
-    (by-same (ahead-within m words n) (ahead-within k words n) (look (past-gap words s)) n (past-gap words s)
+    (by-same words (ahead-within m words n) (ahead-within k words n) (look (past-gap words s)) n (past-gap words s)
     (λ r l. ahead-enough m k words n r (omega (arith, gap-short words s)) (omega (arith, gap-short words s))))
 
 pub ahead-step : (words : Bool) (n : ℕ) (s : List ℕ)
-    → ahead-at words n s ≡ ahead-by (look (past-gap words s)) (ahead-at words n) n (past-gap words s)
+    → ahead-at words n s ≡ ahead-by words (look (past-gap words s)) (ahead-at words n) n (past-gap words s)
 unfolding ahead-at
 ahead-step words n s =
     ahead-suc (length s) words n s
-    ∙ by-same (ahead-within (length s) words n) (ahead-at words n) (look (past-gap words s)) n (past-gap words s)
+    ∙ by-same words (ahead-within (length s) words n) (ahead-at words n) (look (past-gap words s)) n (past-gap words s)
     (λ r l. ahead-enough (length s) (suc (length r)) words n r (omega (arith, gap-short words s)) (omega arith))

@@ -9,28 +9,30 @@ use Rattle.grammar.specs.Bytes.{blank}
 use Rattle.grammar.specs.Document.{Attribute, Element, Contents, nothing, child, run, merged}
 use Rattle.grammar.specs.Look.{contentsOf, elements}
 use Rattle.grammar.specs.Read.{Read, fail, got, Ok, good}
-use Rattle.grammar.specs.Parser.{Look, at-close, at-comment, at-element, at-text, look, comment-at}
-use Rattle.grammar.specs.Laws.Sound.{comment-sound, attributes-sound}
+use Rattle.grammar.specs.Parser.{Look, at-close, at-comment, at-data, at-element, at-text, look, comment-at, data-at}
+use Rattle.grammar.specs.Laws.Sound.{comment-sound, data-sound, attributes-sound}
 use Rattle.grammar.specs.Unfuelled.{contents}
 use Rattle.steps.specs.Step.{tails}
 use Rattle.steps.specs.Leaves.{name-tails, span-tails}
 use Rattle.nodes.specs.Places.{element₁₆, the, Stands, stands-read, the-read, Tail, tail-of, tail-more, tail-read}
-use Rattle.nodes.specs.Laws.Depth.{comment-eats, element-tails}
+use Rattle.nodes.specs.Laws.Depth.{comment-eats, data-eats, element-tails}
 use Rattle.nodes.specs.Laws.ReadSteps.{Ending, bare, filled, Spelled, spelled, eats-child, Induction, induction}
 use Rattle.nodes.specs.Scan.{to-tag, to-tag-short, tag-from, tag-at, tag-less, Less, skip-at}
 use Rattle.nodes.specs.Laws.ScanEnds.{to-tag-free, text-free}
-use Rattle.nodes.specs.Skip.{tag-here, no-text, no-text-comment, no-text-element, tag-read, tag-bare, tag-filled, skip-element}
+use Rattle.nodes.specs.Skip.{tag-here, no-text, no-text-comment, no-text-data, no-text-element, tag-read, tag-bare, tag-filled}
+use Rattle.nodes.specs.Skip.{skip-element}
 use Rattle.nodes.specs.declared.Kid.{Kid}
 use Rattle.nodes.specs.declared.Kid.the-variants.{Child, Done}
 
--- ON BYTES: the next child in what is left of contents, behind characters and comments; `n` is the length of the whole text
-unfoldable pub kid-then : Read (Unit {0}) → (List ℕ → Kid) → Kid
+-- ON BYTES: the next child in what is left of contents, behind characters, comments and CDATA; `n` is the length of the whole text
+unfoldable pub kid-then : {A : Type 0} → Read A → (List ℕ → Kid) → Kid
 kid-then fail more = Done
 kid-then (got u r) more = more r
 
 unfoldable pub kid-by : Look → (List ℕ → Kid) → ℕ → List ℕ → Kid
 kid-by at-close more n s = Done
 kid-by at-comment more n s = kid-then (comment-at s) more
+kid-by at-data more n s = kid-then (data-at s) more
 kid-by at-element more n s = Child (n - length s)
 kid-by at-text more n s = Done
 
@@ -66,7 +68,7 @@ pub data Siblings (text : List ℕ) : Kid → List Element → Type 0 where
       → Siblings text (Child k) (the text k ∷ l)
 
 -- fuel changes nothing
-then-same : (m : Read (Unit {0})) (f g : List ℕ → Kid) (s : List ℕ) → Ok (λ _ r. length r < length s) m
+then-same : {A : Type 0} (m : Read A) (f g : List ℕ → Kid) (s : List ℕ) → Ok (λ _ r. length r < length s) m
     → ((r : List ℕ) → length r < length s → f r ≡ g r) → kid-then m f ≡ kid-then m g
 unfolding kid-then
 then-same fail f g s h k = refl
@@ -77,6 +79,7 @@ by-same : (f g : List ℕ → Kid) (l : Look) (n : ℕ) (s : List ℕ) → ((r :
 unfolding kid-by
 by-same f g at-close n s h = refl
 by-same f g at-comment n s h = then-same (comment-at s) f g s (comment-eats s) h
+by-same f g at-data n s h = then-same (data-at s) f g s (data-eats s) h
 by-same f g at-element n s h = refl
 by-same f g at-text n s h = refl
 
@@ -103,7 +106,7 @@ pub kid-look : (n : ℕ) (s : List ℕ) (l : Look) → look s ≡ l → (l ≡ a
 kid-look n s l e f = let z = tag-here s l e f in kid-step n s ∙ rw (z, e)
 
 -- a cursor that was found in the end `s` of a text is not before it
-then-left : (text : List ℕ) (m : Read (Unit {0})) (f : List ℕ → Kid) (s : List ℕ) → Ok (λ _ r. length r < length s) m
+then-left : {A : Type 0} (text : List ℕ) (m : Read A) (f : List ℕ → Kid) (s : List ℕ) → Ok (λ _ r. length r < length s) m
     → ((r : List ℕ) → left text (f r) ≤ length r) → left text (kid-then m f) ≤ length s
 unfolding kid-then left
 then-left text fail f s h k = omega arith
@@ -114,6 +117,7 @@ by-left : (text : List ℕ) (f : List ℕ → Kid) (l : Look) (s : List ℕ) →
 unfolding kid-by left
 by-left text f at-close s k = omega arith
 by-left text f at-comment s k = then-left text (comment-at s) f s (comment-eats s) k
+by-left text f at-data s k = then-left text (data-at s) f s (data-eats s) k
 by-left text f at-element s k = omega arith
 by-left text f at-text s k = omega arith
 
@@ -142,9 +146,10 @@ next-read text at {e} {r} k = rw (skip-element (drop at text) e r k)
 
 pub elements-joined : (b : List ℕ) (c : Contents) → elements (merged b c) ≡ elements c
 unfolding elements merged
-elements-joined b nothing = refl
-elements-joined b (child e c) = refl
-elements-joined b (run a c) = refl
+elements-joined [] c = refl
+elements-joined (a ∷ b) nothing = refl
+elements-joined (a ∷ b) (child e c) = refl
+elements-joined (a ∷ b) (run w c) = refl
 
 -- the row that contents hold
 module _ (text : List ℕ) where
@@ -158,6 +163,10 @@ module _ (text : List ℕ) where
   row-remarked : (s r : List ℕ) → look s ≡ at-comment → comment-at s ≡ got tt r → kid-at (length text) s ≡ kid-at (length text) r
   unfolding kid-by kid-then
   row-remarked s r q e = kid-look (length text) s at-comment q (no-text-comment refl) ∙ rw e
+
+  row-marked : (s r b : List ℕ) → look s ≡ at-data → data-at s ≡ got b r → kid-at (length text) s ≡ kid-at (length text) r
+  unfolding kid-by kid-then
+  row-marked s r b q e = kid-look (length text) s at-data q (no-text-data refl) ∙ rw e
 
   row-lettered : (w r : List ℕ) → to-tag (w ++ r) ≡ to-tag r → kid-at (length text) (w ++ r) ≡ kid-at (length text) r
   row-lettered w r e = kid-step (length text) (w ++ r) ∙ rw e (sym (kid-step (length text) r))
@@ -189,6 +198,9 @@ module _ (text : List ℕ) where
     lettered = λ b w r c t k _ h. record {
       row = λ tail. rw (row-lettered w r (to-tag-free (text-free k) r), elements-joined b c)
           (h .row (tail-more w r refl tail));
+    };
+    marked = λ s r b c t q e h. record {
+      row = λ tail. rw (row-marked s r b q e, elements-joined b c) (h .row (tail-read (tails (data-sound s)) e tail));
     };
     childed = λ s r x c t q e inside h. record
         { row = λ tail. row-child s r x c tail q e (inside r c t (eats-child s e) h .row (tail-child s r x tail e)) };

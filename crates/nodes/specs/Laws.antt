@@ -14,3 +14,4 @@ pub mod Letters
 pub mod Walk
 pub mod Along
 pub mod AheadElements
+pub mod BlankData

@@ -1,4 +1,4 @@
--- The root of a document stands where the declaration, blanks and comments end.
+-- The root of a document stands where all ends that may stand before it.
 use mathlib.Core.Path.{_≡_, refl, ap, sym, _∙_, subst}
 use mathlib.Core.List.{List}
 use mathlib.Core.Option.{some}
@@ -8,9 +8,9 @@ use lib.ListN.{length, drop}
 use Rattle.lists.specs.Laws.Booleans.{clash}
 use Rattle.grammar.specs.Document.{Element}
 use Rattle.grammar.specs.Read.{Read, fail, got, bind, all-of}
-use Rattle.grammar.specs.Parser.{declaration-at, no-aside, aside-at, element-at, contents-at, document-at, end-at, answer, parse}
+use Rattle.grammar.specs.Parser.{declaration-at, prologue-at, no-aside, aside-at, element-at, contents-at, document-at, end-at, answer, parse}
 use Rattle.grammar.specs.Unfuelled.{contents, element-enough}
-use Rattle.steps.specs.Prologue.{asides-at, prologue-at, prologue-tails}
+use Rattle.steps.specs.Prologue.{preamble-at, preamble-tails}
 use Rattle.nodes.specs.Places.{element₁₆, Stands, the, stands-read, the-read, unbind, Tail, tail-read}
 use Rattle.nodes.specs.Laws.ReadSteps.{eats-child}
 use Rattle.nodes.specs.declared.Kid.{Kid}
@@ -22,7 +22,7 @@ root-by n fail = Done
 root-by n (got u r) = Child (n - length r)
 
 unfoldable pub root : List ℕ → Kid
-root text = root-by (length text) (prologue-at text)
+root text = root-by (length text) (preamble-at text)
 
 -- the root stands, and is `e`
 pub record Rooted (text : List ℕ) (e : Element) : Type 0 where
@@ -39,10 +39,10 @@ unfolding answer
 answered fail e h = clash (cc)
 answered (got x r) e h = (r, let q : x ≡ e = cc in ap (λ x. got x r) q)
 
-rooted-at : (text s₂ s₃ : List ℕ) (e : Element) (bs : List (List ℕ)) → prologue-at text ≡ got bs s₂ → Tail text s₂
+rooted-at : (text s₂ s₃ : List ℕ) (e : Element) → preamble-at text ≡ got tt s₂ → Tail text s₂
     → element₁₆ s₂ ≡ got e s₃ → Rooted text e
 unfolding root root-by
-rooted-at text s₂ s₃ e bs p t k =
+rooted-at text s₂ s₃ e p t k =
     let i : ℕ = length text - length s₂ in
     let k₁ : element₁₆ (drop i text) ≡ got e s₃ = rw (t .stands) k in
     let short : length s₃ < length s₂ = eats-child s₂ k in
@@ -52,10 +52,9 @@ sixteen : (s : List ℕ) → element₁₆ s ≡ element-at contents 16 s
 unfolding element₁₆
 sixteen s = refl
 
-prologue-is : (text s₁ s₂ : List ℕ) (u : Unit {0}) (bs : List (List ℕ)) → declaration-at text ≡ got u s₁
-    → all-of no-aside aside-at s₁ ≡ got bs s₂ → prologue-at text ≡ got bs s₂
-unfolding prologue-at asides-at bind
-prologue-is text s₁ s₂ u bs p q = rw (p, q)
+preamble-is : (text s₁ s₂ : List ℕ) → declaration-at text ≡ got tt s₁ → prologue-at s₁ ≡ got tt s₂ → preamble-at text ≡ got tt s₂
+unfolding preamble-at bind
+preamble-is text s₁ s₂ p q = rw (p, q)
 
 -- THE LAW OF THE ROOT
 pub root-law : (text : List ℕ) (e : Element) → parse text ≡ some e → Rooted text e
@@ -63,13 +62,13 @@ unfolding parse document-at
 root-law text e h =
     let a = answered (document-at (length text) text) e h in
     let b₁ = unbind (declaration-at text) _ (a .1) in
-    let b₂ = unbind (all-of no-aside aside-at (b₁ .rest)) _ (b₁ .then) in
+    let b₂ = unbind (prologue-at (b₁ .rest)) _ (b₁ .then) in
     let b₃ = unbind (element-at (contents-at (length text)) 16 (b₂ .rest)) _ (b₂ .then) in
     let b₄ = unbind (all-of no-aside aside-at (b₃ .rest)) _ (b₃ .then) in
     let b₅ = unbind (end-at (b₄ .rest)) _ (b₄ .then) in
     let q : b₃ .value ≡ e = let z = b₅ .then in cc in
-    let p = prologue-is text (b₁ .rest) (b₂ .rest) (b₁ .value) (b₂ .value) (b₁ .reads) (b₂ .reads) in
-    let t : Tail text (b₂ .rest) = tail-read (prologue-tails text) p (whole-tail text) in
+    let p = preamble-is text (b₁ .rest) (b₂ .rest) (b₁ .reads) (b₂ .reads) in
+    let t : Tail text (b₂ .rest) = tail-read (preamble-tails text) p (whole-tail text) in
     let k : element-at contents 16 (b₂ .rest) ≡ got (b₃ .value) (b₃ .rest) = sym (element-enough (length text) 16 (b₂ .rest) (t .fits))
     ∙ b₃ .reads in
-    subst (λ (x : Element). Rooted text x) q (rooted-at text (b₂ .rest) (b₃ .rest) (b₃ .value) (b₂ .value) p t (sixteen (b₂ .rest) ∙ k))
+    subst (λ (x : Element). Rooted text x) q (rooted-at text (b₂ .rest) (b₃ .rest) (b₃ .value) p t (sixteen (b₂ .rest) ∙ k))

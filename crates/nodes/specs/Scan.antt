@@ -8,12 +8,12 @@ use lib.Dec.{eqb}
 use lib.ListN.{length, drop, length-append}
 use Rattle.grammar.specs.Bytes.{ascii, quote}
 use Rattle.grammar.specs.Read.{Read, fail, got, Reader, bind, mark, Ok, failed, good, ok-map, bind-ok, mark-sound}
-use Rattle.grammar.specs.Parser.{closing, comment-at, Look, at-close, at-comment, at-element, at-text, look}
-use Rattle.grammar.specs.Laws.Sound.{comment-sound}
+use Rattle.grammar.specs.Parser.{closing, comment-at, data-at, Look, at-close, at-comment, at-data, at-element, at-text, look}
+use Rattle.grammar.specs.Laws.Sound.{comment-sound, data-sound}
 use Rattle.grammar.specs.Unfuelled.{bind-same}
 use Rattle.steps.specs.Step.{Tails}
 use Rattle.nodes.specs.Places.{pick}
-use Rattle.nodes.specs.Laws.Depth.{comment-eats}
+use Rattle.nodes.specs.Laws.Depth.{comment-eats, data-eats}
 
 -- from the first `<` on
 unfoldable pub to-tag : List ℕ → List ℕ
@@ -67,6 +67,7 @@ unfoldable pub scan-by : Look → (ℕ → Reader (Unit {0})) → ℕ → Reader
 scan-by at-close more zero s = got tt s
 scan-by at-close more (suc d) s = bind (past-tag s) (λ _ r. more d r)
 scan-by at-comment more d s = bind (comment-at s) (λ _ r. more d r)
+scan-by at-data more d s = bind (data-at s) (λ _ r. more d r)
 scan-by at-element more d s = bind (tag-at s) (λ wide r. more (pick wide (suc d) d) r)
 scan-by at-text more d s = fail
 
@@ -160,6 +161,7 @@ unfolding scan-by
 by-same f g at-close zero s h = refl
 by-same f g at-close (suc d) s h = bind-same _ _ (past-tag-less s) λ _ r k. h d r (k .falls)
 by-same f g at-comment d s h = bind-same _ _ (comment-eats s) λ _ r k. h d r k
+by-same f g at-data d s h = bind-same _ _ (data-eats s) λ _ r k. h d r k
 by-same f g at-element d s h = bind-same _ _ (tag-less s) λ wide r k. h (pick wide (suc d) d) r (k .falls)
 by-same f g at-text d s h = refl
 
@@ -195,6 +197,7 @@ unfolding scan-by
 by-tails f ih at-close zero s = good ([], refl)
 by-tails f ih at-close (suc d) s = bind-ok (past-tag-less s) λ _ r k. joined-tails (k .front) (k .whole) (ih d r)
 by-tails f ih at-comment d s = bind-ok (comment-sound s) λ _ r k. joined-tails (k .0) (k .1) (ih d r)
+by-tails f ih at-data d s = bind-ok (data-sound s) λ _ r k. joined-tails (k .0) (k .1) (ih d r)
 by-tails f ih at-element d s = bind-ok (tag-less s) λ wide r k. joined-tails (k .front) (k .whole) (ih (pick wide (suc d) d) r)
 by-tails f ih at-text d s = failed
 

@@ -5,7 +5,7 @@ use Prim.Native.Nat.{ℕ, zero, suc, _-_}
 use mathlib.Core.Bool.{Bool, true, false}
 use lib.ListN.{length}
 use Rattle.grammar.specs.Read.{Read, fail, got, bind}
-use Rattle.grammar.specs.Parser.{comment-at, Look, at-close, at-comment, at-element, at-text, look}
+use Rattle.grammar.specs.Parser.{comment-at, data-at, Look, at-close, at-comment, at-data, at-element, at-text, look}
 use Rattle.nodes.specs.Places.{pick}
 use Rattle.nodes.specs.Scan.{to-tag, past-tag, tag-at, scan-by, scan, scan-step}
 use Rattle.nodes.specs.declared.scan.Tag.{Tag}
@@ -25,7 +25,7 @@ pub data Mark : Type 0 where
   flat : List ℕ → Mark
   none : Mark
 
-unfoldable pub flat-of : Read (Unit {0}) → Mark
+unfoldable pub flat-of : {A : Type 0} → Read A → Mark
 flat-of fail = none
 flat-of (got u r) = flat r
 
@@ -37,6 +37,7 @@ mark-of (got false r) = flat r
 unfoldable pub sign-by : Look → List ℕ → Mark
 sign-by at-close s = closes s
 sign-by at-comment s = flat-of (comment-at s)
+sign-by at-data s = flat-of (data-at s)
 sign-by at-element s = mark-of (tag-at s)
 sign-by at-text s = none
 
@@ -57,7 +58,7 @@ go-on (opens r) d = scan (suc d) r
 go-on (flat r) d = scan d r
 go-on none d = fail
 
-flat-on : (m : Read (Unit {0})) (d : ℕ) → bind m (λ _ r. scan d r) ≡ go-on (flat-of m) d
+flat-on : {A : Type 0} (m : Read A) (d : ℕ) → bind m (λ _ r. scan d r) ≡ go-on (flat-of m) d
 unfolding bind flat-of go-on
 flat-on fail d = refl
 flat-on (got u r) d = refl
@@ -73,6 +74,7 @@ unfolding scan-by sign-by go-on
 by-on at-close zero s = refl
 by-on at-close (suc d) s = refl
 by-on at-comment d s = flat-on (comment-at s) d
+by-on at-data d s = flat-on (data-at s) d
 by-on at-element d s = mark-on (tag-at s) d
 by-on at-text d s = refl
 

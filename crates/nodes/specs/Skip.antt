@@ -11,7 +11,8 @@ use Rattle.grammar.specs.Bytes.{ascii, blank}
 use Rattle.grammar.specs.Document.{Attribute, Element, Contents}
 use Rattle.grammar.specs.Read.{Read, got, bind, mark, span, ok-got, mark-sound, span-sound, test}
 use Rattle.grammar.specs.Grammar.{Name}
-use Rattle.grammar.specs.Parser.{Look, at-close, at-comment, at-element, at-text, look, look-if, look₂, look-by, comment-at, closing}
+use Rattle.grammar.specs.Parser.{Look, at-close, at-comment, at-data, at-element, at-text, look, look-if, look₂, look-by, comment-at, data-at}
+use Rattle.grammar.specs.Parser.{closing}
 use Rattle.grammar.specs.Laws.Sound.{name-sound, attributes-sound}
 use Rattle.grammar.specs.Unfuelled.{contents}
 use Rattle.steps.specs.Tags.{close-at}
@@ -37,6 +38,9 @@ no-text e f = clash (cc)
 
 pub no-text-comment : {l : Look} → l ≡ at-comment → l ≡ at-text → ⊥
 no-text-comment e f = clash (cc)
+
+pub no-text-data : {l : Look} → l ≡ at-data → l ≡ at-text → ⊥
+no-text-data e f = clash (cc)
 
 pub no-text-element : {l : Look} → l ≡ at-element → l ≡ at-text → ⊥
 no-text-element e f = clash (cc)
@@ -144,6 +148,10 @@ scan-remark : (s r : List ℕ) → look s ≡ at-comment → comment-at s ≡ go
 unfolding scan-by bind
 scan-remark s r q e d = scan-at d s at-comment q (no-text-comment refl) ∙ rw e
 
+scan-data : (s r b : List ℕ) → look s ≡ at-data → data-at s ≡ got b r → (d : ℕ) → scan d s ≡ scan d r
+unfolding scan-by bind
+scan-data s r b q e d = scan-at d s at-data q (no-text-data refl) ∙ rw e
+
 scan-text : (w r : List ℕ) → to-tag (w ++ r) ≡ to-tag r → (d : ℕ) → scan d (w ++ r) ≡ scan d r
 scan-text w r e d = scan-step d (w ++ r) ∙ rw e (sym (scan-step d r))
 
@@ -152,6 +160,7 @@ scanning = record {
   closed = λ s q. record { same-end = λ d. refl };
   remarked = λ s r c t q e h. record { same-end = λ d. scan-remark s r q e d ∙ h .same-end d };
   lettered = λ b w r c t k _ h. record { same-end = λ d. scan-text w r (to-tag-free (text-free k) r) d ∙ h .same-end d };
+  marked = λ s r b c t q e h. record { same-end = λ d. scan-data s r b q e d ∙ h .same-end d };
   childed = λ s r x c t q e inside h. record
       { same-end = λ d. scan-child s r x q e inside d ∙ inside r c t (eats-child s e) h .same-end d };
 }

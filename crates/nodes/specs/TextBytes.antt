@@ -1,22 +1,24 @@
--- The decoded bytes of an element's text, one by one: comments and children are passed over and part nothing.
+-- The decoded bytes of an element's text, one by one: comments and children are passed over and part nothing; CDATA says its characters.
 use mathlib.Core.Path.{_≡_, refl, ap, sym, _∙_}
 use mathlib.Core.List.{List, [], _∷_, _++_, append-assoc}
 use Prim.Native.Nat.{ℕ, zero, suc, _+_, _-_, _<_}
 use native.Mathlib.Omega.{arith}
-use mathlib.Core.Bool.{true, false}
+use mathlib.Core.Bool.{Bool, true, false}
 use lib.Dec.{eqb}
 use borrow.Author.Tests.{ne-eqb}
-use lib.ListN.{length}
+use lib.ListN.{length, length-append}
 use Rattle.lists.specs.Laws.Booleans.{or-right, or-left}
-use Rattle.grammar.specs.Bytes.{ascii, special, parted}
+use Rattle.grammar.specs.Bytes.{ascii, special, parted, closed, begins, Row, none-more, and-more}
 use Rattle.grammar.specs.Characters.{Character, utf8-1, utf8-2, utf8-3, utf8-4}
-use Rattle.grammar.specs.Document.{Element, Contents, nothing, child, run, merged}
+use Rattle.grammar.specs.Document.{Element, Contents, nothing, child, run, merged, together}
 use Rattle.grammar.specs.Grammar
-use Rattle.grammar.specs.Grammar.{TextCharacter}
+use Rattle.grammar.specs.Grammar.{TextCharacter, DataCharacter, CData}
 use Rattle.grammar.specs.Look.{characters}
-use Rattle.grammar.specs.Read.{Read, fail, got, Ok, good}
-use Rattle.grammar.specs.Parser.{reference-at, line-end-at, comment-at, Look, at-close, at-comment, at-element, at-text, look, look-if}
-use Rattle.grammar.specs.Laws.Sound.{reference-sound}
+use Rattle.grammar.specs.Read.{Read, fail, got, mark, Ok, good, ok-got, ok-map, mark-sound, mark-complete}
+use Rattle.grammar.specs.Parser.{reference-at, line-end-at, comment-at, data-at, Look, at-close, at-comment, at-data, at-element, at-text}
+use Rattle.grammar.specs.Parser.{look, look-if, look₂, look-by, look₃, look-third}
+use Rattle.grammar.specs.Laws.Sound.{reference-sound, data-sound}
+use Rattle.grammar.specs.Laws.Data.{open-apart, data-character-long}
 use Rattle.grammar.specs.Laws.Tokens.{reference-complete, reference-other, reference-ampersand, Ampersand, ampersand, line-end-other}
 use Rattle.grammar.specs.Unfuelled.{less, contents}
 use Rattle.steps.specs.Leaves.{first-byte, line-end-eats}
@@ -28,102 +30,149 @@ use Rattle.nodes.specs.Scan.{skip-at, skip-less, less-falls}
 use Rattle.grammar.specs.Laws.Others.{continues-high, lead3-high, lead4-high}
 use Rattle.nodes.specs.Skip.{skip-element}
 
--- ON BYTES: a step over contents: it stops, passes a comment or a child, or reads a decoded byte
+-- WHAT IS LEFT of contents: outside of CDATA, or within it
+pub data Rest : Type 0 where
+  outside : List ℕ → Rest
+  within : List ℕ → Rest
+
+abbrev pub bytes : Rest → List ℕ
+bytes (outside s) = s
+bytes (within s) = s
+
+-- ON BYTES: a step over contents: it stops, passes over something, or reads a decoded byte
 pub data Move : Type 0 where
   stop : Move
-  skip : List ℕ → Move
-  char : ℕ → List ℕ → Move
+  skip : Rest → Move
+  char : ℕ → Rest → Move
 
-unfoldable pub past : Read (Unit {0}) → Move
-past fail = stop
-past (got u r) = skip r
+unfoldable pub past : (List ℕ → Rest) → Read (Unit {0}) → Move
+past side fail = stop
+past side (got u r) = skip (side r)
 
-unfoldable pub referring : Read (List ℕ) → Move → Move
-referring fail x = x
-referring (got b r) x = char (first-byte b) r
+unfoldable pub referring : (List ℕ → Rest) → Read (List ℕ) → Move → Move
+referring side fail x = x
+referring side (got b r) x = char (first-byte b) (side r)
 
 -- a byte that begins no reference: the end of a line is a line feed
-unfoldable pub bare-char : ℕ → List ℕ → Move
-bare-char a s = referring (line-end-at (ascii "\n") (a ∷ s)) (char a s)
+unfoldable pub bare-char : (List ℕ → Rest) → ℕ → List ℕ → Move
+bare-char side a s = referring side (line-end-at (ascii "\n") (a ∷ s)) (char a (side s))
 
+-- outside of CDATA: its mark leads into it
 unfoldable pub step-by : Look → List ℕ → Move
 step-by at-close s = stop
-step-by at-element s = past (skip-at s)
-step-by at-comment s = past (comment-at s)
+step-by at-element s = past outside (skip-at s)
+step-by at-comment s = past outside (comment-at s)
+step-by at-data s = past within (mark (ascii "<![CDATA[") s)
 step-by at-text [] = stop
-step-by at-text (a ∷ s) = referring (reference-at (a ∷ s)) (bare-char a s)
+step-by at-text (a ∷ s) = referring outside (reference-at (a ∷ s)) (bare-char outside a s)
 
-unfoldable pub step : List ℕ → Move
-step s = step-by (look s) s
+-- within CDATA: `]]>` leads out of it
+unfoldable pub step-in : Bool → List ℕ → Move
+step-in true s = past outside (mark (ascii "]]>") s)
+step-in false [] = stop
+step-in false (a ∷ s) = bare-char within a s
 
-unfoldable pub say : Move → (List ℕ → List ℕ) → List ℕ
+unfoldable pub step : Rest → Move
+step (outside s) = step-by (look s) s
+step (within s) = step-in (begins (ascii "]]>") s) s
+
+unfoldable pub say : Move → (Rest → List ℕ) → List ℕ
 say stop f = []
 say (skip r) f = f r
 say (char b r) f = b ∷ f r
 
-unfoldable pub said-within : ℕ → List ℕ → List ℕ
-said-within zero s = []
-said-within (suc n) s = say (step s) (said-within n)
+unfoldable pub said-within : ℕ → Rest → List ℕ
+said-within zero x = []
+said-within (suc n) x = say (step x) (said-within n)
 
-unfoldable pub says : List ℕ → List ℕ
-says s = said-within (suc (length s)) s
+unfoldable pub saysFrom : Rest → List ℕ
+saysFrom x = said-within (suc (length (bytes x))) x
 
-pub data Shorter (s : List ℕ) : Move → Type 0 where
-  stop-short : Shorter s stop
-  skip-short : {r : List ℕ} → length r < length s → Shorter s (skip r)
-  char-short : {b : ℕ} {r : List ℕ} → length r < length s → Shorter s (char b r)
+-- what contents say from here on; what CDATA and they say from here on
+abbrev pub says : List ℕ → List ℕ
+says s = saysFrom (outside s)
 
-past-short : (s : List ℕ) (m : Read (Unit {0})) → Ok (λ _ r. length r < length s) m → Shorter s (past m)
+abbrev pub saysIn : List ℕ → List ℕ
+saysIn s = saysFrom (within s)
+
+pub data Shorter (n : ℕ) : Move → Type 0 where
+  stop-short : Shorter n stop
+  skip-short : {r : Rest} → length (bytes r) < n → Shorter n (skip r)
+  char-short : {b : ℕ} {r : Rest} → length (bytes r) < n → Shorter n (char b r)
+
+-- both sides have the bytes that they are made of
+abbrev Side : (List ℕ → Rest) → Type 0
+Side side = (r : List ℕ) → bytes (side r) ≡ r
+
+past-short : (side : List ℕ → Rest) → Side side → (n : ℕ) (m : Read (Unit {0})) → Ok (λ _ r. length r < n) m → Shorter n (past side m)
 unfolding past
-past-short s fail h = stop-short
-past-short s (got u r) (good h) = skip-short h
+past-short side k n fail h = stop-short
+past-short side k n (got u r) (good h) = skip-short {r = side r} (rw (k r) h)
 
-referring-short : (s : List ℕ) (m : Read (List ℕ)) (x : Move) → Ok (λ _ r. length r < length s) m → Shorter s x → Shorter s (referring m x)
+referring-short : (side : List ℕ → Rest) → Side side → (n : ℕ) (m : Read (List ℕ)) (x : Move) → Ok (λ _ r. length r < n) m → Shorter n x
+    → Shorter n (referring side m x)
 unfolding referring
-referring-short s fail x h k = k
-referring-short s (got b r) x (good h) k = char-short h
+referring-short side k n fail x h j = j
+referring-short side k n (got b r) x (good h) j = char-short {r = side r} (rw (k r) h)
+
+bare-short : (side : List ℕ → Rest) → Side side → (a : ℕ) (s : List ℕ) → Shorter (length (a ∷ s)) (bare-char side a s)
+unfolding bare-char
+bare-short side k a s = referring-short side k (length (a ∷ s)) (line-end-at (ascii "\n") (a ∷ s)) (char a (side s))
+    (line-end-eats (ascii "\n") (a ∷ s)) (char-short {r = side s} (rw (k s) (omega arith)))
 
 ampersand-long : {w : List ℕ} → Ampersand w → 0 < length w
 ampersand-long (ampersand w) = omega arith
 
-by-short : (l : Look) (s : List ℕ) → Shorter s (step-by l s)
-unfolding step-by bare-char
+mark-eats : (a : ℕ) (k s : List ℕ) → Ok (λ _ r. length r < length s) (mark (a ∷ k) s)
+mark-eats a k s = ok-map (mark-sound (a ∷ k) s) λ _ r e. omega (arith, ap length e, length-append k r)
+
+by-short : (l : Look) (s : List ℕ) → Shorter (length s) (step-by l s)
+unfolding step-by
 by-short at-close s = stop-short
-by-short at-element s = past-short s (skip-at s) (less-falls (skip-less s))
-by-short at-comment s = past-short s (comment-at s) (comment-eats s)
+by-short at-element s = past-short outside (λ _. refl) (length s) (skip-at s) (less-falls (skip-less s))
+by-short at-comment s = past-short outside (λ _. refl) (length s) (comment-at s) (comment-eats s)
+by-short at-data s = past-short within (λ _. refl) (length s) (mark (ascii "<![CDATA[") s) (mark-eats 60 (ascii "![CDATA[") s)
 by-short at-text [] = stop-short
-by-short at-text (a ∷ s) = referring-short (a ∷ s) (reference-at (a ∷ s)) _
-    (less (λ b w h. ampersand-long (reference-ampersand h)) (reference-sound (a ∷ s)))
-    (referring-short (a ∷ s) (line-end-at (ascii "\n") (a ∷ s)) (char a s) (line-end-eats (ascii "\n") (a ∷ s)) (char-short (omega arith)))
+by-short at-text (a ∷ s) = referring-short outside (λ _. refl) (length (a ∷ s)) (reference-at (a ∷ s)) _
+    (less (λ b w h. ampersand-long (reference-ampersand h)) (reference-sound (a ∷ s))) (bare-short outside (λ _. refl) a s)
 
-pub step-short : (s : List ℕ) → Shorter s (step s)
+in-short : (t : Bool) (s : List ℕ) → Shorter (length s) (step-in t s)
+unfolding step-in
+in-short true s = past-short outside (λ _. refl) (length s) (mark (ascii "]]>") s) (mark-eats 93 (ascii "]>") s)
+in-short false [] = stop-short
+in-short false (a ∷ s) = bare-short within (λ _. refl) a s
+
+pub step-short : (x : Rest) → Shorter (length (bytes x)) (step x)
 unfolding step
-step-short s = by-short (look s) s
+step-short (outside s) = by-short (look s) s
+step-short (within s) = in-short (begins (ascii "]]>") s) s
 
-say-same : (s : List ℕ) (x : Move) (f g : List ℕ → List ℕ) → Shorter s x → ((r : List ℕ) → length r < length s → f r ≡ g r)
-    → say x f ≡ say x g
+say-same : (n : ℕ) (x : Move) (f g : Rest → List ℕ) → Shorter n x → ((r : Rest) → length (bytes r) < n → f r ≡ g r) → say x f ≡ say x g
 unfolding say
-say-same s stop f g h k = refl
-say-same s (skip r) f g (skip-short h) k = k r h
-say-same s (char b r) f g (char-short h) k = ap (λ l. b ∷ l) (k r h)
+say-same n stop f g h k = refl
+say-same n (skip r) f g (skip-short h) k = k r h
+say-same n (char b r) f g (char-short h) k = ap (λ l. b ∷ l) (k r h)
 
-said-suc : (n : ℕ) (s : List ℕ) → said-within (suc n) s ≡ say (step s) (said-within n)
+said-suc : (n : ℕ) (x : Rest) → said-within (suc n) x ≡ say (step x) (said-within n)
 unfolding said-within
-said-suc n s = refl
+said-suc n x = refl
 
-said-enough : (n m : ℕ) (s : List ℕ) → length s < n → length s < m → said-within n s ≡ said-within m s
-said-enough zero m s h k = absurd (omega arith)
-said-enough (suc n) zero s h k = absurd (omega arith)
-said-enough (suc n) (suc m) s h k =
-    rw (said-suc n s, said-suc m s) (say-same s (step s) (said-within n) (said-within m) (step-short s)
+said-enough : (n m : ℕ) (x : Rest) → length (bytes x) < n → length (bytes x) < m → said-within n x ≡ said-within m x
+said-enough zero m x h k = absurd (omega arith)
+said-enough (suc n) zero x h k = absurd (omega arith)
+said-enough (suc n) (suc m) x h k =
+    rw (said-suc n x, said-suc m x) (say-same (length (bytes x)) (step x) (said-within n) (said-within m) (step-short x)
     (λ r l. said-enough n m r (omega arith) (omega arith)))
 
-pub says-step : (s : List ℕ) → says s ≡ say (step s) says
-unfolding says
-says-step s =
-    said-suc (length s) s
-    ∙ say-same s (step s) (said-within (length s)) (λ r. said-within (suc (length r)) r) (step-short s)
-    (λ r l. said-enough (length s) (suc (length r)) r (omega arith) (omega arith))
+pub says-from : (x : Rest) → saysFrom x ≡ say (step x) saysFrom
+unfolding saysFrom
+says-from x =
+    said-suc (length (bytes x)) x
+    ∙ say-same (length (bytes x)) (step x) (said-within (length (bytes x))) (λ r. said-within (suc (length (bytes r))) r) (step-short x)
+    (λ r l. said-enough (length (bytes x)) (suc (length (bytes r))) r (omega arith) (omega arith))
+
+pub says-step : (s : List ℕ) → says s ≡ say (step (outside s)) saysFrom
+says-step s = says-from (outside s)
 
 -- a byte of text
 pub plain : (a : ℕ) (s : List ℕ) → special a ≡ false → eqb a 13 ≡ false → says (a ∷ s) ≡ a ∷ says s
@@ -169,6 +218,61 @@ text-says (TextCharacter.reference Grammar.gt) s _ = by-reference 62 _ s (refere
 text-says (TextCharacter.reference Grammar.quot) s _ = by-reference 34 _ s (reference-complete Grammar.quot s)
 text-says (TextCharacter.reference Grammar.apos) s _ = by-reference 39 _ s (reference-complete Grammar.apos s)
 
+-- A BYTE OF CDATA
+in-byte : (a : ℕ) (s : List ℕ) → begins (ascii "]]>") (a ∷ s) ≡ false → eqb a 13 ≡ false → saysIn (a ∷ s) ≡ a ∷ saysIn s
+unfolding step step-in bare-char referring say
+in-byte a s e f = rw (says-from (within (a ∷ s)), e, line-end-other (ascii "\n") a f s)
+
+in-return : (s : List ℕ) → saysIn (13 ∷ s) ≡ 10 ∷ saysIn (fed s)
+unfolding step step-in bare-char referring say first-byte begins
+in-return s = rw (says-from (within (13 ∷ s)), return-read (ascii "\n") s, feed-got (ascii "\n") s)
+
+in-high : (a : ℕ) (s : List ℕ) → 127 < a → saysIn (a ∷ s) ≡ a ∷ saysIn s
+unfolding begins
+in-high a s h = in-byte a s (rw (ne-eqb a 93 (λ e. omega arith))) (ne-eqb a 13 (λ e. omega arith))
+
+in-character : {a : ℕ} {w : List ℕ} → Character a w → eqb a 13 ≡ false → (s : List ℕ) → begins (ascii "]]>") (a ∷ (w ++ s)) ≡ false
+    → saysIn (a ∷ (w ++ s)) ≡ a ∷ (w ++ saysIn s)
+in-character {a} (utf8-1 k) f s e = in-byte a s e f
+in-character {a} (utf8-2 {b = b} k₁ k₂) f s e = in-byte a (b ∷ s) e f ∙ ap (λ l. a ∷ l) (in-high b s (continues-high b k₂))
+in-character {a} (utf8-3 {b = b} {c} k₁ k₂ k₃) f s e =
+    in-byte a (b ∷ c ∷ s) e f ∙ ap (λ l. a ∷ l)
+    (in-high b (c ∷ s) (lead3-high a b k₁) ∙ ap (λ l. b ∷ l) (in-high c s (continues-high c k₂)))
+in-character {a} (utf8-4 {b = b} {c} {d} k₁ k₂ k₃) f s e =
+    in-byte a (b ∷ c ∷ d ∷ s) e f ∙ ap (λ l. a ∷ l)
+    (in-high b (c ∷ d ∷ s) (lead4-high a b k₁)
+    ∙ ap (λ l. b ∷ l) (in-high c (d ∷ s) (continues-high c k₂) ∙ ap (λ l. c ∷ l) (in-high d s (continues-high d k₃))))
+
+in-end : (s : List ℕ) → saysIn (ascii "]]>" ++ s) ≡ says s
+unfolding step step-in past say begins
+in-end s = rw (says-from (within (ascii "]]>" ++ s)), mark-complete (ascii "]]>") s)
+
+data-character-says : {b w : List ℕ} → DataCharacter b w → (s : List ℕ) → closed w s ≡ false → saysIn (w ++ s) ≡ b ++ saysIn s
+unfolding closed
+data-character-says (DataCharacter.literal {a} {w} k f) s e = in-character k f s (or-right (parted (a ∷ w) s) _ e)
+data-character-says (DataCharacter.line-end {w} k) s e =
+    let z = line-end-returns k s (or-left (parted w s) _ e) in
+    ap saysIn (z .whole) ∙ in-return (z .behind) ∙ ap (λ r. 10 ∷ saysIn r) (z .leaves)
+
+row-says : {bs : List (List ℕ)} {w : List ℕ} → Row DataCharacter closed bs w → (r : List ℕ)
+    → saysIn (w ++ (ascii "]]>" ++ r)) ≡ together bs ++ says r
+row-says none-more r = in-end r
+row-says (and-more {a = b} {l} {w} {s} k e t) r =
+    let x : List ℕ = s ++ (ascii "]]>" ++ r) in
+    ap saysIn (append-assoc w s (ascii "]]>" ++ r))
+    ∙ data-character-says k x (open-apart w s r (data-character-long k) e)
+    ∙ ap (λ l. b ++ l) (row-says t r)
+    ∙ sym (append-assoc b (together l) (says r))
+
+data-says : {b w : List ℕ} → CData b w → (r : List ℕ) → says (w ++ r) ≡ b ++ says r
+unfolding step step-by past say look look-if look₂ look-by look₃ look-third
+data-says (Grammar.cdata {bs} {w} t) r = simp append-assoc
+    (rw (says-step (ascii "<![CDATA[" ++ (w ++ (ascii "]]>" ++ r))), mark-complete (ascii "<![CDATA[") (w ++ (ascii "]]>" ++ r)))
+    (row-says t r))
+
+pub marked-says : (s r b : List ℕ) → data-at s ≡ got b r → says s ≡ b ++ says r
+marked-says s r b e = let h = ok-got (rw e at (data-sound s)) in ap says (h .1) ∙ data-says (h .2) r
+
 remark-says : (s r : List ℕ) → look s ≡ at-comment → comment-at s ≡ got tt r → says s ≡ says r
 unfolding step step-by past say
 remark-says s r e k = rw (says-step s, e, k)
@@ -183,9 +287,10 @@ child-says s r x e k = rw (says-step s, e, skip-element s x r k)
 
 characters-joined : (b : List ℕ) (c : Contents) → characters (merged b c) ≡ b ++ characters c
 unfolding characters merged
-characters-joined b nothing = refl
-characters-joined b (child e c) = refl
-characters-joined b (run a c) = append-assoc b a (characters c)
+characters-joined [] c = refl
+characters-joined (a ∷ b) nothing = refl
+characters-joined (a ∷ b) (child e c) = refl
+characters-joined (a ∷ b) (run w c) = append-assoc (a ∷ b) w (characters c)
 
 record Said (s : List ℕ) (c : Contents) (t : List ℕ) : Type 0 where
   same-text : says s ≡ characters c
@@ -203,6 +308,7 @@ saying = record {
   closed = λ s q. record { same-text = said-nothing s q };
   remarked = λ s r c t q e h. record { same-text = remark-says s r q e ∙ h .same-text };
   lettered = λ b w r c t k p h. record { same-text = text-says k r p ∙ ap (λ l. b ++ l) (h .same-text) ∙ sym (characters-joined b c) };
+  marked = λ s r b c t q e h. record { same-text = marked-says s r b e ∙ ap (λ l. b ++ l) (h .same-text) ∙ sym (characters-joined b c) };
   childed = λ s r x c t q e inside h. record
       { same-text = said-child s r x c (child-says s r x q e) (inside r c t (eats-child s e) h .same-text) };
 }

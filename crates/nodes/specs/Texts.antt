@@ -1,26 +1,28 @@
 -- The text of the element at a position, and what is written between its tags.
 use mathlib.Core.Path.{_≡_, refl, ap, sym, _∙_}
 use mathlib.Core.List.{List, [], _∷_, _++_}
-use Prim.Native.Nat.{ℕ, _+_, _-_, _≤_, _<_}
+use Prim.Native.Nat.{ℕ, suc, _+_, _-_, _≤_, _<_}
 use native.Mathlib.Omega.{arith}
 use mathlib.Core.Bool.{Bool, true, false}
+use lib.Dec.{leb}
+use borrow.Author.Tests.{le-leb, lt-leb}
 use lib.ListN.{length, drop, length-drop}
 use Rattle.lists.specs.Laws.Booleans.{clash}
 use Rattle.grammar.specs.Document.{Attribute, Element}
 use Rattle.grammar.specs.Look.{contentsOf, characters, textOf}
-use Rattle.grammar.specs.Read.{Read, fail, got, Ok, good}
-use Rattle.grammar.specs.Bytes.{ascii}
-use Rattle.grammar.specs.Parser.{reference-at, line-end-at, comment-at, Look, at-close, at-comment, at-element, at-text, look}
+use Rattle.grammar.specs.Read.{Read, fail, got, mark, Ok, good}
+use Rattle.grammar.specs.Bytes.{ascii, begins}
+use Rattle.grammar.specs.Parser.{reference-at, line-end-at, comment-at, Look, at-close, at-comment, at-data, at-element, at-text, look}
 use Rattle.grammar.specs.Laws.Sound.{comment-sound}
 use Rattle.steps.specs.Step.{Tails, tails}
-use Rattle.steps.specs.Leaves.{reference-tails, line-end-tails}
+use Rattle.steps.specs.Leaves.{reference-tails, line-end-tails, mark-tails}
 use Rattle.nodes.specs.Places.{Stands, the, Tail, tail-of, tail-more}
 use Rattle.nodes.specs.Laws.ReadSteps.{Ending, bare, filled, spelled}
 use Rattle.nodes.specs.Scan.{tag-from, tag-at, skip-at, skip-less, less-tails}
 use Rattle.nodes.specs.Skip.{tag-read, tag-bare, tag-filled}
 use Rattle.nodes.specs.Children.{tail-behind}
-use Rattle.nodes.specs.TextBytes.{Move, stop, skip, char, past, referring, step-by, step, say, says, says-step, Shorter, skip-short}
-use Rattle.nodes.specs.TextBytes.{char-short, bare-char, step-short, contents-say}
+use Rattle.nodes.specs.TextBytes.{Rest, outside, within, bytes, Move, stop, skip, char, past, referring, bare-char, step-by, step-in}
+use Rattle.nodes.specs.TextBytes.{step, say, saysFrom, says, says-from, Shorter, skip-short, char-short, step-short, contents-say}
 use Rattle.nodes.specs.declared.Found.{Found}
 use Rattle.nodes.specs.declared.Found.the-variants.{At, Nothing}
 use Rattle.nodes.specs.declared.Text.{Text}
@@ -35,25 +37,68 @@ inside-by n (got false r) = Nothing
 unfoldable pub inside : List ℕ → ℕ → Found
 inside text at = inside-by (length text) (tag-at (drop at text))
 
+-- A PLACE in contents. Up to the length n of the text it is a byte of it, outside of CDATA; n + 1 + i is byte i, within CDATA.
+unfoldable pub rest-by : Bool → List ℕ → ℕ → Rest
+rest-by true text i = outside (drop i text)
+rest-by false text i = within (drop (i - suc (length text)) text)
+
+unfoldable pub rest-at : List ℕ → ℕ → Rest
+rest-at text i = rest-by (leb i (length text)) text i
+
+unfoldable pub place-of : ℕ → Rest → ℕ
+place-of n (outside r) = n - length r
+place-of n (within r) = n + 1 + (n - length r)
+
 -- what is said from a place on, and how many bytes are ahead of it
 unfoldable pub saysAt : List ℕ → ℕ → List ℕ
-saysAt text i = says (drop i text)
+saysAt text i = saysFrom (rest-at text i)
 
 unfoldable pub left : List ℕ → ℕ → ℕ
-left text i = length text - i
+left text i = length (bytes (rest-at text i))
+
+pub rest-outside : (text : List ℕ) (i : ℕ) → i ≤ length text → rest-at text i ≡ outside (drop i text)
+unfolding rest-at rest-by
+rest-outside text i h = rw (le-leb i (length text) h)
+
+pub rest-within : (text : List ℕ) (i : ℕ) → length text < i → rest-at text i ≡ within (drop (i - suc (length text)) text)
+unfolding rest-at rest-by
+rest-within text i h = rw (lt-leb i (length text) h)
 
 -- up to the end of the text a place is a byte of it
 pub saysAt-outside : (text : List ℕ) (i : ℕ) → i ≤ length text → saysAt text i ≡ says (drop i text)
 unfolding saysAt
-saysAt-outside text i h = refl
+saysAt-outside text i h = rw (rest-outside text i h)
 
 pub left-outside : (text : List ℕ) (i : ℕ) → i ≤ length text → left text i ≡ length text - i
 unfolding left
-left-outside text i h = refl
+left-outside text i h = rw (rest-outside text i h) (length-drop i text)
+
+rest-tail : (text : List ℕ) (i : ℕ) → Tail text (bytes (rest-at text i))
+unfolding rest-at rest-by
+rest-tail text i = go (leb i (length text))
+  where
+    go : (t : Bool) → Tail text (bytes (rest-by t text i))
+    go true = tail-of text i
+    go false = tail-of text (i - suc (length text))
 
 pub left-most : (text : List ℕ) (i : ℕ) → left text i ≤ length text
 unfolding left
-left-most text i = omega arith
+left-most text i = rest-tail text i .fits
+
+-- a rest of the text is what stands at its place
+rest-place : (text : List ℕ) (x : Rest) → Tail text (bytes x) → rest-at text (place-of (length text) x) ≡ x
+unfolding place-of
+rest-place text (outside r) t = rest-outside text (length text - length r) (omega arith) ∙ ap outside (t .stands)
+rest-place text (within r) t =
+    let n : ℕ = length text in
+    let k : (n + 1 + (n - length r)) - suc n ≡ n - length r = omega arith in
+    let h : n < n + 1 + (n - length r) = omega arith in
+    rest-within text (n + 1 + (n - length r)) h ∙ ap within (ap (λ i. drop i text) k ∙ t .stands)
+
+place-fits : (n : ℕ) (x : Rest) → place-of n x ≤ n + n + 1
+unfolding place-of
+place-fits n (outside r) = omega arith
+place-fits n (within r) = omega arith
 
 pub saysAt-tail : {text r : List ℕ} → Tail text r → saysAt text (length text - length r) ≡ says r
 saysAt-tail {text} {r} t = saysAt-outside text (length text - length r) (omega arith) ∙ ap says (t .stands)
@@ -84,42 +129,55 @@ text-law {text} {at} st =
 -- a step, as a program answers it
 unfoldable pub as-text : ℕ → Move → Text
 as-text n stop = Stop
-as-text n (skip r) = Skip (n - length r)
-as-text n (char b r) = Letter b (n - length r)
+as-text n (skip r) = Skip (place-of n r)
+as-text n (char b r) = Letter b (place-of n r)
 
 unfoldable pub text-step : List ℕ → ℕ → Text
-text-step text i = as-text (length text) (step (drop i text))
+text-step text i = as-text (length text) (step (rest-at text i))
 
 -- THE LAW OF TEXT STEPS
 data Tailed (text : List ℕ) : Move → Type 0 where
   stop-tailed : Tailed text stop
-  skip-tailed : {r : List ℕ} → Tail text r → Tailed text (skip r)
-  char-tailed : {b : ℕ} {r : List ℕ} → Tail text r → Tailed text (char b r)
+  skip-tailed : {r : Rest} → Tail text (bytes r) → Tailed text (skip r)
+  char-tailed : {b : ℕ} {r : Rest} → Tail text (bytes r) → Tailed text (char b r)
 
-past-tailed : (text s : List ℕ) (m : Read (Unit {0})) → Tail text s → Ok (Tails s) m → Tailed text (past m)
-unfolding past
-past-tailed text s fail t h = stop-tailed
-past-tailed text s (got u r) t (good h) = skip-tailed (tail-more (h .0) r (h .1) t)
+module _ (text : List ℕ) (side : List ℕ → Rest) (same : (r : List ℕ) → bytes (side r) ≡ r) where
+  past-tailed : (s : List ℕ) (m : Read (Unit {0})) → Tail text s → Ok (Tails s) m → Tailed text (past side m)
+  unfolding past
+  past-tailed s fail t h = stop-tailed
+  past-tailed s (got u r) t (good h) = skip-tailed {r = side r} (rw (same r) (tail-more (h .0) r (h .1) t))
 
-referring-tailed : (text s : List ℕ) (m : Read (List ℕ)) (x : Move) → Tail text s → Ok (Tails s) m → Tailed text x
-    → Tailed text (referring m x)
-unfolding referring
-referring-tailed text s fail x t h k = k
-referring-tailed text s (got b r) x t (good h) k = char-tailed (tail-more (h .0) r (h .1) t)
+  referring-tailed : (s : List ℕ) (m : Read (List ℕ)) (x : Move) → Tail text s → Ok (Tails s) m → Tailed text x
+      → Tailed text (referring side m x)
+  unfolding referring
+  referring-tailed s fail x t h k = k
+  referring-tailed s (got b r) x t (good h) k = char-tailed {r = side r} (rw (same r) (tail-more (h .0) r (h .1) t))
+
+  bare-tailed : (a : ℕ) (s : List ℕ) → Tail text (a ∷ s) → Tailed text (bare-char side a s)
+  unfolding bare-char
+  bare-tailed a s t = referring-tailed (a ∷ s) (line-end-at (ascii "\n") (a ∷ s)) (char a (side s)) t (line-end-tails (ascii "\n") (a ∷ s))
+      (char-tailed {r = side s} (rw (same s) (tail-more (a ∷ []) s refl t)))
 
 by-tailed : (text : List ℕ) (l : Look) (s : List ℕ) → Tail text s → Tailed text (step-by l s)
-unfolding step-by bare-char
+unfolding step-by
 by-tailed text at-close s t = stop-tailed
-by-tailed text at-element s t = past-tailed text s (skip-at s) t (less-tails (skip-less s))
-by-tailed text at-comment s t = past-tailed text s (comment-at s) t (tails (comment-sound s))
+by-tailed text at-element s t = past-tailed text outside (λ _. refl) s (skip-at s) t (less-tails (skip-less s))
+by-tailed text at-comment s t = past-tailed text outside (λ _. refl) s (comment-at s) t (tails (comment-sound s))
+by-tailed text at-data s t = past-tailed text within (λ _. refl) s (mark (ascii "<![CDATA[") s) t (mark-tails (ascii "<![CDATA[") s)
 by-tailed text at-text [] t = stop-tailed
-by-tailed text at-text (a ∷ s) t = referring-tailed text (a ∷ s) (reference-at (a ∷ s)) _ t (reference-tails (a ∷ s))
-    (referring-tailed text (a ∷ s) (line-end-at (ascii "\n") (a ∷ s)) (char a s) t (line-end-tails (ascii "\n") (a ∷ s))
-    (char-tailed (tail-more (a ∷ []) s refl t)))
+by-tailed text at-text (a ∷ s) t = referring-tailed text outside (λ _. refl) (a ∷ s) (reference-at (a ∷ s)) _ t (reference-tails (a ∷ s))
+    (bare-tailed text outside (λ _. refl) a s t)
 
-step-tailed : (text s : List ℕ) → Tail text s → Tailed text (step s)
+in-tailed : (text : List ℕ) (b : Bool) (s : List ℕ) → Tail text s → Tailed text (step-in b s)
+unfolding step-in
+in-tailed text true s t = past-tailed text outside (λ _. refl) s (mark (ascii "]]>") s) t (mark-tails (ascii "]]>") s)
+in-tailed text false [] t = stop-tailed
+in-tailed text false (a ∷ s) t = bare-tailed text within (λ _. refl) a s t
+
+step-tailed : (text : List ℕ) (x : Rest) → Tail text (bytes x) → Tailed text (step x)
 unfolding step
-step-tailed text s t = by-tailed text (look s) s t
+step-tailed text (outside s) t = by-tailed text (look s) s t
+step-tailed text (within s) t = in-tailed text (begins (ascii "]]>") s) s t
 
 -- what a step says: `front` is what is read
 pub record Steps (text : List ℕ) (i : ℕ) (front : List ℕ) (j : ℕ) : Type 0 where
@@ -127,51 +185,56 @@ pub record Steps (text : List ℕ) (i : ℕ) (front : List ℕ) (j : ℕ) : Type
   pub ahead : left text j < left text i
   pub splits : saysAt text i ≡ front ++ saysAt text j
 
-steps-by : (text : List ℕ) (i : ℕ) (front r : List ℕ) (j : ℕ) → j ≡ length text - length r → Tail text r
-    → length r < length (drop i text) → says (drop i text) ≡ front ++ says r → Steps text i front j
+steps-by : (text : List ℕ) (i : ℕ) (front : List ℕ) (r : Rest) (j : ℕ) → place-of (length text) r ≡ j → Tail text (bytes r)
+    → length (bytes r) < left text i → saysAt text i ≡ front ++ saysFrom r → Steps text i front j
 unfolding saysAt left
 steps-by text i front r j p t s e =
-    let k : length (drop i text) ≡ length text - i = length-drop i text in
-    let u : drop j text ≡ r = rw p (t .stands) in
-    record { inside-text = omega arith; ahead = omega (arith, t .fits); splits = rw u e }
+    let there : rest-at text j ≡ r = rw p at (rest-place text r t) in
+    record { inside-text = rw p at (place-fits (length text) r); ahead = rw there s; splits = rw there e }
 
-letter-law : (text : List ℕ) (i : ℕ) (x : Move) → step (drop i text) ≡ x → Tailed text x → Shorter (drop i text) x → {b j : ℕ}
-    → as-text (length text) x ≡ Letter b j → Steps text i (b ∷ []) j
-unfolding as-text say
-letter-law text i stop e t s h = clash (cc)
-letter-law text i (skip r) e t s h = clash (cc)
-letter-law text i (char c r) e (char-tailed t) (char-short s) {b} {j} h =
-    let w : c ≡ b = cc in
-    steps-by text i (b ∷ []) r j (cc) t s (rw (says-step (drop i text), e, w))
+module _ (text : List ℕ) (i : ℕ) where
+  letter-law : (x : Move) → step (rest-at text i) ≡ x → Tailed text x → Shorter (left text i) x → {b j : ℕ}
+      → as-text (length text) x ≡ Letter b j → Steps text i (b ∷ []) j
+  unfolding as-text say saysAt
+  letter-law stop e t s h = clash (cc)
+  letter-law (skip r) e t s h = clash (cc)
+  letter-law (char c r) e (char-tailed t) (char-short s) {b} {j} h =
+      let w : c ≡ b = cc in
+      steps-by text i (b ∷ []) r j (cc) t s (rw (says-from (rest-at text i), e, w))
 
-skip-law : (text : List ℕ) (i : ℕ) (x : Move) → step (drop i text) ≡ x → Tailed text x → Shorter (drop i text) x → {j : ℕ}
-    → as-text (length text) x ≡ Skip j → Steps text i [] j
-unfolding as-text say
-skip-law text i stop e t s h = clash (cc)
-skip-law text i (char c r) e t s h = clash (cc)
-skip-law text i (skip r) e (skip-tailed t) (skip-short s) {j} h =
-    steps-by text i [] r j (cc) t s (rw (says-step (drop i text), e))
+  skip-law : (x : Move) → step (rest-at text i) ≡ x → Tailed text x → Shorter (left text i) x → {j : ℕ}
+      → as-text (length text) x ≡ Skip j → Steps text i [] j
+  unfolding as-text say saysAt
+  skip-law stop e t s h = clash (cc)
+  skip-law (char c r) e t s h = clash (cc)
+  skip-law (skip r) e (skip-tailed t) (skip-short s) {j} h =
+      steps-by text i [] r j (cc) t s (rw (says-from (rest-at text i), e))
 
-stop-law : (s : List ℕ) (n : ℕ) (x : Move) → step s ≡ x → as-text n x ≡ Stop → says s ≡ []
-unfolding as-text say
-stop-law s n stop e h = rw (says-step s, e)
-stop-law s n (skip r) e h = clash (cc)
-stop-law s n (char b r) e h = clash (cc)
+  stop-law : (x : Move) → step (rest-at text i) ≡ x → as-text (length text) x ≡ Stop → saysAt text i ≡ []
+  unfolding as-text say saysAt
+  stop-law stop e h = rw (says-from (rest-at text i), e)
+  stop-law (skip r) e h = clash (cc)
+  stop-law (char b r) e h = clash (cc)
 
-module _ (text : List ℕ) (i : ℕ) {a : Text} (e : a ≡ text-step text i) where
-  pub text-letter : {b j : ℕ} → a ≡ Letter b j → Steps text i (b ∷ []) j
-  unfolding text-step
-  text-letter z = letter-law text i (step (drop i text)) refl (step-tailed text (drop i text) (tail-of text i))
-      (step-short (drop i text)) (sym e ∙ z)
+  tailed : Tailed text (step (rest-at text i))
+  tailed = step-tailed text (rest-at text i) (rest-tail text i)
 
-  pub text-skip : {j : ℕ} → a ≡ Skip j → Steps text i [] j
-  unfolding text-step
-  text-skip z = skip-law text i (step (drop i text)) refl (step-tailed text (drop i text) (tail-of text i)) (step-short (drop i text))
-      (sym e ∙ z)
+  shorter : Shorter (left text i) (step (rest-at text i))
+  unfolding left
+  shorter = step-short (rest-at text i)
 
-  pub text-stop : a ≡ Stop → saysAt text i ≡ []
-  unfolding text-step saysAt
-  text-stop z = stop-law (drop i text) (length text) (step (drop i text)) refl (sym e ∙ z)
+  module _ {a : Text} (e : a ≡ text-step text i) where
+    pub text-letter : {b j : ℕ} → a ≡ Letter b j → Steps text i (b ∷ []) j
+    unfolding text-step
+    text-letter z = letter-law (step (rest-at text i)) refl tailed shorter (sym e ∙ z)
+
+    pub text-skip : {j : ℕ} → a ≡ Skip j → Steps text i [] j
+    unfolding text-step
+    text-skip z = skip-law (step (rest-at text i)) refl tailed shorter (sym e ∙ z)
+
+    pub text-stop : a ≡ Stop → saysAt text i ≡ []
+    unfolding text-step
+    text-stop z = stop-law (step (rest-at text i)) refl (sym e ∙ z)
 
 pub from-none : (text : List ℕ) → text-from text Nothing ≡ []
 unfolding text-from

@@ -16,7 +16,7 @@ use Rattle.grammar.specs.Parser.{data-byte, data-character-at, data-at, 
 use Rattle.grammar.specs.Laws.Tokens.{literal-complete, line-end-complete, line-end-other, line-end-long, parted-apart}
 
 -- CDATA
-data-character-reads : {b w : List ℕ} → DataCharacter b w → (r : List ℕ) → parted w r ≡ false → data-character-at (w ++ r) ≡ got b r
+pub data-character-reads : {b w : List ℕ} → DataCharacter b w → (r : List ℕ) → parted w r ≡ false → data-character-at (w ++ r) ≡ got b r
 unfolding data-character-at alt data-byte
 data-character-reads (DataCharacter.literal {a} {w} h e) r p =
     rw (line-end-other (ascii "\n") a e (w ++ r)) (literal-complete data-byte h (not-so e) r)
@@ -43,7 +43,7 @@ begins-closing (a ∷ b ∷ []) r h e = go (eqb a 93) (eqb b 93)
     go false u = refl
 begins-closing (a ∷ b ∷ c ∷ x) r h e = e
 
-open-apart : (w x r : List ℕ) → 0 < length w → closed w x ≡ false → closed w (x ++ (ascii "]]>" ++ r)) ≡ false
+pub open-apart : (w x r : List ℕ) → 0 < length w → closed w x ≡ false → closed w (x ++ (ascii "]]>" ++ r)) ≡ false
 unfolding closed
 open-apart w x r h e =
     let p = parted-apart w x 93 (93 ∷ 62 ∷ r) refl (or-left (parted w x) _ e) in

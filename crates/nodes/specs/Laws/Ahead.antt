@@ -1,25 +1,26 @@
 -- What stands ahead, at a position of the text: one law for each way through the code.
 use mathlib.Core.Path.{_≡_, refl, ap, sym, _∙_}
-use mathlib.Core.List.{List}
+use mathlib.Core.List.{List, _++_}
 use Prim.Native.Nat.{ℕ, _-_, _≤_, _<_}
 use native.Mathlib.Omega.{arith}
-use mathlib.Core.Bool.{Bool, true, false}
+use mathlib.Core.Bool.{Bool, true, false, _||_}
 use borrow.Author.Needs.{needs}
 use lib.ListN.{length, drop, length-drop}
+use Rattle.lists.specs.Lists.{all}
 use Rattle.lists.specs.Laws.Booleans.{clash}
 use Rattle.grammar.specs.Bytes.{blank}
-use Rattle.grammar.specs.Read.{Read, fail, got, span, ok-got}
-use Rattle.grammar.specs.Parser.{comment-at, Look, at-close, at-comment, at-element, at-text, look}
-use Rattle.grammar.specs.Laws.Sound.{comment-sound}
-use Rattle.steps.specs.Step.{stepped, fell, tails, Went, went}
+use Rattle.grammar.specs.Read.{Read, fail, got, Reader, span, Ok, failed, good, ok-got}
+use Rattle.grammar.specs.Parser.{comment-at, data-at, Look, at-close, at-comment, at-data, at-element, at-text, look}
+use Rattle.grammar.specs.Laws.Sound.{comment-sound, data-sound}
+use Rattle.steps.specs.Step.{stepped, fell, Tails, tails, Went, went}
 use Rattle.steps.specs.declared.Step.{Step}
 use Rattle.steps.specs.declared.Step.the-variants.{To, No}
-use Rattle.nodes.specs.Places.{tail-of}
+use Rattle.nodes.specs.Places.{tail-of, pick}
 use Rattle.nodes.specs.Laws.Depth.{comment-eats}
 use Rattle.nodes.specs.Scan.{to-tag, past-tag, tag-at}
 use Rattle.nodes.specs.ScanSteps.{tagged}
 use Rattle.nodes.specs.Ahead.{afterGap, past-gap, gap-short, ending, ahead-then, ahead-by, ahead-at, ahead-step, first-by}
-use Rattle.nodes.specs.Ahead.{first-ahead}
+use Rattle.nodes.specs.Ahead.{first-ahead, gap-data, gap-data-eats}
 use Rattle.nodes.specs.Laws.AheadElements.{gap-tail}
 use Rattle.nodes.specs.declared.ahead.Ahead.{Ahead}
 use Rattle.nodes.specs.declared.ahead.Ahead.the-variants.{Child, End, Stray}
@@ -28,7 +29,7 @@ use Rattle.steps.specs.declared.pieces.Front.{Front}
 use Rattle.steps.specs.declared.pieces.Front.the-variants as front-is
 use Rattle.nodes.specs.declared.scan.Tag.{Tag}
 use Rattle.nodes.specs.declared.scan.Tag.the-variants as tag-is
-use Rattle.nodes.specs.Laws.Scan.{looks-close, looks-comment, looks-start, looks-text}
+use Rattle.nodes.specs.Laws.Scan.{looks-close, looks-comment, looks-data, looks-start, looks-text}
 use Rattle.nodes.specs.Laws.Skip.{place, Lies, lies, opens-at, bare-at, no-tag}
 
 module _ (text : List ℕ) (at : ℕ) {words : Bool} {r : ℕ} where
@@ -62,6 +63,21 @@ module _ (n : ℕ) (m : Read (Unit {0})) {x : Step} (k : x ≡ stepped n m) wher
 
 pub ruleset ends = (end-there, end-missing, needs)
 
+comment-tails : (s : List ℕ) → Ok (Tails s) (comment-at s)
+comment-tails s = tails (comment-sound s)
+
+gap-data-tails : (words : Bool) (s : List ℕ) → Ok (Tails s) (gap-data words (data-at s))
+unfolding gap-data
+gap-data-tails words s = go (data-at s) (tails (data-sound s))
+  where
+    by : (t : Bool) (r : List ℕ) → (w : List ℕ) × (s ≡ w ++ r) → Ok (Tails s) (pick {A = Read (Unit {0})} t (got tt r) fail)
+    by true r h = good h
+    by false r h = failed
+
+    go : (m : Read (List ℕ)) → Ok (Tails s) m → Ok (Tails s) (gap-data words m)
+    go fail h = failed
+    go (got b r) (good h) = by (words || all blank b) r h
+
 pub record Heading (text : List ℕ) (words : Bool) (at i : ℕ) : Type 0 where
   same-ahead : ahead-at words (length text) (drop at text) ≡ ahead-at words (length text) (drop i text)
 
@@ -74,7 +90,7 @@ module _ (text : List ℕ) (words : Bool) (at i : ℕ) (go : Heading text words 
   gap-lies = lies (gap-tail text words (drop i text) (tail-of text i)) (sym et)
 
   by-look : (l : Look) → look (drop t text) ≡ l
-      → ahead-at words (length text) (drop at text) ≡ ahead-by l (ahead-at words (length text)) (length text) (drop t text)
+      → ahead-at words (length text) (drop at text) ≡ ahead-by words l (ahead-at words (length text)) (length text) (drop t text)
   by-look l q = let z : past-gap words (drop i text) ≡ drop t text = gap-lies .rest in go .same-ahead
       ∙ ahead-step words (length text) (drop i text) ∙ rw (z, q)
 
@@ -91,29 +107,74 @@ module _ (text : List ℕ) (words : Bool) (at i : ℕ) (go : Heading text words 
   unfolding ahead-by
   heading-child q = sym (by-look at-element (looks-start (drop t text) ef q) ∙ ap Child (place text t (gap-lies .inside)))
 
-  module _ (q : f ≡ front-is.Comment) {x : Step} (k : x ≡ stepped (length text) (comment-at (drop t text))) where
-    remark : ahead-at words (length text) (drop at text) ≡ ahead-then (comment-at (drop t text)) (ahead-at words (length text))
-    unfolding ahead-by
-    remark = by-look at-comment (looks-comment (drop t text) ef q)
+  -- what is passed over, a comment or CDATA
+  module _ (l : Look) (q : look (drop t text) ≡ l) (p : Reader (Unit {0}))
+      (by : ahead-by words l (ahead-at words (length text)) (length text) (drop t text)
+      ≡ ahead-then (p (drop t text)) (ahead-at words (length text)))
+      (eats : (s : List ℕ) → Ok (λ _ r. length r < length s) (p s)) (leaves : (s : List ℕ) → Ok (Tails s) (p s))
+      {x : Step} (k : x ≡ stepped (length text) (p (drop t text))) where
+    over : ahead-at words (length text) (drop at text) ≡ ahead-then (p (drop t text)) (ahead-at words (length text))
+    over = by-look l q ∙ by
 
-    pub heading-stuck : x ≡ No → Stray ≡ ahead-at words (length text) (drop at text)
+    over-stuck : x ≡ No → Stray ≡ ahead-at words (length text) (drop at text)
     unfolding ahead-then
-    heading-stuck z = sym (remark ∙ rw (fell (length text) (comment-at (drop t text)) (sym z ∙ k)))
+    over-stuck z = sym (over ∙ rw (fell (length text) (p (drop t text)) (sym z ∙ k)))
 
     module _ {j : ℕ} (z : x ≡ To j) where
-      passed : Went comment-at text t j
-      passed = went comment-at text t j (tails (comment-sound (drop t text))) (sym z ∙ k)
+      passed : Went p text t j
+      passed = went p text t j (leaves (drop t text)) (sym z ∙ k)
 
-      pub heading-on : Heading text words at j
+      over-on : Heading text words at j
       unfolding ahead-then
-      heading-on = record { same-ahead = remark ∙ rw (passed .reads) }
+      over-on = record { same-ahead = over ∙ rw (passed .reads) }
 
-      pub heading-less : length text - j < length text - i
-      heading-less =
-          let h : length (drop j text) < length (drop t text) = ok-got (rw (passed .reads) at (comment-eats (drop t text))) in
+      over-less : length text - j < length text - i
+      over-less =
+          let h : length (drop j text) < length (drop t text) = ok-got (rw (passed .reads) at (eats (drop t text))) in
           omega (arith, gap-short words (drop i text), length-drop i text, length-drop j text, length-drop t text)
 
-pub ruleset heading = (heading-start, heading-text, heading-close, heading-child, heading-stuck, heading-on, heading-less, needs)
+  module _ (q : f ≡ front-is.Comment) {x : Step} (k : x ≡ stepped (length text) (comment-at (drop t text))) where
+    pub heading-stuck : x ≡ No → Stray ≡ ahead-at words (length text) (drop at text)
+    unfolding ahead-by
+    heading-stuck z = over-stuck at-comment (looks-comment (drop t text) ef q) comment-at refl comment-eats comment-tails k z
+
+    pub heading-on : {j : ℕ} → x ≡ To j → Heading text words at j
+    unfolding ahead-by
+    heading-on z = over-on at-comment (looks-comment (drop t text) ef q) comment-at refl comment-eats comment-tails k z
+
+    pub heading-less : {j : ℕ} → x ≡ To j → length text - j < length text - i
+    unfolding ahead-by
+    heading-less z = over-less at-comment (looks-comment (drop t text) ef q) comment-at refl comment-eats comment-tails k z
+
+  module _ (q : f ≡ front-is.Data) {x : Step} (k : x ≡ stepped (length text) (gap-data words (data-at (drop t text)))) where
+    pub marked-stuck : x ≡ No → Stray ≡ ahead-at words (length text) (drop at text)
+    unfolding ahead-by
+    marked-stuck z = over-stuck at-data (looks-data (drop t text) ef q) (λ s. gap-data words (data-at s)) refl (gap-data-eats words)
+        (gap-data-tails words) k z
+
+    pub marked-on : {j : ℕ} → x ≡ To j → Heading text words at j
+    unfolding ahead-by
+    marked-on z = over-on at-data (looks-data (drop t text) ef q) (λ s. gap-data words (data-at s)) refl (gap-data-eats words)
+        (gap-data-tails words) k z
+
+    pub marked-less : {j : ℕ} → x ≡ To j → length text - j < length text - i
+    unfolding ahead-by
+    marked-less z = over-less at-data (looks-data (drop t text) ef q) (λ s. gap-data words (data-at s)) refl (gap-data-eats words)
+        (gap-data-tails words) k z
+
+pub ruleset heading = (
+  heading-start,
+  heading-text,
+  heading-close,
+  heading-child,
+  heading-stuck,
+  heading-on,
+  heading-less,
+  marked-stuck,
+  marked-on,
+  marked-less,
+  needs,
+)
 
 module _ (text : List ℕ) (at : ℕ) (words : Bool) {x : Tag} (k : x ≡ tagged (length text) (tag-at (drop at text))) where
   pub ahead-none : x ≡ tag-is.No → Stray ≡ first-ahead words text at

@@ -3,11 +3,12 @@ use mathlib.Core.Path.{_≡_, refl, ap, sym, _∙_, subst}
 use mathlib.Core.List.{List, [], _∷_, _++_, append-nil}
 use Prim.Native.Nat.{ℕ, zero, suc, _+_, _-_, _≤_, _<_}
 use native.Mathlib.Omega.{arith}
-use mathlib.Core.Bool.{Bool, true, false, _&&_}
+use mathlib.Core.Bool.{Bool, true, false, _&&_, _||_}
 use lib.Dec.{eqb}
 use borrow.Author.Tests.{ne-eqb, eqb-true}
 use lib.ListN.{length, drop}
-use Rattle.lists.specs.Laws.Booleans.{clash}
+use Rattle.lists.specs.Laws.Booleans.{clash, or-left, or-right}
+use Rattle.lists.specs.Laws.Lists.{all-append}
 use Rattle.lists.specs.Lists.{all}
 use Rattle.grammar.specs.Bytes.{ascii, blank, special, Each, no-byte, a-byte}
 use Rattle.grammar.specs.Laws.Facts.{blank-in, no-return}
@@ -15,22 +16,22 @@ use Rattle.grammar.specs.Laws.Tokens.{line-end-other}
 use Rattle.grammar.specs.Grammar
 use Rattle.grammar.specs.Grammar.{Reference}
 use Rattle.grammar.specs.Read.{Read, fail, got, bind, Ok, good, ok-map, span, span-sound, Takes}
-use Rattle.grammar.specs.Parser.{Look, at-close, at-comment, at-element, at-text, look, look-if, look₂, comment-at, reference-at}
-use Rattle.grammar.specs.Laws.Sound.{comment-sound, reference-sound}
+use Rattle.grammar.specs.Parser.{Look, at-close, at-comment, at-data, at-element, at-text, look, comment-at, data-at, reference-at}
+use Rattle.grammar.specs.Laws.Sound.{comment-sound, data-sound, reference-sound}
 use Rattle.steps.specs.Step.{Tails, tails}
 use Rattle.steps.specs.Leaves.{first-byte, span-tails}
 use Rattle.steps.specs.Laws.Feeds.{left-by, fed}
 use Rattle.nodes.specs.Places.{Stands, the, Tail, tail-of, tail-more, tail-read, pick}
-use Rattle.nodes.specs.Laws.Depth.{comment-eats}
+use Rattle.nodes.specs.Laws.Depth.{comment-eats, data-eats}
 use Rattle.nodes.specs.Scan.{to-tag, to-tag-tail, past-tag, past-tag-less, Less, tag-at, tag-less, scan-by, scan, scan-step}
 use Rattle.nodes.specs.Scan.{leave-at, passed, skip-at}
-use Rattle.nodes.specs.Skip.{tag-here, no-text, no-text-comment, no-text-element, scan-element, skip-element}
+use Rattle.nodes.specs.Skip.{tag-here, no-text, no-text-comment, no-text-data, no-text-element, scan-element, skip-element}
 use Rattle.nodes.specs.Children.{kid-then, kid-by, kid-at, kid-step, first, first-by, left}
 use Rattle.nodes.specs.ElementEnd.{Behind}
-use Rattle.nodes.specs.TextBytes.{Move, referring, past, bare-char, step-by, step, say, says, says-step, plain, returned}
-use Rattle.nodes.specs.TextBytes.{child-says}
+use Rattle.nodes.specs.TextBytes.{outside, Move, referring, past, bare-char, step-by, step, say, saysFrom, says, says-step, plain}
+use Rattle.nodes.specs.TextBytes.{returned, child-says, marked-says}
 use Rattle.nodes.specs.Texts.{saysAt-tail, inside-by, inside, text-from, text-of}
-use Rattle.nodes.specs.Ahead.{afterGap, past-gap, gap-short, ending, ahead-then, ahead-by, ahead-at, ahead-step, first-ahead}
+use Rattle.nodes.specs.Ahead.{afterGap, past-gap, gap-short, gap-data, ending, ahead-then, ahead-by, ahead-at, ahead-step, first-ahead}
 use Rattle.nodes.specs.Ahead as Ahead-of
 use Rattle.nodes.specs.declared.Kid.{Kid}
 use Rattle.nodes.specs.declared.Kid.the-variants.{Child, Done}
@@ -151,11 +152,11 @@ reference-dark Grammar.apos = refl
 letter-dark : (a : ℕ) (s : List ℕ) → blank a ≡ false → look (a ∷ s) ≡ at-text → all blank (says (a ∷ s)) ≡ false
 unfolding step step-by bare-char referring say all
 letter-dark a s h q =
-    let z : says (a ∷ s) ≡ say (referring (reference-at (a ∷ s)) (Move.char a s)) says =
+    let z : says (a ∷ s) ≡ say (referring outside (reference-at (a ∷ s)) (Move.char a (outside s))) saysFrom =
     says-step (a ∷ s) ∙ rw (q, line-end-other (ascii "\n") a (no-return a h) s) in
     ap (all blank) z ∙ go (reference-at (a ∷ s)) (reference-sound (a ∷ s))
   where
-    go : (m : Read (List ℕ)) → Ok (Takes Reference (a ∷ s)) m → all blank (say (referring m (Move.char a s)) says) ≡ false
+    go : (m : Read (List ℕ)) → Ok (Takes Reference (a ∷ s)) m → all blank (say (referring outside m (Move.char a (outside s))) saysFrom) ≡ false
     go fail k = rw h
     go (got b r) (good k) = rw (reference-dark (k .2))
 
@@ -235,6 +236,28 @@ module _ (text : List ℕ) (words : Bool) where
           said : all blank (says s) ≡ all blank (says r)
           said = ap (all blank) (says-step s ∙ rw (q, e))
 
+  at-marked : (s : List ℕ) → Tail text s → look s ≡ at-data
+      → ((r : List ℕ) → length r < length s → Tail text r → Faces r (ahead-at words (length text) r))
+      → Faces s (ahead-then (gap-data words (data-at s)) (ahead-at words (length text)))
+  unfolding kid-by scan-by kid-then ahead-then bind leave-at gap-data
+  at-marked s t q ih = rw (kid-look (length text) s at-data q (no-text-data refl), leave-look s at-data q (no-text-data refl))
+      (go (data-at s) refl (data-eats s))
+    where
+      said : (b r : List ℕ) → data-at s ≡ got b r → all blank (says s) ≡ (all blank b && all blank (says r))
+      said b r e = ap (all blank) (marked-says s r b e) ∙ all-append blank b (says r)
+
+      by : (b r : List ℕ) → data-at s ≡ got b r → length r < length s → (u : Bool) → (words || all blank b) ≡ u
+          → Facing text words (all blank (says s)) (leave-at r) (kid-at (length text) r)
+          (ahead-then (pick u (got tt r) fail) (ahead-at words (length text)))
+      by b r e h true k = facing-from (λ w. said b r e ∙ rw (rw w at k)) (ih r h (tail-read (tails (data-sound s)) e t))
+      by b r e h false k = stray (λ _ _. (or-left words (all blank b) k, said b r e ∙ rw (or-right words (all blank b) k)))
+
+      go : (m : Read (List ℕ)) → data-at s ≡ m → Ok (λ _ r. length r < length s) m
+          → Facing text words (all blank (says s)) (bind (bind m (λ _ r. scan 0 r)) (λ _ r. past-tag r))
+          (kid-then m (kid-at (length text))) (ahead-then (gap-data words m) (ahead-at words (length text)))
+      go fail e h = stray (λ r z. clash (cc))
+      go (got b r) e (good h) = by b r e h (words || all blank b) refl
+
   at-stray : (s : List ℕ) → look (past-gap words s) ≡ at-text → Faces (past-gap words s) ahead-is.Stray
   unfolding past-gap leave-at scan-by bind
   at-stray s q = stray (λ r e. go words refl q r e)
@@ -259,9 +282,10 @@ module _ (text : List ℕ) (words : Bool) where
       u = gap-tail text words s t
 
       go : (l : Look) → look g ≡ l → ((r : List ℕ) → length r < length g → Tail text r → Faces r (ahead-at words (length text) r))
-          → Faces g (ahead-by l (ahead-at words (length text)) (length text) g)
+          → Faces g (ahead-by words l (ahead-at words (length text)) (length text) g)
       go at-close q ih = at-end g u q
       go at-comment q ih = at-remark g u q ih
+      go at-data q ih = at-marked g u q ih
       go at-element q ih = at-child g u q
       go at-text q ih = at-stray s q
 

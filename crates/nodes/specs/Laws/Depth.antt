@@ -9,16 +9,19 @@ use Rattle.lists.specs.Laws.Booleans.{clash}
 use Rattle.grammar.specs.Bytes.{ascii, blank, begins}
 use Rattle.grammar.specs.Document.{Element, Contents}
 use Rattle.grammar.specs.Read.{Read, fail, got, Reader, bind, seen, alt, Ok, failed, good, mark-sound, span-sound, test-sound}
-use Rattle.grammar.specs.Parser.{Look, at-close, at-comment, at-element, at-text, look, comment-at, empty-at, full-at, element-at}
-use Rattle.grammar.specs.Parser.{contents-by}
-use Rattle.grammar.specs.Laws.Sound.{name-sound, attributes-sound, comment-sound, text-sound}
+use Rattle.grammar.specs.Parser.{Look, at-close, at-comment, at-data, at-element, at-text, look, comment-at, data-at, empty-at, full-at}
+use Rattle.grammar.specs.Parser.{element-at, contents-by}
+use Rattle.grammar.specs.Laws.Sound.{name-sound, attributes-sound, comment-sound, data-sound, text-sound}
 use Rattle.grammar.specs.Laws.Tokens.{text-long}
-use Rattle.grammar.specs.Laws.Complete.{comment-long}
+use Rattle.grammar.specs.Laws.Complete.{comment-long, data-long}
 use Rattle.grammar.specs.Unfuelled.{less, contents, contents-step}
 pub use Rattle.steps.specs.Row.{element-tails, element-eats}
 
 pub comment-eats : (s : List ℕ) → Ok (λ _ r. length r < length s) (comment-at s)
 comment-eats s = less (λ _ w h. comment-long h) (comment-sound s)
+
+pub data-eats : (s : List ℕ) → Ok (λ _ r. length r < length s) (data-at s)
+data-eats s = less (λ _ w h. data-long h) (data-sound s)
 
 data Below {A : Type 0} : Read A → Read A → Type 0 where
   fails : {n : Read A} → Below fail n
@@ -80,6 +83,9 @@ module _ (n : ℕ) (ih : (d e : ℕ) (s : List ℕ) → length s < n → d ≤ e
   unfolding contents-by
   by-below d e at-close s h k = equal
   by-below d e at-comment s h k = bind-below equal (comment-eats s) λ _ r l. ih d e r (omega arith) k
+  by-below d e at-data s h k =
+      bind-below equal (data-eats s) λ b r₁ h₁.
+      bind-below (ih d e r₁ (omega arith) k) (any-read (contents d r₁)) λ c r₂ _. equal
   by-below d e at-element s h k =
       bind-below (element-below d e s h k) (element-eats d s) λ x r₁ h₁.
       bind-below (ih d e r₁ (omega arith) k) (any-read (contents d r₁)) λ c r₂ _. equal

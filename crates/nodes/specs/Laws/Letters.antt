@@ -14,30 +14,30 @@ use Rattle.grammar.specs.Parser.{look, look-if}
 use Rattle.grammar.specs.Laws.Tokens.{reference-other, line-end-other}
 use Rattle.steps.specs.Leaves.{first-byte}
 use Rattle.steps.specs.Laws.Feeds.{fed, feed-got, return-read}
-use Rattle.nodes.specs.TextBytes.{step, step-by, bare-char, referring, char}
-use Rattle.nodes.specs.Texts.{text-step, as-text}
+use Rattle.nodes.specs.TextBytes.{outside, step, step-by, bare-char, referring, char}
+use Rattle.nodes.specs.Texts.{rest-outside, place-of, text-step, as-text}
 use Rattle.nodes.specs.declared.Text.the-variants.{Letter}
 
-plain-step : (a : ℕ) (s : List ℕ) → special a ≡ false → eqb a 13 ≡ false → step (a ∷ s) ≡ char a s
+plain-step : (a : ℕ) (s : List ℕ) → special a ≡ false → eqb a 13 ≡ false → step (outside (a ∷ s)) ≡ char a (outside s)
 unfolding step step-by bare-char look look-if referring special
 plain-step a s e f =
     rw (or-left (eqb a 60) (eqb a 38) e, reference-other a (or-right (eqb a 60) (eqb a 38) e) s, line-end-other (ascii "\n") a f s) refl
 
-return-step : (s : List ℕ) → step (13 ∷ s) ≡ char 10 (fed s)
+return-step : (s : List ℕ) → step (outside (13 ∷ s)) ≡ char 10 (outside (fed s))
 unfolding step step-by bare-char look look-if referring first-byte
 return-step s = rw (reference-other 13 refl s, return-read (ascii "\n") s, feed-got (ascii "\n") s) refl
 
 module _ (text : List ℕ) (i : ℕ) (h : i < length text) where
   pub plain-letter : special (getD text i 0) ≡ false → eqb (getD text i 0) 13 ≡ false
       → text-step text i ≡ Letter (getD text i 0) (i + 1)
-  unfolding text-step as-text
+  unfolding text-step as-text place-of
   plain-letter e f =
       let d : drop i text ≡ getD text i 0 ∷ drop (suc i) text = drop-cons text i 0 h in
       let n : length text - length (drop (suc i) text) ≡ i + 1 = omega (arith, length-drop (suc i) text) in
-      rw (d, plain-step (getD text i 0) (drop (suc i) text) e f, n) refl
+      rw (rest-outside text i (omega arith), d, plain-step (getD text i 0) (drop (suc i) text) e f, n) refl
 
   pub return-letter : getD text i 0 ≡ 13 → text-step text i ≡ Letter 10 (length text - length (fed (drop (i + 1) text)))
-  unfolding text-step as-text
+  unfolding text-step as-text place-of
   return-letter e =
       let d : drop i text ≡ getD text i 0 ∷ drop (suc i) text = drop-cons text i 0 h in
-      rw (d, e, return-step (drop (suc i) text), add-one) refl
+      rw (rest-outside text i (omega arith), d, e, return-step (drop (suc i) text), add-one) refl

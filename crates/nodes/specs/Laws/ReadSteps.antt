@@ -10,15 +10,15 @@ use Rattle.grammar.specs.Document.{Attribute, Element, element, Contents, nothi
 use Rattle.grammar.specs.Grammar.{TextCharacter}
 use Rattle.grammar.specs.Read.{Read, fail, got, Reader, bind, test, mark, span, seen, before, alt, ok-got, mark-complete, mark-sound}
 use Rattle.grammar.specs.Read.{test-sound}
-use Rattle.grammar.specs.Parser.{Look, at-close, at-comment, at-element, at-text, look, comment-at, text-at, name-at, attributes-at}
-use Rattle.grammar.specs.Parser.{empty-at, full-at, element-at, contents-by}
+use Rattle.grammar.specs.Parser.{Look, at-close, at-comment, at-data, at-element, at-text, look, comment-at, data-at, text-at, name-at}
+use Rattle.grammar.specs.Parser.{attributes-at, empty-at, full-at, element-at, contents-by}
 use Rattle.grammar.specs.Laws.Sound.{text-whole}
 use Rattle.grammar.specs.Laws.Tokens.{text-long}
 use Rattle.grammar.specs.Unfuelled.{contents, contents-step}
 use Rattle.steps.specs.Laws.Until.{bind-assoc, bind-each}
 use Rattle.steps.specs.Tags.{close-at}
 use Rattle.nodes.specs.Places.{element₁₆, unbind}
-use Rattle.nodes.specs.Laws.Depth.{contents-deeper, element-eats, comment-eats}
+use Rattle.nodes.specs.Laws.Depth.{contents-deeper, element-eats, comment-eats, data-eats}
 
 full-split : (f : Reader Contents) (n : List ℕ) (l : List Attribute) (s : List ℕ)
     → full-at f n l (62 ∷ s) ≡ bind (f s) (λ c r. bind (close-at n r) (λ _ r₁. got (element n l c (before s r)) r₁))
@@ -115,12 +115,13 @@ pub eats-child : (s : List ℕ) {r : List ℕ} {x : Element} → element₁₆ s
 unfolding element₁₆
 eats-child s e = ok-got (rw e at (element-eats 16 s))
 
--- INDUCTION OVER CONTENTS: what holds at their end, and steps back over a comment, a child and a character, holds of all
+-- INDUCTION OVER CONTENTS: what holds at their end, and steps back over a comment, a character, CDATA and a child, holds of all
 pub record Induction (P : List ℕ → Contents → List ℕ → Type 0) : Type 0 where
   pub closed : (s : List ℕ) → look s ≡ at-close → P s nothing s
   pub remarked : (s r : List ℕ) (c : Contents) (t : List ℕ) → look s ≡ at-comment → comment-at s ≡ got tt r → P r c t → P s c t
   pub lettered : (b w r : List ℕ) (c : Contents) (t : List ℕ) → TextCharacter b w → parted w r ≡ false → P r c t
       → P (w ++ r) (merged b c) t
+  pub marked : (s r b : List ℕ) (c : Contents) (t : List ℕ) → look s ≡ at-data → data-at s ≡ got b r → P r c t → P s (merged b c) t
   -- `inside`: the same for all that is shorter
   pub childed : (s r : List ℕ) (x : Element) (c : Contents) (t : List ℕ) → look s ≡ at-element → element₁₆ s ≡ got x r
       → (inside : (s₁ : List ℕ) (c₁ : Contents) (t₁ : List ℕ) → length s₁ < length s → contents 16 s₁ ≡ got c₁ t₁ → P s₁ c₁ t₁)
@@ -134,6 +135,18 @@ module _ (P : List ℕ → Contents → List ℕ → Type 0) (ind : Induction P)
       let b = unbind (comment-at s) _ e in
       let short : length (b .rest) < length s = ok-got (rw (b .reads) at (comment-eats s)) in
       ind .remarked s (b .rest) c t q (b .reads) (ih (b .rest) c t short (b .then))
+
+  by-data : (c : Contents) → look s ≡ at-data → contents-by contents 16 at-data s ≡ got c t → P s c t
+  unfolding contents-by
+  by-data c q e =
+      let b₁ = unbind (data-at s) _ e in
+      let b₂ = unbind (contents 16 (b₁ .rest)) (λ c r. got (merged (b₁ .value) c) r) (b₁ .then) in
+      let z = b₂ .then in
+      let w : merged (b₁ .value) (b₂ .value) ≡ c = cc in
+      let w₁ : b₂ .rest ≡ t = cc in
+      let short : length (b₁ .rest) < length s = ok-got (rw (b₁ .reads) at (data-eats s)) in
+      let p : P (b₁ .rest) (b₂ .value) t = ih (b₁ .rest) (b₂ .value) t short (b₂ .reads ∙ ap (got (b₂ .value)) w₁) in
+      subst (λ (c : Contents). P s c t) w (ind .marked s (b₁ .rest) (b₁ .value) (b₂ .value) t q (b₁ .reads) p)
 
   by-child : (c : Contents) → look s ≡ at-element → contents-by contents 16 at-element s ≡ got c t → P s c t
   unfolding contents-by element₁₆
@@ -171,6 +184,7 @@ module _ (P : List ℕ → Contents → List ℕ → Type 0) (ind : Induction P)
       let w₁ : s ≡ t = cc in
       subst (λ (t : List ℕ). P s c t) w₁ (subst (λ (c : Contents). P s c s) w (ind .closed s q))
   by-look at-comment c q e = by-comment c q e
+  by-look at-data c q e = by-data c q e
   by-look at-element c q e = by-child c q e
   by-look at-text c q e = by-text c e
 

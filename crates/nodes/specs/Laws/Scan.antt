@@ -13,55 +13,41 @@ use lib.ListN.{length, drop, getD, length-drop}
 use Rattle.lists.specs.Laws.Booleans.{and-left, and-right, and-true, and-assoc, clash}
 use Rattle.grammar.specs.Bytes.{quote}
 use Rattle.grammar.specs.Read.{got, bind, mark, test}
-use Rattle.grammar.specs.Parser.{closing, Look, at-close, at-comment, at-element, at-text, look}
+use Rattle.grammar.specs.Parser.{closing, Look, at-close, at-comment, at-data, at-element, at-text, look}
 use Rattle.steps.specs.Step.{stepped, at-byte, at-end, arrives, refuses}
 use Rattle.steps.specs.declared.Step.the-variants.{To, No}
 use Rattle.nodes.specs.Scan.{to-tag, lacks, Lacking, Quoted, past-tag, quoting, finishes, finish, tag-from, tag-at}
 use Rattle.nodes.specs.ScanSteps.{tagged}
 use Rattle.steps.specs.Pieces.{front}
+use Rattle.steps.specs.Laws.Pieces.{front-is}
 use Rattle.steps.specs.declared.pieces.Front.{Front}
-use Rattle.steps.specs.declared.pieces.Front.the-variants as front-is
+use Rattle.steps.specs.declared.pieces.Front.the-variants as shows
 use Rattle.nodes.specs.declared.scan.Tag.{Tag}
 use Rattle.nodes.specs.declared.scan.Tag.the-variants as tag-is
 use Rattle.nodes.specs.declared.scan.Sign.the-variants as sign-is
 
 -- what a front says of a look
 pub front-look : (l : Look) (f : Front) → f ≡ front l → {k : Look} → f ≡ front k → l ≡ k
-unfolding front
-front-look l f e {k} q = same l k (sym e ∙ q)
-  where
-    same : (l k : Look) → front l ≡ front k → l ≡ k
-    same at-close at-close q = refl
-    same at-close at-comment q = clash (cc)
-    same at-close at-element q = clash (cc)
-    same at-close at-text q = clash (cc)
-    same at-comment at-close q = clash (cc)
-    same at-comment at-comment q = refl
-    same at-comment at-element q = clash (cc)
-    same at-comment at-text q = clash (cc)
-    same at-element at-close q = clash (cc)
-    same at-element at-comment q = clash (cc)
-    same at-element at-element q = refl
-    same at-element at-text q = clash (cc)
-    same at-text at-close q = clash (cc)
-    same at-text at-comment q = clash (cc)
-    same at-text at-element q = clash (cc)
-    same at-text at-text q = refl
+front-look l f e {k} q = front-is l k (sym e ∙ q)
 
 module _ (s : List ℕ) {f : Front} (e : f ≡ front (look s)) where
-  pub looks-close : f ≡ front-is.Close → look s ≡ at-close
+  pub looks-close : f ≡ shows.Close → look s ≡ at-close
   unfolding front
   looks-close q = front-look (look s) f e q
 
-  pub looks-comment : f ≡ front-is.Comment → look s ≡ at-comment
+  pub looks-comment : f ≡ shows.Comment → look s ≡ at-comment
   unfolding front
   looks-comment q = front-look (look s) f e q
 
-  pub looks-start : f ≡ front-is.Start → look s ≡ at-element
+  pub looks-data : f ≡ shows.Data → look s ≡ at-data
+  unfolding front
+  looks-data q = front-look (look s) f e q
+
+  pub looks-start : f ≡ shows.Start → look s ≡ at-element
   unfolding front
   looks-start q = front-look (look s) f e q
 
-  pub looks-text : f ≡ front-is.Text → look s ≡ at-text
+  pub looks-text : f ≡ shows.Text → look s ≡ at-text
   unfolding front
   looks-text q = front-look (look s) f e q
 

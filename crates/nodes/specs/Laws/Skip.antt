@@ -8,13 +8,13 @@ use borrow.Author.Needs.{needs}
 use lib.ListN.{length, drop, length-drop}
 use Rattle.lists.specs.Laws.Booleans.{clash}
 use Rattle.grammar.specs.Read.{Read, fail, got, bind, Ok, good, ok-got}
-use Rattle.grammar.specs.Parser.{comment-at, Look, at-close, at-comment, at-element, at-text, look}
-use Rattle.grammar.specs.Laws.Sound.{comment-sound}
+use Rattle.grammar.specs.Parser.{comment-at, data-at, Look, at-close, at-comment, at-data, at-element, at-text, look}
+use Rattle.grammar.specs.Laws.Sound.{comment-sound, data-sound}
 use Rattle.steps.specs.Step.{stepped, at-end, arrives, refuses, fell, Tails, tails, Went, went}
 use Rattle.steps.specs.declared.Step.{Step}
 use Rattle.steps.specs.declared.Step.the-variants.{To, No}
 use Rattle.nodes.specs.Places.{Tail, tail-of, tail-more}
-use Rattle.nodes.specs.Laws.Depth.{comment-eats}
+use Rattle.nodes.specs.Laws.Depth.{comment-eats, data-eats}
 use Rattle.nodes.specs.Scan.{to-tag, to-tag-tail, to-tag-short, past-tag, past-tag-less, tag-at, tag-less, scan, skip-at, passed}
 use Rattle.nodes.specs.Scan.{leave-at, scan-tails, Less, less-tails, less-falls}
 use Rattle.nodes.specs.ScanSteps.{tagged, Mark, closes, opens, flat, none, flat-of, mark-of, sign-by, sign, signed, go-on, scan-on}
@@ -25,7 +25,7 @@ use Rattle.nodes.specs.declared.scan.Tag.{Tag}
 use Rattle.nodes.specs.declared.scan.Tag.the-variants as tag-is
 use Rattle.nodes.specs.declared.scan.Sign.{Sign}
 use Rattle.nodes.specs.declared.scan.Sign.the-variants as sign-is
-use Rattle.nodes.specs.Laws.Scan.{looks-close, looks-comment, looks-start, looks-text}
+use Rattle.nodes.specs.Laws.Scan.{looks-close, looks-comment, looks-data, looks-start, looks-text}
 
 pub place : (text : List ℕ) (k : ℕ) → k ≤ length text → length text - length (drop k text) ≡ k
 place text k h = simp length-drop (omega arith)
@@ -50,12 +50,12 @@ sign-look : (s : List ℕ) (l : Look) → look s ≡ l → sign s ≡ sign-by l 
 unfolding sign
 sign-look s l e = rw e
 
-flat-to : (n : ℕ) (m : Read (Unit {0})) {j : ℕ} → stepped n m ≡ To j → sign-is.Flat j ≡ signed n (flat-of m)
+flat-to : {A : Type 0} (n : ℕ) (m : Read A) {j : ℕ} → stepped n m ≡ To j → sign-is.Flat j ≡ signed n (flat-of m)
 unfolding stepped signed flat-of
 flat-to n fail e = clash (cc)
 flat-to n (got u r) {j} e = let q : n - length r ≡ j = cc in cc
 
-flat-no : (n : ℕ) (m : Read (Unit {0})) → stepped n m ≡ No → sign-is.No ≡ signed n (flat-of m)
+flat-no : {A : Type 0} (n : ℕ) (m : Read A) → stepped n m ≡ No → sign-is.No ≡ signed n (flat-of m)
 unfolding stepped signed flat-of
 flat-no n fail e = refl
 flat-no n (got u r) e = clash (cc)
@@ -106,6 +106,17 @@ module _ (text : List ℕ) (at : ℕ) {f : Front} (e : f ≡ front (look (drop a
     sign-broken z = flat-no (length text) (comment-at (drop at text)) (sym k ∙ z)
         ∙ ap (signed (length text)) (sym (sign-look (drop at text) at-comment (looks-comment (drop at text) e q)))
 
+  module _ (q : f ≡ front-is.Data) {x : Step} (k : x ≡ stepped (length text) (data-at (drop at text))) where
+    data-look : flat-of (data-at (drop at text)) ≡ sign (drop at text)
+    unfolding sign-by
+    data-look = sym (sign-look (drop at text) at-data (looks-data (drop at text) e q))
+
+    pub sign-data : {j : ℕ} → x ≡ To j → sign-is.Flat j ≡ signed (length text) (sign (drop at text))
+    sign-data z = flat-to (length text) (data-at (drop at text)) (sym k ∙ z) ∙ ap (signed (length text)) data-look
+
+    pub sign-no-data : x ≡ No → sign-is.No ≡ signed (length text) (sign (drop at text))
+    sign-no-data z = flat-no (length text) (data-at (drop at text)) (sym k ∙ z) ∙ ap (signed (length text)) data-look
+
   module _ (q : f ≡ front-is.Start) {x : Tag} (k : x ≡ tagged (length text) (tag-at (drop at text))) where
     start-look : mark-of (tag-at (drop at text)) ≡ sign (drop at text)
     unfolding sign-by
@@ -120,7 +131,20 @@ module _ (text : List ℕ) (at : ℕ) {f : Front} (e : f ≡ front (look (drop a
     pub sign-none : x ≡ tag-is.No → sign-is.No ≡ signed (length text) (sign (drop at text))
     sign-none z = mark-no (length text) (tag-at (drop at text)) (sym k ∙ z) ∙ ap (signed (length text)) start-look
 
-pub ruleset signing = (close-past, close-here, sign-close, sign-text, sign-comment, sign-broken, sign-open, sign-bare, sign-none, needs)
+pub ruleset signing = (
+  close-past,
+  close-here,
+  sign-close,
+  sign-text,
+  sign-comment,
+  sign-broken,
+  sign-data,
+  sign-no-data,
+  sign-open,
+  sign-bare,
+  sign-none,
+  needs,
+)
 
 -- what a sign leaves
 data Leaves (s : List ℕ) : Mark → Type 0 where
@@ -132,7 +156,7 @@ data Leaves (s : List ℕ) : Mark → Type 0 where
 less-any : {A B : Type 0} {s r : List ℕ} {a : A} (b : B) → Less s a r → Less s b r
 less-any b k = record { front = k .front; whole = k .whole; falls = k .falls }
 
-flat-leaves : (s : List ℕ) (m : Read (Unit {0})) → Ok (Tails s) m → Ok (λ _ r. length r < length s) m → Leaves s (flat-of m)
+flat-leaves : {A : Type 0} (s : List ℕ) (m : Read A) → Ok (Tails s) m → Ok (λ _ r. length r < length s) m → Leaves s (flat-of m)
 unfolding flat-of
 flat-leaves s fail h k = leaves-none
 flat-leaves s (got u r) (good h) (good k) = leaves-flat (record { front = h .0; whole = h .1; falls = k })
@@ -147,6 +171,7 @@ by-leaves : (l : Look) (s : List ℕ) → Leaves s (sign-by l s)
 unfolding sign-by
 by-leaves at-close s = leaves-close
 by-leaves at-comment s = flat-leaves s (comment-at s) (tails (comment-sound s)) (comment-eats s)
+by-leaves at-data s = flat-leaves s (data-at s) (tails (data-sound s)) (data-eats s)
 by-leaves at-element s = mark-leaves s (tag-at s) (tag-less s)
 by-leaves at-text s = leaves-none
 

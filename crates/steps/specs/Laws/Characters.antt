@@ -34,6 +34,14 @@ begins-passed (a ∷ k) (b ∷ s) = go (eqb b a) (begins-passed k s)
     go true ih = ih
     go false ih = refl
 
+pub mark-fails : (k s : List ℕ) → begins k s ≡ false → mark k s ≡ fail
+unfolding passed
+mark-fails k s e = go (mark k s) (sym (begins-passed k s) ∙ e)
+  where
+    go : (m : Read (Unit {0})) → passed m ≡ false → m ≡ fail
+    go fail h = refl
+    go (got u r) h = clash (cc)
+
 stepped-passed : {A : Type 0} (n : ℕ) (m : Read A) {j : ℕ} → To j ≡ stepped n m → passed m ≡ true
 unfolding stepped passed
 stepped-passed n fail e = clash (cc)

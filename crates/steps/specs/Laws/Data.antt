@@ -34,11 +34,11 @@ module _ (text : List ℕ) (at : ℕ) where
   brackets-other h f = rw (at-byte text at h, ne-eqb (getD text at 0) 93 f)
 
 -- one character, or the end of a line
-data-nil : data-character-at [] ≡ fail
+pub data-nil : data-character-at [] ≡ fail
 unfolding data-character-at line-end-at literal-at mark byte alt bind
 data-nil = refl
 
-data-return : (s : List ℕ) → data-character-at (13 ∷ s) ≡ feed-at (ascii "\n") s
+pub data-return : (s : List ℕ) → data-character-at (13 ∷ s) ≡ feed-at (ascii "\n") s
 unfolding data-character-at alt
 data-return s = let known = return-read (ascii "\n") s in let read = feed-got (ascii "\n") s in rw (known, read)
 
@@ -104,7 +104,7 @@ pub data-less : (text : List ℕ) (i : ℕ) {r : Step} {j : ℕ} → i < length 
 data-less text i {j = j} h is n = let on : i < j = moved data-character-at data-character-eats data-character-tails text i is n in omega arith
 
 -- the whole, behind its mark: the answer does not see the characters
-unfoldable inner-at : List ℕ → Read (List ℕ)
+unfoldable pub inner-at : List ℕ → Read (List ℕ)
 inner-at s = bind (all-of (begins (ascii "]]>")) data-character-at s) (λ bs r. bind (mark (ascii "]]>") r) (λ _ r₁. got (together bs) r₁))
 
 rest-is : (n : ℕ) (s : List ℕ) → stepped n (data-rest-at s) ≡ stepped n (inner-at s)

@@ -83,33 +83,23 @@ module _ (s : List ℕ) (at : ℕ) where
     marked-other f = rw (at-byte s at h, ne-eqb _ _ f)
 
 -- a look, from the front that it shows
-front-is : (l k : Look) → front l ≡ front k → l ≡ k
-unfolding front
-front-is at-close at-close e = refl
-front-is at-close at-comment e = clash (cc)
-front-is at-close at-data e = clash (cc)
-front-is at-close at-element e = clash (cc)
-front-is at-close at-text e = clash (cc)
-front-is at-comment at-close e = clash (cc)
-front-is at-comment at-comment e = refl
-front-is at-comment at-data e = clash (cc)
-front-is at-comment at-element e = clash (cc)
-front-is at-comment at-text e = clash (cc)
-front-is at-data at-close e = clash (cc)
-front-is at-data at-comment e = clash (cc)
-front-is at-data at-data e = refl
-front-is at-data at-element e = clash (cc)
-front-is at-data at-text e = clash (cc)
-front-is at-element at-close e = clash (cc)
-front-is at-element at-comment e = clash (cc)
-front-is at-element at-data e = clash (cc)
-front-is at-element at-element e = refl
-front-is at-element at-text e = clash (cc)
-front-is at-text at-close e = clash (cc)
-front-is at-text at-comment e = clash (cc)
-front-is at-text at-data e = clash (cc)
-front-is at-text at-element e = clash (cc)
-front-is at-text at-text e = refl
+unfoldable shown : Front → Look
+shown Front.Close = at-close
+shown Front.Comment = at-comment
+shown Front.Data = at-data
+shown Front.Start = at-element
+shown Front.Text = at-text
+
+shown-front : (l : Look) → shown (front l) ≡ l
+unfolding shown front
+shown-front at-close = refl
+shown-front at-comment = refl
+shown-front at-data = refl
+shown-front at-element = refl
+shown-front at-text = refl
+
+pub front-is : (l k : Look) → front l ≡ front k → l ≡ k
+front-is l k e = sym (shown-front l) ∙ ap shown e ∙ shown-front k
 
 -- a character, or a reference
 alt-none : {A : Type 0} (m : Read A) → alt m fail ≡ m
