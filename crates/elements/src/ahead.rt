@@ -3,7 +3,9 @@ use super::scan::past_tag;
 use super::scan::tag_end;
 use super::scan::to_tag;
 use heads::comments::comment_end;
+use heads::data::data_end;
 use letters::blanks::blanks_end;
+use letters::blanks::mark_end;
 use markup::pieces::front_at;
 use nodes::ahead::Ahead;
 use nodes::scan::Tag;
@@ -12,8 +14,11 @@ use steps::pieces::Front;
 ghost use mathlib.Core.Path.{_≡_};
 ghost use Prim.Native.Nat.{_-_};
 ghost use lib.ListN.{length, drop};
-ghost use Rattle.nodes.specs.Ahead.{past-gap, ending, ahead-at, first-ahead};
+ghost use Rattle.nodes.specs.Ahead.{past-gap, gap-data, ending, ahead-at, first-ahead};
 ghost use Rattle.nodes.specs.Scan.{past-tag};
+ghost use Rattle.nodes.specs.Laws.BlankData.{blank-data-at};
+ghost use Rattle.grammar.specs.Parser.{data-at};
+ghost use Rattle.steps.specs.Step.{stepped};
 
 // Behind the blanks at `at`; with `words`, at the first `<`.
 fn past_gap(text: &[u8], at: usize, words: bool) -> usize
@@ -23,6 +28,26 @@ fn past_gap(text: &[u8], at: usize, words: bool) -> usize
         return to_tag(text, at);
     }
     blanks_end(text, at)
+}
+
+// CDATA that holds blanks alone.
+fn blank_data_end(text: &[u8], at: usize) -> Step
+    ensures { λ r. ⌜ r ≡ stepped (length (now (text .entry))) (blank-data-at (drop at (now (text .entry)))) ⌝ }
+{
+    match mark_end(text, at, b"<![CDATA[") {
+        Step::To(i) => mark_end(text, blanks_end(text, i), b"]]>"),
+        Step::No => Step::No,
+    }
+}
+
+// CDATA in a gap: with `words` any, else such that holds blanks alone.
+fn gap_data_end(text: &[u8], at: usize, words: bool) -> Step
+    ensures { λ r. ⌜ r ≡ stepped (length (now (text .entry))) (gap-data words (data-at (drop at (now (text .entry))))) ⌝ }
+{
+    if words {
+        return data_end(text, at);
+    }
+    blank_data_end(text, at)
 }
 
 // The end tag at `at`.
@@ -35,7 +60,7 @@ fn end_at(text: &[u8], at: usize) -> Ahead
     }
 }
 
-// What stands behind comments and blanks, or with `words` behind any characters, in the contents that go on at `at`.
+// What stands behind comments and blanks, or with `words` behind any characters, in CDATA or not, in the contents that go on at `at`.
 pub fn ahead_from(text: &[u8], at: usize, words: bool) -> Ahead
     ensures { λ r. ⌜ r ≡ ahead-at words (length (now (text .entry))) (drop at (now (text .entry))) ⌝ }
 {
@@ -47,6 +72,14 @@ pub fn ahead_from(text: &[u8], at: usize, words: bool) -> Ahead
                 return Ahead::Child(t);
             }
             Front::Comment => match comment_end(text, t) {
+                Step::To(j) => {
+                    i = j;
+                }
+                Step::No => {
+                    return Ahead::Stray;
+                }
+            },
+            Front::Data => match gap_data_end(text, t, words) {
                 Step::To(j) => {
                     i = j;
                 }

@@ -3,6 +3,7 @@ use super::scan::skip;
 use super::scan::tag_end;
 use super::scan::to_tag;
 use heads::comments::comment_end;
+use heads::data::data_end;
 use markup::pieces::front_at;
 use markup::prolog::root_start;
 use nodes::Kid;
@@ -14,7 +15,7 @@ ghost use lib.ListN.{length, drop};
 ghost use Rattle.nodes.specs.Children.{kid-at, first, next};
 ghost use Rattle.nodes.specs.Root.{root};
 
-// The child behind the comments and the characters at `at`, if there is one.
+// The child behind the comments, the characters and the CDATA at `at`, if there is one.
 pub fn kid_from(text: &[u8], at: usize) -> Kid
     ensures { λ r. ⌜ r ≡ kid-at (length (now (text .entry))) (drop at (now (text .entry))) ⌝ }
 {
@@ -26,6 +27,14 @@ pub fn kid_from(text: &[u8], at: usize) -> Kid
                 return Kid::Child(t);
             }
             Front::Comment => match comment_end(text, t) {
+                Step::To(j) => {
+                    i = j;
+                }
+                Step::No => {
+                    return Kid::Done;
+                }
+            },
+            Front::Data => match data_end(text, t) {
                 Step::To(j) => {
                     i = j;
                 }
@@ -64,7 +73,7 @@ pub fn next_child(text: &[u8], at: usize) -> Kid
     }
 }
 
-// The root of the text: where the element stands that the declaration, blanks and comments are followed by.
+// The root of the text: the element behind all that stands before it.
 pub fn root_of(text: &[u8]) -> Kid
     ensures { λ r. ⌜ r ≡ root (now (text .entry)) ⌝ }
 {

@@ -1,5 +1,6 @@
 // Passing over what is known to be well formed: only tags matter.
 use heads::comments::comment_end;
+use heads::data::data_end;
 use letters::classes::is_quote;
 use markup::pieces::front_at;
 use nodes::scan::Sign;
@@ -164,6 +165,10 @@ fn sign_at(text: &[u8], at: usize) -> Sign
     match front_at(text, at) {
         Front::Close => close_sign(text, at),
         Front::Comment => match comment_end(text, at) {
+            Step::To(j) => Sign::Flat(j),
+            Step::No => Sign::No,
+        },
+        Front::Data => match data_end(text, at) {
             Step::To(j) => Sign::Flat(j),
             Step::No => Sign::No,
         },

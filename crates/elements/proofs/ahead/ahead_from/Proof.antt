@@ -1,6 +1,6 @@
+use Rattle.nodes.specs.Laws.Ahead.{Heading, heading}
 use Prim.Native.Nat.{_-_}
 use lib.ListN.{length}
-use Rattle.nodes.specs.Laws.Ahead.{Heading, heading}
 use Rattle.elements.proofs.ahead.ahead_from.Statement.{statement}
 use Rattle.elements.proofs.ahead.ahead_from.Tie as tie
 
@@ -19,6 +19,13 @@ ahead-from-spec =
     (λ c. search heading)
     (λ c κs. search heading)
     (λ c κs. search heading)
+    (λ c. search heading)
+    (λ c. search heading)
+    (λ c. search heading)
+    (λ c κs. search heading)
+    (λ c. search heading)
+    (λ c. search heading)
+    (λ c. search heading)
     (λ c. search heading)
     (λ c. search heading)
     (λ c. search heading)

@@ -1,6 +1,6 @@
+use Rattle.nodes.specs.Laws.Children.{Going, going}
 use Prim.Native.Nat.{_-_}
 use lib.ListN.{length}
-use Rattle.nodes.specs.Laws.Children.{Going, going}
 use Rattle.elements.proofs.children.kid_from.Statement.{statement}
 use Rattle.elements.proofs.children.kid_from.Tie as tie
 
@@ -19,6 +19,13 @@ kid-from-spec =
     (λ c. search going)
     (λ c κs. search going)
     (λ c κs. search going)
+    (λ c. search going)
+    (λ c. search going)
+    (λ c. search going)
+    (λ c κs. search going)
+    (λ c. search going)
+    (λ c. search going)
+    (λ c. search going)
     (λ c. search going)
     (λ c. search going)
     (λ c. search going)
