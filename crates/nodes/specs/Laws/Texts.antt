@@ -17,7 +17,7 @@ use Rattle.lists.specs.Lists.{all}
 use Rattle.steps.specs.Step.{stepped, at-byte, at-end, fell, Went, went}
 use Rattle.steps.specs.Noted.{part}
 use Rattle.nodes.specs.Places.{tail-of, tail-more}
-use Rattle.steps.specs.Leaves.{referred, first-byte, mark-tails}
+use Rattle.steps.specs.Leaves.{referred, first-byte}
 use Rattle.steps.specs.Laws.Characters.{starts-so, starts-not}
 use Rattle.steps.specs.Laws.Data.{brackets-other}
 use Rattle.steps.specs.declared.Step.{Step}
@@ -122,6 +122,12 @@ module _ (text : List ℕ) (at : ℕ) (h : at < length text) where
 
 pub ruleset lettering = (letter-past, letter-reference, letter-ampersand, letter-return, letter-plain, needs)
 
+-- where a reader ends is in the text
+pub ends-inside : {A : Type 0} (n : ℕ) (m : Read A) {x : Step} → x ≡ stepped n m → {j : ℕ} → x ≡ To j → j ≤ n
+unfolding stepped
+ends-inside n fail e z = clash (cc)
+ends-inside n (got a r) e {j} z = let q : j ≡ n - length r = cc in omega arith
+
 -- A STEP
 past-to : (n : ℕ) (m : Read (Unit {0})) {j : ℕ} → stepped n m ≡ To j → Skip j ≡ as-text n (past outside m)
 unfolding stepped as-text place-of past
@@ -190,10 +196,7 @@ module _ (text : List ℕ) (at : ℕ) {f : Front} (ef : f ≡ front (look (drop 
     pub step-no-data : x ≡ No → Outside Stop
     step-no-data z = past-no within (length text) (mark (ascii "<![CDATA[") (drop at text)) (sym k ∙ z) ∙ sym data-is
 
-  pub data-inside : {x : Step} → x ≡ stepped (length text) (mark (ascii "<![CDATA[") (drop at text)) → {j : ℕ} → x ≡ To j → j ≤ length text
-  data-inside k {j} z = went (mark (ascii "<![CDATA[")) text at j (mark-tails (ascii "<![CDATA[") (drop at text)) (sym z ∙ k) .inside
-
-pub ruleset stepping = (step-text, step-close, step-child, step-no-child, step-comment, step-broken, step-data, step-no-data, data-inside, needs)
+pub ruleset stepping = (step-text, step-close, step-child, step-no-child, step-comment, step-broken, step-data, step-no-data, needs)
 
 -- within CDATA
 module _ (text : List ℕ) (at : ℕ) where

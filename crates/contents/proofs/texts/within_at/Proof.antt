@@ -1,0 +1,33 @@
+use mathlib.Core.Path.{refl}
+use native.Mathlib.Omega.{arith}
+use Rattle.nodes.specs.Laws.Texts.{within-data, ends-inside}
+use Rattle.contents.proofs.texts.within_at.Statement.{statement}
+use Rattle.contents.proofs.texts.within_at.Tie as tie
+
+add-t21 : tie.Need-add-t21
+add-t21 c = omega (arith, ends-inside _ _ (c .feed-end .ensures) refl)
+
+pub within-at-spec : {M : Type 1} → statement M
+within-at-spec =
+    tie.close
+    (tie.spec
+    (λ c. search within-data)
+    (λ c. search within-data)
+    (λ c. search within-data)
+    (λ c κs. search within-data)
+    (λ c. search within-data)
+    (λ c. search within-data)
+    (λ c. search within-data)
+    (λ c. search within-data)
+    (λ c. search within-data)
+    (λ c. search within-data)
+    (λ c. search within-data)
+    (λ c. search within-data)
+    (λ c. search within-data)
+    (λ c κs. search within-data)
+    add-t21
+    (λ c. search within-data)
+    (λ c. search within-data)
+    (λ c. search within-data)
+    (λ c. search within-data)
+    (λ c. search within-data))
