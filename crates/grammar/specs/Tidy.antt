@@ -10,7 +10,8 @@ use lib.ListN.{length}
 use Rattle.grammar.specs.Bytes.{Each, no-byte, a-byte, blank, Sequence, no-more, one-more, Row, none-more, and-more}
 use Rattle.grammar.specs.Document.{Attribute, attribute, Element, element, Contents, nothing, child, run, merged, together}
 use Rattle.grammar.specs.Grammar
-use Rattle.grammar.specs.Grammar.{Name, Reference, TextCharacter, ValueCharacter, Value, DataCharacter, CData, WritesAttribute, Distinct, Attributes}
+use Rattle.grammar.specs.Grammar.{Name, Reference, TextCharacter, ValueCharacter, Value, DataCharacter, CData, WritesAttribute}
+use Rattle.grammar.specs.Grammar.{Distinct, Attributes}
 use Rattle.grammar.specs.Grammar.{WritesElement, WritesContents, Writes}
 use Rattle.grammar.specs.Laws.Facts.{no-return}
 use Rattle.grammar.specs.Laws.Others.{other, character-other}

@@ -1,6 +1,7 @@
 pub mod Scan
 pub mod Depth
 pub mod Skip
+pub mod Signs
 pub mod Children
 pub mod ReadSteps
 pub mod Ahead

@@ -8,7 +8,8 @@ use lib.ListN.{length, drop}
 use Rattle.lists.specs.Laws.Booleans.{clash}
 use Rattle.grammar.specs.Document.{Element}
 use Rattle.grammar.specs.Read.{Read, fail, got, bind, all-of}
-use Rattle.grammar.specs.Parser.{declaration-at, prologue-at, no-aside, aside-at, element-at, contents-at, document-at, end-at, answer, parse}
+use Rattle.grammar.specs.Parser.{declaration-at, prologue-at, no-aside, aside-at, element-at, contents-at, document-at, end-at, answer}
+use Rattle.grammar.specs.Parser.{parse}
 use Rattle.grammar.specs.Unfuelled.{contents, element-enough}
 use Rattle.steps.specs.Prologue.{preamble-at, preamble-tails}
 use Rattle.nodes.specs.Places.{element₁₆, Stands, the, stands-read, the-read, unbind, Tail, tail-read}

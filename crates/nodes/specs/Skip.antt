@@ -11,7 +11,8 @@ use Rattle.grammar.specs.Bytes.{ascii, blank}
 use Rattle.grammar.specs.Document.{Attribute, Element, Contents}
 use Rattle.grammar.specs.Read.{Read, got, bind, mark, span, ok-got, mark-sound, span-sound, test}
 use Rattle.grammar.specs.Grammar.{Name}
-use Rattle.grammar.specs.Parser.{Look, at-close, at-comment, at-data, at-element, at-text, look, look-if, look₂, look-by, comment-at, data-at}
+use Rattle.grammar.specs.Parser.{Look, at-close, at-comment, at-data, at-element, at-text, look, look-if, look₂, look-by, comment-at}
+use Rattle.grammar.specs.Parser.{data-at}
 use Rattle.grammar.specs.Parser.{closing}
 use Rattle.grammar.specs.Laws.Sound.{name-sound, attributes-sound}
 use Rattle.grammar.specs.Unfuelled.{contents}

@@ -8,7 +8,8 @@ use Rattle.grammar.specs.Grammar.{Aside, Declaration}
 use Rattle.grammar.specs.Read.{Read, fail, got, Reader, bind, _>>=_, _>>_, pure, mark, byte, all-of, Ok, good, bind-ok, ok-map}
 use Rattle.grammar.specs.Read.{all-of-sound}
 use Rattle.grammar.specs.Bytes.{quote}
-use Rattle.grammar.specs.Parser.{declaration-at, no-aside, aside-at, doctype-at, doctype-if, prologue-at, setting-at, encoding-if, ends, asking}
+use Rattle.grammar.specs.Parser.{declaration-at, no-aside, aside-at, doctype-at, doctype-if, prologue-at, setting-at, encoding-if, ends}
+use Rattle.grammar.specs.Parser.{asking}
 use Rattle.grammar.specs.Laws.Sound.{aside-sound, declaration-sound, doctype-sound, prologue-sound}
 use Rattle.grammar.specs.Laws.Complete.{aside-long}
 use Rattle.grammar.specs.Unfuelled.{less}

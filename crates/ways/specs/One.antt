@@ -8,13 +8,13 @@ use native.Mathlib.Omega.{arith}
 use lib.ListN.{length, take, drop, length-append}
 use lib.Seq.{drop-append-seam, take-append-seam}
 use Rattle.lists.specs.Laws.Booleans.{clash}
-use Rattle.grammar.specs.Bytes.{_⊹_, Sequence}
+use Rattle.grammar.specs.Bytes.{_⊹_}
 use Rattle.grammar.specs.Document.{Element}
-use Rattle.grammar.specs.Grammar.{Declaration, Aside}
+use Rattle.grammar.specs.Grammar.{Declaration, Prologue}
 use Rattle.grammar.specs.Look.{withinOf}
 use Rattle.grammar.specs.Parser.{parse}
 use Rattle.grammar.specs.Read.{Read, fail, got}
-use Rattle.steps.specs.Prologue.{prologue-at}
+use Rattle.steps.specs.Prologue.{preamble-at}
 use Rattle.nodes.specs.Places.{element₁₆, Stands, the, stands-read, the-read, Tail, tail-more}
 use Rattle.nodes.specs.Scan.{tag-at}
 use Rattle.nodes.specs.ScanSteps.{tagged}
@@ -62,14 +62,14 @@ pub record Met (way : List Step) (part text : List ℕ) (start : ℕ) : Type 0 w
   pub starts : start ≡ tagEnd text at
   pub within-is : part ≡ between-tags text at
 
-root-at : {p u w : List ℕ} {bs : List (List ℕ)} {way : List Step} {d : ℕ} {e x : Element} {before s : List ℕ} → Declaration p
-    → Sequence Aside bs u → Leads way d e w before x s → (v : List ℕ)
+root-at : {p u w : List ℕ} {way : List Step} {d : ℕ} {e x : Element} {before s : List ℕ} → Declaration p → Prologue u
+    → Leads way d e w before x s → (v : List ℕ)
     → wayAt way (p ++ (u ++ (w ++ v))) ≡ walked way (p ++ (u ++ (w ++ v))) (length (p ++ (u ++ (w ++ v))) - length (w ++ v))
 unfolding wayAt walkedFrom root root-by
 root-at h k l v = rw (before-reads h k (element-opens (leads-writes l)) v)
 
 pub place-met : {way : List Step} {part text : List ℕ} {start : ℕ} → Place way part text start → Met way part text start
-place-met {way} {part} (place {p} {u} {w} {v} {before} {tag} {s} {bs} {cs} {e} {x} h k l z q g) =
+place-met {way} {part} (place {p} {u} {w} {v} {before} {tag} {s} {cs} {e} {x} h k l z q g) =
     let text : List ℕ = p ++ (u ++ (w ++ v)) in
     let t : Tail text (w ++ v) = tail-more u (w ++ v) refl (tail-more p (u ++ (w ++ v)) refl (whole-tail text)) in
     let end = along text l (omega arith) v t in

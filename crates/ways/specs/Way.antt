@@ -10,7 +10,7 @@ use lib.ListN.{length}
 use Rattle.lists.specs.Lists.{those, count}
 use Rattle.grammar.specs.Bytes.{_⊹_, ascii, blank, Each, Sequence}
 use Rattle.grammar.specs.Document.{Attribute, Element, Contents}
-use Rattle.grammar.specs.Grammar.{Name, Attributes, WritesElement, WritesContents, Declaration, Aside}
+use Rattle.grammar.specs.Grammar.{Name, Attributes, WritesElement, WritesContents, Declaration, Aside, Prologue}
 use Rattle.grammar.specs.Look.{contentsOf, withinOf, elements}
 
 pub data Step : Type 0 where
@@ -59,8 +59,8 @@ pub data Tagged (part : List ℕ) : (tag s : List ℕ) → Type 0 where
 -- THE PLACE that the way leads to from the root: `part` is what stands between the tags there,
 -- and it starts behind the start tag, or the only tag
 pub data Place (way : List Step) (part : List ℕ) : List ℕ → ℕ → Type 0 where
-  place : {p u w v before tag s : List ℕ} {bs cs : List (List ℕ)} {e x : Element}
-      → Declaration p → Sequence Aside bs u → Leads way 16 e w before x s → Sequence Aside cs v → withinOf x ≡ part → Tagged part tag s
+  place : {p u w v before tag s : List ℕ} {cs : List (List ℕ)} {e x : Element}
+      → Declaration p → Prologue u → Leads way 16 e w before x s → Sequence Aside cs v → withinOf x ≡ part → Tagged part tag s
       → Place way part (p ⊹ u ⊹ w ⊹ v) (length (p ⊹ u ⊹ before ⊹ tag))
 
 unfoldable pub ways : Unit {0}

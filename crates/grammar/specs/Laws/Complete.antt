@@ -26,7 +26,8 @@ use Rattle.grammar.specs.Laws.Data.{data-complete, doctype-complete}
 use Rattle.grammar.specs.Parser.{name-at, attributes-at, ends, closing, comment-at, Look, at-close, at-comment, at-data, at-element}
 use Rattle.grammar.specs.Parser.{at-text, look, look₂, look₃, look-third, look-by, look-if, empty-at, full-at, element-at}
 use Rattle.grammar.specs.Parser.{contents-by, contents-at, setting-at, asking, encoding-if, declaration-if, declaration-at}
-use Rattle.grammar.specs.Parser.{blank-at, remarked-at, aside-at, no-aside, doctype-if, prologue-at, end-at, document-at, answer, parse}
+use Rattle.grammar.specs.Parser.{blank-at, remarked-at, aside-at, no-aside, doctype-if, prologue-at, end-at, document-at, answer}
+use Rattle.grammar.specs.Parser.{parse}
 
 -- an element begins with `<` and the first byte of a name
 pub data Opening : List ℕ → Type 0 where
@@ -355,7 +356,7 @@ opening-no-doctype : {w : List ℕ} → Opening w → (r : List ℕ) → begins 
 unfolding begins
 opening-no-doctype (opening a w h) r = rw (nameStart-is-not a 33 h (omega arith))
 
-prologue-complete : {u w : List ℕ} → Prologue u → Opening w → (r : List ℕ) → prologue-at (u ++ (w ++ r)) ≡ got tt (w ++ r)
+pub prologue-complete : {u w : List ℕ} → Prologue u → Opening w → (r : List ℕ) → prologue-at (u ++ (w ++ r)) ≡ got tt (w ++ r)
 unfolding prologue-at doctype-if bind
 prologue-complete {w = w} (Grammar.untyped h) o r =
     rw (all-of-complete aside-item h (w ++ r) (opening-no-aside o r), opening-no-doctype o r)
@@ -367,7 +368,7 @@ prologue-complete {w = w} (Grammar.typed {u = u} {x} {v} h k t) o r =
       all-of-complete aside-item t (w ++ r) (opening-no-aside o r),
     ))
 
-prologue-no-ask : {u w : List ℕ} → Prologue u → Opening w → (r : List ℕ) → begins (ascii "<?") (u ++ (w ++ r)) ≡ false
+pub prologue-no-ask : {u w : List ℕ} → Prologue u → Opening w → (r : List ℕ) → begins (ascii "<?") (u ++ (w ++ r)) ≡ false
 prologue-no-ask {w = w} (Grammar.untyped h) o r = asides-no-ask h (w ++ r) (opening-no-ask o r)
 prologue-no-ask {w = w} (Grammar.typed {u = u} {x} {v} h k t) o r =
     simp append-assoc (asides-no-ask h (x ++ (v ++ (w ++ r))) (doctype-no-ask k (v ++ (w ++ r))))

@@ -14,7 +14,8 @@ use Rattle.grammar.specs.Characters.{Character, utf8-1, utf8-2, utf8-3, 
 use Rattle.grammar.specs.Document.{Attribute, attribute, together}
 use Rattle.grammar.specs.Grammar
 use Rattle.grammar.specs.Grammar.{Name, Gap, Equals, Reference, LineEnd, TextCharacter, ValueCharacter, Value, WritesAttribute}
-use Rattle.grammar.specs.Grammar.{Absent, Distinct, Attributes, Remark, Comment, DataCharacter, CData, Setting, Encoding, Declaration, Aside}
+use Rattle.grammar.specs.Grammar.{Absent, Distinct, Attributes, Remark, Comment, DataCharacter, CData, Setting, Encoding}
+use Rattle.grammar.specs.Grammar.{Declaration, Aside}
 use Rattle.grammar.specs.Grammar.{Skipped, Doctype, Prologue}
 use Rattle.grammar.specs.Read.{Read, fail, got, Reader, bind, test, mark, byte, span, alt, all-of, Ok, failed, good, bind-ok}
 use Rattle.grammar.specs.Read.{ok-map, ok-got, alt-ok, Takes, test-sound, mark-sound, byte-sound, span-sound, all-of-sound}
@@ -25,8 +26,10 @@ use Rattle.grammar.specs.Parser.{literal-at, standsFor, reference-at, fe
 use Rattle.grammar.specs.Parser.{spacing, space-at, value-byte, value-character-at, value-at}
 use Rattle.grammar.specs.Laws.Facts.{no-return}
 use Rattle.grammar.specs.Parser.{attribute-at, ends, closing, same, absent, distinct, attributes-at, no-dash, plain-at, dashed-at}
-use Rattle.grammar.specs.Parser.{remark-at, comment-at, data-byte, data-character-at, data-at, setting-at, asking, encoding-if, declaration-if}
-use Rattle.grammar.specs.Parser.{declaration-at, blank-at, remarked-at, aside-at, no-aside, skipped-at, doctype-at, doctype-if, prologue-at}
+use Rattle.grammar.specs.Parser.{remark-at, comment-at, data-byte, data-character-at, data-at, setting-at, asking, encoding-if}
+use Rattle.grammar.specs.Parser.{declaration-if}
+use Rattle.grammar.specs.Parser.{declaration-at, blank-at, remarked-at, aside-at, no-aside, skipped-at, doctype-at, doctype-if}
+use Rattle.grammar.specs.Parser.{prologue-at}
 
 pub name-sound : (s : List ℕ) → Ok (λ n r. (s ≡ n ++ r) × Name n) (name-at s)
 unfolding name-at

@@ -31,7 +31,8 @@ use Rattle.nodes.specs.ElementEnd.{Behind}
 use Rattle.nodes.specs.TextBytes.{outside, Move, referring, past, bare-char, step-by, step, say, saysFrom, says, says-step, plain}
 use Rattle.nodes.specs.TextBytes.{returned, child-says, marked-says}
 use Rattle.nodes.specs.Texts.{saysAt-tail, inside-by, inside, text-from, text-of}
-use Rattle.nodes.specs.Ahead.{afterGap, past-gap, gap-short, gap-data, ending, ahead-then, ahead-by, ahead-at, ahead-step, first-ahead}
+use Rattle.nodes.specs.Ahead.{afterGap, past-gap, gap-short, gap-data, ending, ahead-then, ahead-by, ahead-at, ahead-step}
+use Rattle.nodes.specs.Ahead.{first-ahead}
 use Rattle.nodes.specs.Ahead as Ahead-of
 use Rattle.nodes.specs.declared.Kid.{Kid}
 use Rattle.nodes.specs.declared.Kid.the-variants.{Child, Done}
@@ -156,7 +157,8 @@ letter-dark a s h q =
     says-step (a ∷ s) ∙ rw (q, line-end-other (ascii "\n") a (no-return a h) s) in
     ap (all blank) z ∙ go (reference-at (a ∷ s)) (reference-sound (a ∷ s))
   where
-    go : (m : Read (List ℕ)) → Ok (Takes Reference (a ∷ s)) m → all blank (say (referring outside m (Move.char a (outside s))) saysFrom) ≡ false
+    go : (m : Read (List ℕ)) → Ok (Takes Reference (a ∷ s)) m
+        → all blank (say (referring outside m (Move.char a (outside s))) saysFrom) ≡ false
     go fail k = rw h
     go (got b r) (good k) = rw (reference-dark (k .2))
 

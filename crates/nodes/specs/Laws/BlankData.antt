@@ -145,7 +145,8 @@ fed-short (b ∷ s) = go (eqb b 10)
     go false = omega arith
 
 module _ (n : ℕ) (ih : (r : List ℕ) → length r < n → gap-data false (inner-at r) ≡ blanks-at r) where
-  light : (a : ℕ) (s : List ℕ) → length s < n → blank a ≡ true → (t : Bool) → eqb a 13 ≡ t → gap-data false (inner-at (a ∷ s)) ≡ blanks-at (a ∷ s)
+  light : (a : ℕ) (s : List ℕ) → length s < n → blank a ≡ true → (t : Bool) → eqb a 13 ≡ t
+      → gap-data false (inner-at (a ∷ s)) ≡ blanks-at (a ∷ s)
   unfolding bind blank all
   light a s l h false e =
       ap (gap-data false) (inner-go (a ∷ s) (no-bracket a s h) ∙ rw (blank-read a s h e))
@@ -154,11 +155,13 @@ module _ (n : ℕ) (ih : (r : List ℕ) → length r < n → gap-data false (inn
       let same = eqb-true a 13 e in
       let read : data-character-at (13 ∷ s) ≡ got (ascii "\n") (fed s) = data-return s ∙ feed-got (ascii "\n") s in
       rw same (ap (gap-data false) (inner-go (13 ∷ s) (no-bracket 13 s refl) ∙ rw read)
-      ∙ front-blank (ascii "\n") refl (inner-at (fed s)) ∙ ih (fed s) (omega (arith, fed-short s)) ∙ blanks-fed s ∙ sym (blanks-over 13 s refl))
+      ∙ front-blank (ascii "\n") refl (inner-at (fed s)) ∙ ih (fed s) (omega (arith, fed-short s))
+      ∙ blanks-fed s ∙ sym (blanks-over 13 s refl))
 
   shaded : (a : ℕ) (s : List ℕ) → blank a ≡ false → (t : Bool) → begins (ascii "]]>") (a ∷ s) ≡ t
       → gap-data false (inner-at (a ∷ s)) ≡ blanks-at (a ∷ s)
-  shaded a s h false e = ap (gap-data false) (inner-go (a ∷ s) e) ∙ dark a s h ∙ sym (blanks-here a s h ∙ mark-fails (ascii "]]>") (a ∷ s) e)
+  shaded a s h false e =
+      ap (gap-data false) (inner-go (a ∷ s) e) ∙ dark a s h ∙ sym (blanks-here a s h ∙ mark-fails (ascii "]]>") (a ∷ s) e)
   shaded a s h true e = ap (gap-data false) (inner-stop (a ∷ s) e) ∙ closes (mark (ascii "]]>") (a ∷ s)) ∙ sym (blanks-here a s h)
 
   inner-by : (s : List ℕ) → length s < suc n → gap-data false (inner-at s) ≡ blanks-at s

@@ -106,7 +106,19 @@ module _ (text : List ℕ) (at i : ℕ) (go : Going text at i) {t : ℕ} (et : t
     unfolding kid-by
     data-less z = over-less data-at at-data (looks-data (drop t text) ef q) refl data-eats (λ s. tails (data-sound s)) k z
 
-pub ruleset going = (going-start, going-close, going-text, going-child, going-stuck, going-on, going-less, data-stuck, data-on, data-less, needs)
+pub ruleset going = (
+  going-start,
+  going-close,
+  going-text,
+  going-child,
+  going-stuck,
+  going-on,
+  going-less,
+  data-stuck,
+  data-on,
+  data-less,
+  needs,
+)
 
 module _ (text : List ℕ) (at : ℕ) {x : Tag} (k : x ≡ tagged (length text) (tag-at (drop at text))) where
   pub first-none : x ≡ tag-is.No → Done ≡ first text at

@@ -10,7 +10,8 @@ use lib.ListN.{length, drop, getD, length-drop}
 use Rattle.lists.specs.Laws.Booleans.{clash}
 use Rattle.grammar.specs.Bytes.{ascii, blank, begins}
 use Rattle.grammar.specs.Read.{Read, fail, got, mark, before, Ok, good}
-use Rattle.grammar.specs.Parser.{reference-at, feed-at, line-end-at, comment-at, Look, at-close, at-comment, at-data, at-element, at-text, look}
+use Rattle.grammar.specs.Parser.{reference-at, feed-at, line-end-at, comment-at, Look, at-close, at-comment, at-data, at-element, at-text}
+use Rattle.grammar.specs.Parser.{look}
 use Rattle.grammar.specs.Laws.Tokens.{reference-other, line-end-other}
 use Rattle.steps.specs.Laws.Feeds.{fed, feed-got, return-read}
 use Rattle.lists.specs.Lists.{all}
@@ -211,11 +212,18 @@ module _ (text : List ℕ) (at : ℕ) where
     place-behind : length text + 1 + (length text - length (drop (at + 1) text)) ≡ length text + 1 + (at + 1)
     place-behind = ap (λ k. length text + 1 + k) (place text at h)
 
-    letter-in : begins (ascii "]]>") (drop at text) ≡ false → (getD text at 0 ≡ 13 → ⊥) → Within (Letter (getD text at 0) (length text + 1 + (at + 1)))
+    letter-in : begins (ascii "]]>") (drop at text) ≡ false → (getD text at 0 ≡ 13 → ⊥)
+        → Within (Letter (getD text at 0) (length text + 1 + (at + 1)))
     unfolding step step-in as-text place-of bare-char referring
-    letter-in e f = sym (rw (e, at-byte text at h, line-end-other (ascii "\n") (getD text at 0) (ne-eqb _ _ f) (drop (at + 1) text), place-behind))
+    letter-in e f = sym (rw (
+      e,
+      at-byte text at h,
+      line-end-other (ascii "\n") (getD text at 0) (ne-eqb _ _ f) (drop (at + 1) text),
+      place-behind,
+    ))
 
-    pub within-letter : (getD text at 0 ≡ 93 → ⊥) → (getD text at 0 ≡ 13 → ⊥) → Within (Letter (getD text at 0) (length text + 1 + (at + 1)))
+    pub within-letter : (getD text at 0 ≡ 93 → ⊥) → (getD text at 0 ≡ 13 → ⊥)
+        → Within (Letter (getD text at 0) (length text + 1 + (at + 1)))
     within-letter g f = letter-in (sym (brackets-other text at h g)) f
 
     pub within-return : getD text at 0 ≡ 13 → {j : ℕ} → To j ≡ stepped (length text) (feed-at (ascii "\n") (drop (at + 1) text))

@@ -87,7 +87,8 @@ module _ (text : List ℕ) (at i : ℕ) (go : InData text at i) where
   module _ {t : Bool} (is : t ≡ begins (ascii "]]>") (drop i text)) where
     pub data-closes : t ≡ true → {r : Step} → r ≡ stepped (length text) (mark (ascii "]]>") (drop i text)) → Rest r
     unfolding data-rest-at
-    data-closes e k = going-stops (begins (ascii "]]>")) data-character-at (mark (ascii "]]>")) data-character-eats text at i go (sym is ∙ e) k
+    data-closes e k = going-stops (begins (ascii "]]>")) data-character-at (mark (ascii "]]>")) data-character-eats text at i go
+        (sym is ∙ e) k
 
     module _ (e : t ≡ false) {r : Step} (s : r ≡ stepped (length text) (data-character-at (drop i text))) where
       pub data-stuck : r ≡ No → Rest No
@@ -101,7 +102,8 @@ module _ (text : List ℕ) (at i : ℕ) (go : InData text at i) where
 
 pub data-less : (text : List ℕ) (i : ℕ) {r : Step} {j : ℕ} → i < length text → r ≡ stepped (length text) (data-character-at (drop i text))
     → r ≡ To j → length text - j < length text - i
-data-less text i {j = j} h is n = let on : i < j = moved data-character-at data-character-eats data-character-tails text i is n in omega arith
+data-less text i {j = j} h is n =
+    let on : i < j = moved data-character-at data-character-eats data-character-tails text i is n in omega arith
 
 -- the whole, behind its mark: the answer does not see the characters
 unfoldable pub inner-at : List ℕ → Read (List ℕ)

@@ -105,7 +105,8 @@ module _ (text : List ℕ) (at : ℕ) where
 
   pub typed-none : length text ≤ at → Typed (To (length text))
   unfolding typed-at doctype-if begins
-  typed-none h = arrives text (typed-at (drop at text)) (length text) (omega arith) (rw (at-end text at h, at-end text (length text) (omega arith)))
+  typed-none h = arrives text (typed-at (drop at text)) (length text) (omega arith)
+      (rw (at-end text at h, at-end text (length text) (omega arith)))
 
   module _ (h : at < length text) {t : Bool} (b : t ≡ begins (ascii "<!D") (drop at text)) where
     pub typed-other : not t ≡ true → Typed (To at)
@@ -124,7 +125,8 @@ module _ (text : List ℕ) (at : ℕ) where
 
       pub typed-on : {i : ℕ} → r ≡ To i → {x : Step} → x ≡ stepped (length text) (asides-at (drop i text)) → Typed x
       typed-on {i} n k =
-          follows doctype-at doctype-tails text at _ q i n (λ _ _. k ∙ sym (stepped-value (length text) (asides-at (drop i text)) (λ _. tt)))
+          follows doctype-at doctype-tails text at _ q i n
+          (λ _ _. k ∙ sym (stepped-value (length text) (asides-at (drop i text)) (λ _. tt)))
           ∙ ap (stepped (length text)) (sym there)
 
 -- between the declaration and the root

@@ -13,7 +13,8 @@ use Rattle.grammar.specs.Bytes.{ascii, blank, begins, parted, special}
 use Rattle.grammar.specs.Characters.{utf8-1, lead1}
 use Rattle.grammar.specs.Grammar.{TextCharacter}
 use Rattle.grammar.specs.Read.{Read, fail, got, bind, alt, byte, test, mark}
-use Rattle.grammar.specs.Parser.{Look, at-close, at-comment, at-data, at-element, at-text, look, look-if, look₂, look₃, look-third, look-by, text-at}
+use Rattle.grammar.specs.Parser.{Look, at-close, at-comment, at-data, at-element, at-text, look, look-if, look₂, look₃, look-third}
+use Rattle.grammar.specs.Parser.{look-by, text-at}
 use Rattle.grammar.specs.Parser.{reference-at, standsFor, feed-at, line-end-at, text-byte, literal-at, comment-at, data-at}
 use Rattle.grammar.specs.Laws.Tokens.{text-complete, reference-other, line-end-other}
 use Rattle.steps.specs.Step.{stepped, arrives, refuses, at-byte, at-end}

@@ -9,16 +9,17 @@ use Rattle.lists.specs.Lists.{those, count}
 use Rattle.grammar.specs.Bytes.{_⊹_, ascii, blank, Each}
 use Rattle.grammar.specs.Document.{Element, Contents, nothing, child, run, merged}
 use Rattle.grammar.specs.Grammar
-use Rattle.grammar.specs.Grammar.{TextCharacter, Comment, WritesElement, WritesContents}
+use Rattle.grammar.specs.Grammar.{TextCharacter, Comment, CData, WritesElement, WritesContents}
 use Rattle.grammar.specs.Look.{contentsOf, elements}
 use Rattle.grammar.specs.Read.{Read, fail, got}
-use Rattle.grammar.specs.Parser.{Look, at-close, at-comment, at-element, at-text, look, comment-at}
+use Rattle.grammar.specs.Parser.{Look, at-close, at-comment, at-data, at-element, at-text, look, comment-at, data-at}
 use Rattle.grammar.specs.Laws.Tokens.{comment-complete}
-use Rattle.grammar.specs.Laws.Complete.{opening-looks, comment-looks, element-long}
+use Rattle.grammar.specs.Laws.Data.{data-complete}
+use Rattle.grammar.specs.Laws.Complete.{opening-looks, comment-looks, data-looks, element-long}
 use Rattle.nodes.specs.Places.{element₁₆, Stands, the, stands-read, the-read, Tail, tail-more}
 use Rattle.nodes.specs.Scan.{to-tag, tag-from, tag-at, skip-at}
 use Rattle.nodes.specs.Laws.ScanEnds.{to-tag-free, text-free, tag-name, tag-blanks, tag-attributes}
-use Rattle.nodes.specs.Skip.{no-text-comment, no-text-element, tag-bare, tag-filled, skip-element}
+use Rattle.nodes.specs.Skip.{no-text-comment, no-text-data, no-text-element, tag-bare, tag-filled, skip-element}
 use Rattle.nodes.specs.Children.{kid-then, kid-by, kid-at, kid-step, kid-look, first-by, first, next, next-read, elements-joined}
 use Rattle.nodes.specs.declared.Kid.{Kid}
 use Rattle.nodes.specs.declared.Kid.the-variants.{Child, Done}
@@ -33,6 +34,10 @@ use Rattle.ways.specs.Walked.{placesWithin, placesFrom, nthPlace, childA
 over-comment : (n : ℕ) {w : List ℕ} → Comment w → (r : List ℕ) → kid-at n (w ++ r) ≡ kid-at n r
 unfolding kid-by kid-then
 over-comment n {w} k r = kid-look n (w ++ r) at-comment (comment-looks k r) (no-text-comment refl) ∙ rw (comment-complete k r)
+
+over-data : (n : ℕ) {b w : List ℕ} → CData b w → (r : List ℕ) → kid-at n (w ++ r) ≡ kid-at n r
+unfolding kid-by kid-then
+over-data n {b} {w} k r = kid-look n (w ++ r) at-data (data-looks k r) (no-text-data refl) ∙ rw (data-complete k r)
 
 over-text : (n : ℕ) {b w : List ℕ} → TextCharacter b w → (r : List ℕ) → kid-at n (w ++ r) ≡ kid-at n r
 over-text n {b} {w} k r = kid-step n (w ++ r) ∙ rw (to-tag-free (text-free k) r) (sym (kid-step n r))
@@ -120,6 +125,7 @@ module _ (text : List ℕ) (p : Element → Bool) where
     | Grammar.none ↦ record { finds = λ deep m r h t q y. none-finds m r h q y }
     | Grammar.remark {c = c} {w} k (t → ih) ↦ over c w refl (over-comment (length text) k) ih
     | Grammar.character {c = c} {b} {w} k p e (t → ih) ↦ over (merged b c) w (elements-joined b c) (over-text (length text) k) ih
+    | Grammar.marked {c = c} {b} {w} k (t → ih) ↦ over (merged b c) w (elements-joined b c) (over-data (length text) k) ih
     | Grammar.inner k (t → ih) ↦ inner-passes k ih
   ]
 

@@ -12,10 +12,11 @@ use Rattle.lists.specs.Laws.Booleans.{never-some}
 use Rattle.grammar.specs.Bytes.{_⊹_, ascii, begins, parted}
 use Rattle.grammar.specs.Document.{Element, element, Contents, nothing, child, run, merged}
 use Rattle.grammar.specs.Grammar
-use Rattle.grammar.specs.Grammar.{TextCharacter, Comment, WritesElement, WritesContents, Writes}
+use Rattle.grammar.specs.Grammar.{TextCharacter, Comment, CData, WritesElement, WritesContents, Writes}
 use Rattle.grammar.specs.Look.{contentsOf, withinOf, elements}
 use Rattle.grammar.specs.Parser.{parse}
-use Rattle.grammar.specs.Laws.Sound.{begins-less, parted-less, parse-sound}
+use Rattle.grammar.specs.Laws.Sound.{begins-less, parted-less}
+use Rattle.grammar.specs.Laws.SoundElements.{parse-sound}
 use Rattle.ways.specs.Way.{Step, step, nth, onward, reached, StartTag, start-tag, OnlyTag, only-tag, Leads, here, down, Tagged}
 use Rattle.ways.specs.Way.{between, nothing-between, Place, place}
 use Rattle.nodes.specs.Children.{elements-joined}
@@ -81,6 +82,23 @@ module _ (p : Element → Bool) where
         };
   }
 
+  data-splits : {d : ℕ} {c : Contents} {b w s : List ℕ} → CData b w → Split p d c s → Split p d (merged b c) (w ⊹ s)
+  data-splits {c = c} {b} {w} h ih = record {
+    splits = λ n x e.
+        let i = ih .splits n x (sym (ap (λ l. nth n (those p l)) (elements-joined b c)) ∙ e) in
+        record {
+          ahead = merged b (i .ahead);
+          front = w ++ i .front;
+          here = i .here;
+          behind = i .behind;
+          whole = ap (λ l. w ++ l) (i .whole) ∙ sym (append-assoc w (i .front) (i .here ++ i .behind));
+          writes-front = Grammar.marked h (i .writes-front);
+          so-many = ap (count p) (elements-joined b (i .ahead)) ∙ i .so-many;
+          passes = i .passes;
+          writes = i .writes;
+        };
+  }
+
   -- a child that is not the one
   past-splits : {d : ℕ} {e x : Element} {w s : List ℕ} (n m : ℕ) → WritesElement d e w → cond (p e) 1 0 + n ≡ m → Splits d p n x s
       → Splits d p m x (w ⊹ s)
@@ -128,6 +146,7 @@ module _ (p : Element → Bool) where
     | Grammar.none ↦ record { splits = λ n x e. no-child n x e _ }
     | Grammar.remark k (t → ih) ↦ remark-splits k ih
     | Grammar.character k p e (t → ih) ↦ character-splits k p e ih
+    | Grammar.marked k (t → ih) ↦ data-splits k ih
     | Grammar.inner k (t → ih) ↦ inner-splits k ih
   ]
 

@@ -4,14 +4,12 @@ use mathlib.Core.List.{List, _++_}
 use Prim.Native.Nat.{ℕ, _+_, _≤_}
 use native.Mathlib.Omega.{arith}
 use lib.ListN.{length, length-append}
-use Rattle.grammar.specs.Bytes.{Sequence}
 use Rattle.grammar.specs.Document.{Element}
-use Rattle.grammar.specs.Grammar.{WritesElement, Declaration, Aside}
-use Rattle.grammar.specs.Read.{got, bind, all-of-complete}
-use Rattle.grammar.specs.Laws.Complete.{Opening, element-read, declaration-complete, aside-item, opening-no-aside, opening-no-ask}
-use Rattle.grammar.specs.Laws.Complete.{asides-no-ask}
+use Rattle.grammar.specs.Grammar.{WritesElement, Declaration, Prologue}
+use Rattle.grammar.specs.Read.{got, bind}
+use Rattle.grammar.specs.Laws.Complete.{Opening, element-read, declaration-complete, prologue-complete, prologue-no-ask}
 use Rattle.grammar.specs.Unfuelled.{element-enough}
-use Rattle.steps.specs.Prologue.{asides-at, prologue-at}
+use Rattle.steps.specs.Prologue.{preamble-at}
 use Rattle.nodes.specs.Places.{element₁₆}
 use Rattle.nodes.specs.Laws.Depth.{element-deeper}
 
@@ -26,11 +24,7 @@ pub element-opens : {d : ℕ} {e : Element} {w : List ℕ} → WritesElement d e
 element-opens h = element-read h .opens
 
 -- before an element that begins with `w`
-pub before-reads : {p u w : List ℕ} {bs : List (List ℕ)} → Declaration p → Sequence Aside bs u → Opening w → (r : List ℕ)
-    → prologue-at (p ++ (u ++ (w ++ r))) ≡ got bs (w ++ r)
-unfolding prologue-at asides-at bind
-before-reads {p} {u} {w} h k o r =
-    rw (
-      declaration-complete h (u ++ (w ++ r)) (asides-no-ask k (w ++ r) (opening-no-ask o r)),
-      all-of-complete aside-item k (w ++ r) (opening-no-aside o r),
-    )
+pub before-reads : {p u w : List ℕ} → Declaration p → Prologue u → Opening w → (r : List ℕ)
+    → preamble-at (p ++ (u ++ (w ++ r))) ≡ got tt (w ++ r)
+unfolding preamble-at bind
+before-reads {p} {u} {w} h k o r = rw (declaration-complete h (u ++ (w ++ r)) (prologue-no-ask k o r), prologue-complete k o r)

@@ -5,4 +5,10 @@ use Rattle.contents.proofs.texts.text_at.Tie as tie
 pub text-at-spec : {M : Type 1} → statement M
 text-at-spec =
     tie.close
-    (tie.spec (λ c. search placing) (λ c. search placing) (λ c κs. search placing) (λ c. search placing) (λ c κs. search placing) (λ c. search placing))
+    (tie.spec
+    (λ c. search placing)
+    (λ c. search placing)
+    (λ c κs. search placing)
+    (λ c. search placing)
+    (λ c κs. search placing)
+    (λ c. search placing))

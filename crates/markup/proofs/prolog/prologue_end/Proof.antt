@@ -5,4 +5,10 @@ use Rattle.markup.proofs.prolog.prologue_end.Tie as tie
 pub prologue-end-spec : {M : Type 1} → statement M
 prologue-end-spec =
     tie.close
-    (tie.spec (λ c κs. search prologues) (λ c. search prologues) (λ c κs. search prologues) (λ c. search prologues) (λ c. search prologues) (λ c. search prologues))
+    (tie.spec
+    (λ c κs. search prologues)
+    (λ c. search prologues)
+    (λ c κs. search prologues)
+    (λ c. search prologues)
+    (λ c. search prologues)
+    (λ c. search prologues))
