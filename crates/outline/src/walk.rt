@@ -177,7 +177,7 @@ fn fewer(open: usize) -> usize {
     open
 }
 
-// Over a character or a comment.
+// Over a character, a comment or a mark of CDATA.
 fn over_text(out: &mut [u8], text: &[u8], s: State) -> State {
     match text_at(text, s.at) {
         Text::Letter(b, j) => {
@@ -197,12 +197,16 @@ fn put_run(out: &mut [u8], from: usize, run: bool) -> usize {
     put(out, from, b'#')
 }
 
-// Over what stands next.
+// Over what stands next. A place behind the end of the text is within CDATA.
 fn over(out: &mut [u8], text: &[u8], s: State) -> State {
+    if text.len() < s.at {
+        return over_text(out, text, s);
+    }
     match front_at(text, s.at) {
         Front::Start => over_start(out, text, s),
         Front::Close => over_end(out, text, s),
         Front::Comment => over_text(out, text, s),
+        Front::Data => over_text(out, text, s),
         Front::Text => over_text(out, text, s),
     }
 }
