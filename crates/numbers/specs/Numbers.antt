@@ -109,6 +109,13 @@ inKeys z = leZ (withSign minus 2147483648) z && leZ z (withSign plus 2147483647)
 unfoldable pub key : Word → Bool
 key w = digits 1 10 ((unsigned false w) .rest) && inKeys (keyValue w)
 
+-- Keys parted by blanks, and what they write.
+unfoldable pub keyList : Word → Bool
+keyList w = all key (words w)
+
+unfoldable pub listedKeys : Word → List ℤ
+listedKeys w = each keyValue (words w)
+
 unfoldable pub sameKey : ℤ → ℤ → Bool
 sameKey (pos m) (pos n) = eqb m n
 sameKey (pos m) (negsuc n) = false
@@ -227,7 +234,7 @@ sixteen w = let l = words w in all decimal l && lastRow (drop 12 l)
 
 unfoldable pub numbers : Unit {0}
 unfolding blank digit digits number value onFirst parts comma point filled words whole three volumeDimensions dimensionList commaValues
-    unsigned withSign exponent exponentValue keyValue inKeys key sameKey mark decimalParts mantissa places powerParts writtenPower power
-    inPower scaled scaledValue decimal decimalValue up down inValue isWhole noMore noLess equalTo atMost atLeast colour wholes values
-    lastRow sixteen
+    unsigned withSign exponent exponentValue keyValue inKeys key keyList listedKeys sameKey mark decimalParts mantissa places powerParts
+    writtenPower power inPower scaled scaledValue decimal decimalValue up down inValue isWhole noMore noLess equalTo atMost atLeast colour
+    wholes values lastRow sixteen
 numbers = tt

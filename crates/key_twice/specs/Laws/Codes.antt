@@ -5,21 +5,22 @@ use mathlib.Core.Bool.{Bool, true, false, _&&_, cond}
 use Prim.Native.Nat.{ℕ, zero, suc, _+_, _-_, _^_, _≤_, _<_}
 use native.Mathlib.Omega.{arith}
 use lib.Dec.{eqb, leb, T}
-use lib.Signed.{leZ, nonNeg}
+use lib.Signed.{nonNeg}
 use lib.IntN.{ℤ, pos, negsuc, natAbs, _+ℤ_}
 use mir.Syntax.{w32, w64}
 use mir.Val.{Fits, SFits, toZ, ofZ}
 use mir.ValLaws.{toZ-ofZ}
 use borrow.Author.Needs.{needs}
-use borrow.Author.Tests.{eqb-true, eqb-false, eq-eqb, ne-eqb, leb-true, le-ltb}
+use borrow.Author.Tests.{eqb-true, eqb-false, eq-eqb, ne-eqb, le-ltb}
 use Rattle.lists.specs.Lists.{twoOf, each}
 use Rattle.lists.specs.Laws.Lists.{two-same, two-each}
-use Rattle.lists.specs.Laws.Booleans.{and-left, and-right}
+use Rattle.lists.specs.Laws.Booleans.{and-right}
 use Rattle.grammar.specs.Bytes.{ascii}
 use Rattle.grammar.specs.Look.{Word}
 use Rattle.nodes.specs.Found.{value-at-name}
 use Rattle.numbers.specs.Numbers.{digits, withSign, plus, minus, unsigned, Signed, inKeys, key, keyValue, sameKey}
 use Rattle.numbers.specs.Answers.{keyIn}
+use Rattle.numbers.specs.Laws.Keys.{above-in, below-in}
 use Rattle.label_table.specs.Labels.{labels, orZero, keyHere, keysAt, twiceAt}
 use Rattle.key_twice.specs.Codes.{codeOf, codeHere, codesAt}
 
@@ -43,14 +44,6 @@ read-in w = go (key w) refl
 here-in : (text : List ℕ) (k : ℕ) → inKeys (keyHere text k) ≡ true
 unfolding keyHere
 here-in text k = read-in (value-at-name text k (ascii "Key"))
-
-above-in : (n : ℕ) → inKeys (pos n) ≡ true → n ≤ 2147483647
-unfolding inKeys withSign
-above-in n h = leb-true n 2147483647 (and-right (leZ (negsuc 2147483647) (pos n)) (leb n 2147483647) h)
-
-below-in : (n : ℕ) → inKeys (negsuc n) ≡ true → n ≤ 2147483647
-unfolding inKeys withSign
-below-in n h = leb-true n 2147483647 (and-left (leb n 2147483647) (leZ (negsuc n) (pos 2147483647)) h)
 
 small : (z : ℤ) → inKeys z ≡ true → codeOf z < 2 ^ 32
 unfolding codeOf

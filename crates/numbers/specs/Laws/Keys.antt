@@ -7,11 +7,12 @@ use native.Mathlib.Omega.{arith}
 use lib.Dec.{eqb, leb, leb·suc-suc}
 use lib.IntN.{ℤ, pos, negsuc}
 use lib.ListN.{length, getD}
+use lib.Signed.{leZ}
 use mir.Syntax.{w32}
 use mir.Val.{SFits}
 use borrow.Author.Needs.{needs}
 use borrow.Author.Tests.{eqb-true, eq-eqb, ne-eqb, le-leb, leb-true}
-use Rattle.lists.specs.Laws.Booleans.{and-right}
+use Rattle.lists.specs.Laws.Booleans.{and-left, and-right}
 use Rattle.grammar.specs.Bytes.{between}
 use Rattle.grammar.specs.Look.{Word}
 use Rattle.lists.specs.Lists.{all}
@@ -47,6 +48,15 @@ key-same-self (negsuc m) = eq-eqb m m refl
 
 pub key-same : {a b : ℤ} → a ≡ b → sameKey a b ≡ true
 key-same {a} {b} e = ap (λ z. sameKey a z) (sym e) ∙ key-same-self a
+
+-- IN THE RANGE
+pub above-in : (n : ℕ) → inKeys (pos n) ≡ true → n ≤ 2147483647
+unfolding inKeys withSign
+above-in n h = leb-true n 2147483647 (and-right (leZ (negsuc 2147483647) (pos n)) (leb n 2147483647) h)
+
+pub below-in : (n : ℕ) → inKeys (negsuc n) ≡ true → n ≤ 2147483647
+unfolding inKeys withSign
+below-in n h = leb-true n 2147483647 (and-left (leb n 2147483647) (leZ (negsuc n) (pos 2147483647)) h)
 
 -- THE DIGITS: a number up to the limit of its sign
 within : (s : Sign) (n : ℕ) → inKeys (withSign s n) ≡ between 0 (keyLimit s) n

@@ -12,7 +12,7 @@ use Rattle.numbers.specs.Numbers.{numbers, digit, digits, number, value,
 use Rattle.numbers.specs.Numbers.{volumeDimensions, dimensionList, commaValues, unsigned, withSign, exponent, exponentValue}
 use Rattle.numbers.specs.Numbers.{mark, decimalParts, mantissa, places, powerParts, writtenPower, power, inPower, scaled, scaledValue}
 use Rattle.numbers.specs.Numbers.{decimal, decimalValue, up, down, inValue, isWhole, noMore, equalTo, atMost, wholes, values, lastRow}
-use Rattle.numbers.specs.Numbers.{sixteen, keyValue, inKeys, key, sameKey, noLess, atLeast, colour}
+use Rattle.numbers.specs.Numbers.{sixteen, keyValue, inKeys, key, keyList, listedKeys, sameKey, noLess, atLeast, colour}
 
 -- every text of the list passes, or none does
 abbrev Every : (Word → Bool) → List String → Type 0
@@ -151,6 +151,15 @@ lists-in-text : (values (ascii " 4 1\n5 ") ≡ 4 ∷ 1 ∷ 5 ∷ [])
     × ((values (ascii "  ") ≡ []) × ((wholes 1048575 (ascii "0 1048575") ≡ true) × (wholes 1048575 (ascii "0 1048576") ≡ false)))
 unfolding numbers lists
 lists-in-text = (refl, (refl, (refl, refl)))
+
+keys-in-text : (listedKeys (ascii " 4 -1\n05 -0 ") ≡ pos 4 ∷ negsuc 0 ∷ pos 5 ∷ pos 0 ∷ [])
+    × ((listedKeys (ascii "  ") ≡ []) × (keyList (ascii "-2147483648 2147483647\t0") ≡ true))
+unfolding numbers lists
+keys-in-text = (refl, (refl, refl))
+
+key-lists-no : None keyList ("2147483648" ∷ "1 -2147483649" ∷ "1,2" ∷ "+1" ∷ "1 - 1" ∷ "00000000001" ∷ "1.0" ∷ "--1" ∷ [])
+unfolding numbers lists
+key-lists-no = refl
 
 sixteens-yes : Every sixteen ("1 0 0 0 0 1 0 0 0 0 1 0 0 0 0 1" ∷ " 1 0 0 0 0 1 0 0 0 0 1 0 0.0 -0 +0 1.00\n"
     ∷ "1E1 0 0 0 0 1 0 0 0 0 1 0 0E-45 -0.0E46 0 10E-1" ∷ [])
