@@ -91,7 +91,7 @@ key-erased : (e : Element) → keyOf (plain e) ≡ keyOf e
 unfolding keyOf
 key-erased e = rw (attr-erased "Key" e) refl
 
-keys-erased : (e : Element) → tableKeys (plain e) ≡ tableKeys e
+pub keys-erased : (e : Element) → tableKeys (plain e) ≡ tableKeys e
 unfolding tableKeys labelsOf
 keys-erased e = ap (each keyOf) (children-erased "Label" e) ∙ each-each plain keyOf (children "Label" e)
     ∙ each-same key-erased (children "Label" e)
@@ -149,7 +149,7 @@ of-maps : (p : List Map → Bool) (e : Element) → ofMaps p (some (plain e)) �
 unfolding ofMaps there
 of-maps p e = ap p (maps-erased e)
 
-small : (n : ℕ) → n ≤ 16777216 → textTooLong n ≡ false
+pub small : (n : ℕ) → n ≤ 16777216 → textTooLong n ≡ false
 unfolding textTooLong
 small n h = le-ltb 16777216 n h
 

@@ -1,0 +1,4 @@
+pub mod Arrays
+pub mod Located
+pub mod Unseen
+pub mod Keys

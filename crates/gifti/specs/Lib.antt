@@ -1,0 +1,7 @@
+pub mod Rows
+pub mod Arrays
+pub mod Conditions
+pub mod Keys
+pub mod Located
+pub mod Laws
+pub mod Tests

@@ -1,0 +1,1 @@
+// The rules of GIFTI label files, above those of CIFTI: rows, conditions, the promise of keys. Definitions and laws; no functions.
