@@ -3,13 +3,12 @@
 use mathlib.Core.List.{List, [], _∷_, _++_}
 use Prim.Native.Nat.{ℕ}
 use Prim.Native.String.{String}
-use Rattle.lists.specs.Lists.{each}
 use Rattle.numbers.specs.Numbers.{whole, keyList}
 use Rattle.base64.specs.Base64.{coded}
 use Rattle.schema.specs.Schema.{anyValue, word, number, AttributeRow, required, optional, anyText, numbers, once, atMostOnce}
 use Rattle.schema.specs.Schema.{atLeastOnce, Case, _⇒_, always, chosen, chosenElse, child, anyOrder, inOrder, Row, branch, leaf}
 use Rattle.schema.specs.Laws.Renamed.{rowNamed}
-use Rattle.cifti.specs.Rows.{ElementKind, metaData, labelTable, elementKinds, elementNumber, rows}
+use Rattle.cifti.specs.Rows.{ElementKind, metaData, labelTable, elementNumber, rows}
 
 -- CIFTI's kinds, and behind them GIFTI's: an array and its Data are of a kind for each encoding
 pub data GiftiKind : Type 0 where
@@ -18,12 +17,7 @@ pub data GiftiKind : Type 0 where
   plainArray codedArray otherArray : GiftiKind
   plainData codedData otherData : GiftiKind
 
--- all of them, each at its number
-unfoldable pub giftiKinds : List GiftiKind
-giftiKinds =
-    each ofCifti elementKinds
-    ++ (gifti ∷ plainArray ∷ codedArray ∷ otherArray ∷ plainData ∷ codedData ∷ otherData ∷ [])
-
+-- their numbers
 unfoldable pub giftiNumber : GiftiKind → ℕ
 giftiNumber (ofCifti k) = elementNumber k
 giftiNumber gifti = 19
@@ -45,8 +39,8 @@ unfoldable pub endians : List String
 endians = "BigEndian" ∷ "LittleEndian" ∷ []
 
 -- Encoding, Intent and DataType may be any value here: of another word 29 says it. Encoding chooses the row, too.
-unfoldable pub arrayAttributes : (endian : AttributeRow) → List AttributeRow
-arrayAttributes endian =
+unfoldable pub arrayAttributes : List AttributeRow
+arrayAttributes =
     required "ArrayIndexingOrder" (word indexingOrders)
     ∷ required "DataType" anyValue
     ∷ required "Intent" anyValue
@@ -55,12 +49,11 @@ arrayAttributes endian =
     ∷ required "Dim0" (number (whole 1 1048576))
     ∷ optional "ExternalFileName" anyValue
     ∷ optional "ExternalFileOffset" anyValue
-    ∷ endian
     ∷ []
 
 -- an array and the kind of its Data: 02 puts the root's children in order, and no others
-unfoldable pub arrayRow : (endian : AttributeRow) → (holds : GiftiKind) → Row GiftiKind
-arrayRow endian holds = branch (arrayAttributes endian) anyOrder
+unfoldable pub arrayRow : List AttributeRow → (holds : GiftiKind) → Row GiftiKind
+arrayRow attributes holds = branch attributes anyOrder
     (child "MetaData" atMostOnce (always (ofCifti metaData)) ∷ child "Data" once (always holds) ∷ [])
 
 unfoldable pub giftiRows : GiftiKind → Row GiftiKind
@@ -73,9 +66,9 @@ giftiRows gifti = branch
     ∷ child "DataArray" atLeastOnce (chosenElse "Encoding" encodings otherArray)
     ∷ [])
 -- bytes have an order, so that Base64Binary needs Endian
-giftiRows plainArray = arrayRow (optional "Endian" (word endians)) plainData
-giftiRows codedArray = arrayRow (required "Endian" (word endians)) codedData
-giftiRows otherArray = arrayRow (optional "Endian" (word endians)) otherData
+giftiRows plainArray = arrayRow (arrayAttributes ++ (optional "Endian" (word endians) ∷ [])) plainData
+giftiRows codedArray = arrayRow (required "Endian" (word endians) ∷ arrayAttributes) codedData
+giftiRows otherArray = arrayRow (arrayAttributes ++ (optional "Endian" (word endians) ∷ [])) otherData
 giftiRows plainData = leaf [] (numbers keyList)
 giftiRows codedData = leaf [] (numbers coded)
 giftiRows otherData = leaf [] anyText

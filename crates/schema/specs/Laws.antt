@@ -1,2 +1,3 @@
 pub mod Erased
 pub mod Renamed
+pub mod Good

@@ -4,7 +4,7 @@ use mathlib.Core.List.{List, [], _∷_}
 use mathlib.Core.Option.{Option, some}
 use mathlib.Core.Option
 use mathlib.Core.Bool.{Bool, true, false, cond, _&&_, _||_}
-use Prim.Native.Nat.{ℕ, _+_}
+use Prim.Native.Nat.{ℕ}
 use Prim.Native.String.{String}
 use native.Mathlib.Omega.{arith}
 use lib.Dec.{ltb}
@@ -16,6 +16,7 @@ use Rattle.grammar.specs.Document.{Element}
 use Rattle.grammar.specs.Look.{is, nameOf, contentsOf, elements, children}
 use Rattle.grammar.specs.Parser.{same}
 use Rattle.schema.specs.Schema.{ChildRow, child, once, anyTimes, always, kindOf, kindBy, childShaped, standsSo}
+use Rattle.schema.specs.Laws.Good.{count-those, single}
 use Rattle.cifti.specs.Rows.{ElementKind, rows, words, scalars, namedMap, labels, labelledMap, mapAttributes}
 use Rattle.cifti.specs.Maps.{mapOf, kindOfMap, isScalars, isLabels, hasNames, same-kind, kindWords, caseKind, allKinds, rowFor}
 use Rattle.cifti.specs.Maps.{countedName}
@@ -44,25 +45,11 @@ labels-named : OneRow "MapName" labelledMap
 unfolding rows all
 labels-named = record { met = λ g. and-left _ _ (row-met g _ _ _ refl) }
 
-count-those : (p : Element → Bool) (l : List Element) → count p l ≡ length (those p l)
-unfolding count those
-count-those p [] = refl
-count-those p (e ∷ l) = go (p e) (count-those p l)
-  where
-    go : (b : Bool) → count p l ≡ length (those p l) → cond b 1 0 + count p l ≡ length (cond b (e ∷ those p l) (those p l))
-    go true h = omega arith
-    go false h = omega arith
-
 one-child : (s : String) {k : ElementKind} → OneRow s k → {e : Element} → Good k e → length (children s e) ≡ 1
 unfolding childShaped standsSo children
 one-child s n {e} g =
     let h = eqb-true (count (λ d. is s (nameOf d)) (elements (contentsOf e))) 1 (n .met g) in
     sym (count-those (λ d. is s (nameOf d)) (elements (contentsOf e))) ∙ h
-
-single : {A : Type 0} (l : List A) → length l ≡ 1 → (x : A) × (l ≡ x ∷ [])
-single [] h = absurd (omega arith)
-single (a ∷ []) h = (a, refl)
-single (a ∷ b ∷ l) h = absurd (omega arith)
 
 -- a map whose children are NamedMaps of one kind
 abbrev pub namedOf : ElementKind → List (ChildRow ElementKind)

@@ -18,7 +18,6 @@ use Rattle.grammar.specs.Document.{Attribute, attribute, Element, Contents}
 use Rattle.grammar.specs.Look.{Word, is, nameOf, attributesOf, contentsOf, valueIn, orEmpty, attr, has, elements, characters, children}
 use Rattle.grammar.specs.Look.{textOf}
 use Rattle.grammar.specs.Parser.{same}
-use Rattle.grammar.specs.Laws.Tokens.{same-equal}
 use Rattle.grammar.specs.Laws.Facts.{and-left, and-right}
 use Rattle.numbers.specs.Numbers.{whole, volumeDimensions, dimensionList, exponent, decimal, wholes, sixteen}
 use Rattle.schema.specs.Schema.{Form, anyValue, word, number, AttributeRow, required, optional, TextForm, numbers, ChildRow, child, Which}
@@ -31,17 +30,8 @@ use Rattle.cifti.specs.Rows.{ElementKind, cifti, matrix, metaData, md, brainMod
 use Rattle.cifti.specs.Rows.{surface, voxels, vertexIndices, voxelIndices, mapKinds, modelTypes, mapAttributes, seriesAttributes}
 use Rattle.cifti.specs.Rows.{modelAttributes, rows}
 use Rattle.maps.specs.Laws.Good.{Good, GoodAs, good-as, AllGood, none-left, one-good, shape-here, number-here, good-children}
-use Rattle.maps.specs.Laws.Good.{row-met, attributes-shape, attributes-number, required-number, required-word}
-
--- ---- Words.
-
-pub is-word : (s : String) (w : Word) → is s w ≡ true → w ≡ ascii s
-unfolding is
-is-word s w h = same-equal w (ascii s) h
-
--- a word is not two
-pub not-both : (s t : String) (w : Word) → is s w ≡ true → is t (ascii s) ≡ false → is t w ≡ false
-not-both s t w h n = rw (is-word s w h) n
+use Rattle.maps.specs.Laws.Good.{row-met}
+pub use Rattle.schema.specs.Laws.Good.{no-row, in-form, in-words, is-word, not-both}
 
 -- ---- The children's rows.
 
@@ -134,26 +124,7 @@ good-volume e (good-as {k} q g) n =
     let z : k ≡ volume = cc in
     subst (λ (j : ElementKind). Good j e) z g
 
--- ---- Numbers in form. A row's attributes by place: `attribute-fact g .. i` is what is known of the i-th.
-
-abbrev pub no-row : AttributeRow
-no-row = optional "" anyValue
-
-module _ {k : ElementKind} {e : Element} (g : Good k e) (a : List AttributeRow) (o : Order) (r : List (ChildRow ElementKind))
-    (is-branch : rows k ≡ branch a o r) (i : ℕ) (here : i < length a) where
-  shape-at : attributeShaped (attributesOf e) (getD a i no-row) ≡ true
-  shape-at = all-iff no-row (attributeShaped (attributesOf e)) a .0 (attributes-shape g a o r is-branch) i here
-
-  number-at : attributeNumbered (attributesOf e) (getD a i no-row) ≡ true
-  number-at = all-iff no-row (attributeNumbered (attributesOf e)) a .0 (attributes-number g a o r is-branch) i here
-
-  pub in-form : (s : String) (p : Word → Bool) → getD a i no-row ≡ required s (number p) → p (attr s e) ≡ true
-  unfolding attr
-  in-form s p q = required-number (attributesOf e) s p (rw q at shape-at) (rw q at number-at)
-
-  pub in-words : (s : String) (ws : List String) → getD a i no-row ≡ required s (word ws) → any (λ x. is x (attr s e)) ws ≡ true
-  unfolding attr
-  in-words s ws q = required-word (attributesOf e) s ws (rw q at shape-at)
+-- ---- Numbers in form.
 
 abbrev surfaceAttributes : List AttributeRow
 surfaceAttributes = modelAttributes ++ (required "SurfaceNumberOfVertices" (number (whole 1 1048576)) ∷ [])

@@ -6,7 +6,7 @@ use mathlib.Core.Option
 use mathlib.Core.Bool.{Bool, _&&_, cond, true, false}
 use Prim.Native.Nat.{ℕ, suc}
 use Rattle.lists.specs.Lists.{all, each, isSome, ifThere}
-use Rattle.lists.specs.Laws.Lists.{all-same, all-each}
+use Rattle.lists.specs.Laws.Lists.{all-same, all-each, each-each, each-same}
 use Rattle.grammar.specs.Document.{Attribute, Element, element, Contents, nothing, child as inside, run}
 use Rattle.grammar.specs.Look.{Word, is, nameOf, attributesOf, valueIn, elements, characters}
 use Rattle.schema.specs.Schema.{Case, _⇒_, Which, always, chosen, chosenElse, ChildRow, child, Order, anyOrder, inOrder, Row}
@@ -137,6 +137,30 @@ module _ {J K : Type 0} (f : J → K) where
       walk-in nothing r = refl
       walk-in (run w c) r = walk-in c r
       walk-in (inside e c) r = rw (kind-named r e) (ap₂ (λ a b. a && b) (if-named e (λ j. walk-named e j) (kindOf r e)) (walk-in c r))
+
+-- NAMES OF NAMES: a row named anew twice is named anew once.
+module _ {I J K : Type 0} (f : I → J) (g : J → K) where
+  case-twice : (c : Case I) → caseNamed g (caseNamed f c) ≡ caseNamed (λ i. g (f i)) c
+  unfolding caseNamed
+  case-twice (s ⇒ k) = refl
+
+  cases-twice : (l : List (Case I)) → each (caseNamed g) (each (caseNamed f) l) ≡ each (caseNamed (λ i. g (f i))) l
+  cases-twice l = each-each (caseNamed f) (caseNamed g) l ∙ each-same case-twice l
+
+  which-twice : (w : Which I) → whichNamed g (whichNamed f w) ≡ whichNamed (λ i. g (f i)) w
+  unfolding whichNamed
+  which-twice (always k) = refl
+  which-twice (chosen a l) = ap (chosen a) (cases-twice l)
+  which-twice (chosenElse a l k) = ap (λ c. chosenElse a c (g (f k))) (cases-twice l)
+
+  child-twice : (r : ChildRow I) → childNamed g (childNamed f r) ≡ childNamed (λ i. g (f i)) r
+  unfolding childNamed
+  child-twice (child s t w) = ap (child s t) (which-twice w)
+
+  pub named-twice : (r : Row I) → rowNamed g (rowNamed f r) ≡ rowNamed (λ i. g (f i)) r
+  unfolding rowNamed
+  named-twice (branch a o r) = ap (branch a o) (each-each (childNamed f) (childNamed g) r ∙ each-same child-twice r)
+  named-twice (leaf a t) = refl
 
 unfoldable pub renaming : Unit {0}
 unfolding caseNamed whichNamed childNamed rowNamed
