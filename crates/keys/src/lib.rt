@@ -19,7 +19,7 @@ ghost use Rattle.numbers.specs.Answers.{keyIn, keyFrom, keyLimit, signIf};
 ghost use Rattle.numbers.specs.Stream.{stream};
 
 // The greatest number behind a sign.
-fn key_limit(negative: bool) -> u64
+pub fn key_limit(negative: bool) -> u64
     ensures { λ r. ⌜ r ≡ keyLimit (signIf negative) ⌝ }
 {
     if negative {

@@ -28,6 +28,26 @@ wide-fits plus n h = record { sfits = omega arith }
 wide-fits minus zero h = record { sfits = omega arith }
 wide-fits minus (suc n) h = record { sfits = omega arith }
 
+-- a number up to the limit, with its sign, as a key
+module _ (t : Bool) {n : ℕ} (size : n ≤ keyLimit (signIf t)) where
+  pub signed-small : n < 10 ^ 15
+  unfolding keyLimit signIf
+  signed-small = go t size
+    where
+      go : (s : Bool) → n ≤ keyLimit (signIf s) → n < 10 ^ 15
+      go true h = omega arith
+      go false h = omega arith
+
+  module _ {v : ℤ} (q : v ≡ withSign (signIf t) n) where
+    back : toZ w64 (ofZ w64 v) ≡ v
+    back = toZ-ofZ w64 v (rw q (wide-fits (signIf t) n size))
+
+    pub signed-fits : SFits w32 (toZ w64 (ofZ w64 v))
+    signed-fits = rw (back, q) (key-fits (signIf t) n size)
+
+    pub signed-back : toZ w32 (ofZ w32 (toZ w64 (ofZ w64 v))) ≡ v
+    signed-back = toZ-ofZ w32 (toZ w64 (ofZ w64 v)) signed-fits ∙ back
+
 module _ {source : Source} {text : List ℕ} {at : ℕ} (t : Bool) {h : ℕ} (l : h ≡ keyLimit (signIf t)) {r : Part}
     (p : Parted source text 10 0 h at r) where
   limited : Parted source text 10 0 (keyLimit (signIf t)) at r
@@ -46,14 +66,11 @@ module _ {source : Source} {text : List ℕ} {at : ℕ} (t : Bool) {h : ℕ} (l 
     size : n ≤ keyLimit (signIf t)
     size = key-size (signIf t) limited e
 
-    back : toZ w64 (ofZ w64 v) ≡ v
-    back = toZ-ofZ w64 v (rw q (wide-fits (signIf t) n size))
-
     pub from-fits : SFits w32 (toZ w64 (ofZ w64 v))
-    from-fits = rw (back, q) (key-fits (signIf t) n size)
+    from-fits = signed-fits t size q
 
     pub from-is : keys.Is (toZ w32 (ofZ w32 (toZ w64 (ofZ w64 v)))) ≡ keyFrom (signIf t) (stream source text at)
-    from-is = ap keys.Is (toZ-ofZ w32 (toZ w64 (ofZ w64 v)) from-fits ∙ back) ∙ key-is (signIf t) limited e q
+    from-is = ap keys.Is (signed-back t size q) ∙ key-is (signIf t) limited e q
 
 pub ruleset key-digits = (from-small, from-comma, from-no, from-fits, from-is, needs)
 

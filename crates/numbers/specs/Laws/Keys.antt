@@ -59,7 +59,7 @@ unfolding inKeys withSign
 below-in n h = leb-true n 2147483647 (and-left (leb n 2147483647) (leZ (negsuc n) (pos 2147483647)) h)
 
 -- THE DIGITS: a number up to the limit of its sign
-within : (s : Sign) (n : ℕ) → inKeys (withSign s n) ≡ between 0 (keyLimit s) n
+pub within : (s : Sign) (n : ℕ) → inKeys (withSign s n) ≡ between 0 (keyLimit s) n
 unfolding inKeys withSign keyLimit
 within plus n = rw (le-leb 0 n (omega arith)) refl
 within minus zero = refl

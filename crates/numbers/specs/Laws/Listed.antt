@@ -155,6 +155,16 @@ unfolding wordEnds
 word-ahead a u [] h e = ap words (append-nil (a ∷ u)) ∙ words-end h ∙ ap (λ l. (a ∷ u) ∷ l) (sym words-none)
 word-ahead a u (b ∷ w) h e = words-cut b w h e ∙ ap (λ l. (a ∷ u) ∷ l) (sym (words-blank b w e))
 
+-- the first word of what begins with uncut bytes and goes on with another
+pub begun : (u x : Word) (b : ℕ) → Uncut blank u → blank b ≡ false → (t : Word) × (l : List Word)
+    × (words (u ++ (b ∷ x)) ≡ (u ++ (b ∷ t)) ∷ l)
+begun [] x b h k = let f = first-word x (more k none) in (f .tail, f .others, f .are)
+begun (a ∷ u) x b h k =
+    let f = first-word x (uncut-snoc b h k) in
+    let e₁ : (a ∷ u) ++ (b ∷ x) ≡ ((a ∷ u) ++ (b ∷ [])) ++ x = rw append-assoc refl in
+    let e₂ : ((a ∷ u) ++ (b ∷ [])) ++ f .tail ≡ (a ∷ u) ++ (b ∷ f .tail) = rw append-assoc refl in
+    (f .tail, f .others, ap words e₁ ∙ f .are ∙ ap (λ v. v ∷ f .others) e₂)
+
 module _ (text : List ℕ) (i : ℕ) {run : Run} (er : run ≡ digitsAt Contents text 7 0 0 i) where
   ran : Ran Contents text 7 0 0 i run
   ran = rw er (digits-law Contents text 7 0 0 i)
@@ -185,15 +195,6 @@ module _ (text : List ℕ) (i : ℕ) {run : Run} (er : run ≡ digitsAt Contents
           ∙ rw (v, p) refl
 
   -- A WORD THAT IS NO NUMBER
-  begun : (u x : Word) (b : ℕ) → Uncut blank u → blank b ≡ false → (t : Word) × (l : List Word)
-      × (words (u ++ (b ∷ x)) ≡ (u ++ (b ∷ t)) ∷ l)
-  begun [] x b h k = let f = first-word x (more k none) in (f .tail, f .others, f .are)
-  begun (a ∷ u) x b h k =
-      let f = first-word x (uncut-snoc b h k) in
-      let e₁ : (a ∷ u) ++ (b ∷ x) ≡ ((a ∷ u) ++ (b ∷ [])) ++ x = rw append-assoc refl in
-      let e₂ : ((a ∷ u) ++ (b ∷ [])) ++ f .tail ≡ (a ∷ u) ++ (b ∷ f .tail) = rw append-assoc refl in
-      (f .tail, f .others, ap words e₁ ∙ f .are ∙ ap (λ v. v ∷ f .others) e₂)
-
   pub next-bad : {b : ℕ} {x : Word} → stream Contents text (run .next) ≡ b ∷ x → blank b ≡ false → nextNumber text i ≡ Bad
   unfolding nextOf
   next-bad {b} {x} e k =

@@ -1,0 +1,17 @@
+use Rattle.key_lists.specs.Laws.KeyLists.{key-digits}
+use Rattle.key_lists.proofs.key_from.Statement.{statement}
+use Rattle.key_lists.proofs.key_from.Tie as tie
+
+pub key-from-spec : {M : Type 1} → statement M
+key-from-spec =
+    tie.close
+    (tie.spec
+    (λ c κs. search key-digits)
+    (λ c. search key-digits)
+    (λ c κs. search key-digits)
+    (λ c. search key-digits)
+    (λ c κs. search key-digits)
+    (λ c. search key-digits)
+    (λ c κs. search key-digits)
+    (λ c. search key-digits)
+    (λ c. search key-digits))
