@@ -1,0 +1,26 @@
+use Rattle.base64_reader.specs.Laws.Texts.{Coding, coding}
+use Rattle.nodes.specs.Texts.{left}
+use Rattle.base64_reader.proofs.coded_from.Statement.{statement}
+use Rattle.base64_reader.proofs.coded_from.Tie as tie
+
+abbrev Inv-loop : tie.InvT-loop
+Inv-loop text at i₀ i = Coding text at i
+
+abbrev μ-loop : tie.MeasureT-loop
+μ-loop text at i₀ i = left text i
+
+pub coded-from-spec : {M : Type 1} → statement M
+coded-from-spec =
+    tie.close
+    (tie.spec
+    Inv-loop
+    μ-loop
+    (λ c. search coding)
+    (λ c κs. search coding)
+    (λ c. search coding)
+    (λ c. search coding)
+    (λ c. search coding)
+    (λ c. search coding)
+    (λ c. search coding)
+    (λ c. search coding)
+    (λ c. search coding))

@@ -1,0 +1,98 @@
+// The bytes of the next four letters.
+use super::Group;
+use super::values::next_letter;
+use super::values::value_of;
+use nodes::Char;
+ghost use mathlib.Core.Path.{_≡_};
+ghost use mathlib.Core.List.{[]};
+ghost use Prim.Native.Nat.{suc, _<_, _≤_};
+ghost use Rattle.nodes.specs.Texts.{saysAt, left};
+ghost use Rattle.base64.specs.Base64.{unblanked, oneByte, twoBytes, ending};
+ghost use Rattle.base64_reader.specs.Groups.{LastTold, FourTold, GroupTold};
+
+// One byte in 24 bits, the others being 0.
+fn one_byte(bits: u64, at: usize) -> Group
+    requires { ⌜ bits < 16777216 ⌝ }
+    ensures { λ r. ⌜ LastTold (oneByte bits) at r ⌝ }
+{
+    if bits % 65536 != 0 {
+        return Group::Bad;
+    }
+    Group::Bytes(bits / 65536, 1, at)
+}
+
+// Two bytes in 24 bits, the others being 0.
+fn two_bytes(bits: u64, at: usize) -> Group
+    requires { ⌜ bits < 16777216 ⌝ }
+    ensures { λ r. ⌜ LastTold (twoBytes bits) at r ⌝ }
+{
+    if bits % 256 != 0 {
+        return Group::Bad;
+    }
+    Group::Bytes(bits / 256, 2, at)
+}
+
+// Three letters before the last `=`, with nothing behind it.
+fn last_of(p: u64, q: u64, r: u64, at: usize) -> Group
+    ensures { λ g. ⌜ LastTold (ending p q r []) at g ⌝ }
+{
+    if 64 <= p {
+        return Group::Bad;
+    }
+    if 64 <= q {
+        return Group::Bad;
+    }
+    if r == 65 {
+        return one_byte(p * 262144 + q * 4096, at);
+    }
+    if 64 <= r {
+        return Group::Bad;
+    }
+    two_bytes(p * 262144 + q * 4096 + r * 64, at)
+}
+
+// Four letters by their values, `at` behind them.
+fn group_of(text: &[u8], p: u64, q: u64, r: u64, s: u64, at: usize) -> Group
+    ensures { λ g. ⌜ FourTold (now (text .entry)) p q r s at g ⌝ }
+{
+    if s == 65 {
+        match next_letter(text, at) {
+            Char::Byte(_, _) => {
+                return Group::Bad;
+            }
+            Char::End => {
+                return last_of(p, q, r, at);
+            }
+        }
+    }
+    if (64 <= p) | ((64 <= q) | ((64 <= r) | (64 <= s))) {
+        return Group::Bad;
+    }
+    Group::Bytes(p * 262144 + q * 4096 + r * 64 + s, 3, at)
+}
+
+// The next four letters, whatever stands between them.
+pub fn group_at(text: &[u8], at: usize) -> Group
+    ensures { λ g. ⌜ GroupTold (now (text .entry)) at g ⌝ }
+{
+    match next_letter(text, at) {
+        Char::Byte(a, i) => match next_letter(text, i) {
+            Char::Byte(b, j) => match next_letter(text, j) {
+                Char::Byte(c, k) => match next_letter(text, k) {
+                    Char::Byte(d, l) => group_of(
+                        text,
+                        value_of(a),
+                        value_of(b),
+                        value_of(c),
+                        value_of(d),
+                        l,
+                    ),
+                    Char::End => Group::Bad,
+                },
+                Char::End => Group::Bad,
+            },
+            Char::End => Group::Bad,
+        },
+        Char::End => Group::End,
+    }
+}
