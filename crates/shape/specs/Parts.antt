@@ -11,7 +11,8 @@ use Rattle.grammar.specs.Look.{Word, is, attributesOf, contentsOf, elements, te
 use Rattle.schema.specs.Schema.{AttributeRow, rowName, isNamed, isWord, isNumber, attributeShaped, attributeNumbered, isText, childShaped}
 use Rattle.schema.specs.Schema.{orderly, kindOf, shaped, numbered}
 use Rattle.numbers.specs.Numbers as numbers
-use Rattle.numbers.specs.Numbers.{whole, volumeDimensions, dimensionList, exponent, decimal, colour}
+use Rattle.numbers.specs.Numbers.{whole, volumeDimensions, dimensionList, exponent, decimal, keyList, colour}
+use Rattle.base64.specs.Base64.{coded}
 use Rattle.nodes.specs.Attributes.{Key, key}
 use Rattle.schema.specs.Walk.{atChild}
 use Rattle.shape.specs.Table.{rowsOf, textAt, orderAt, orderBy, textFormAt, formAt, attributeAt, attributesOfKind, linesOfKind}
@@ -43,6 +44,10 @@ numberBy f a b c w =
     (cond (eqb f 5) (exponent a w)
     (cond (eqb f 6) (volumeDimensions a b c w)
     (labelBy f w)))))
+
+-- texts that list keys, by a form: as numbers, or as Base64
+unfoldable pub keysBy : (form : ℕ) → Word → Bool
+keysBy f w = cond (eqb f 3) (keyList w) (cond (eqb f 4) (coded w) true)
 
 -- the fault of the attributes in the rows
 unfoldable pub attributesFault : List AttributeRow → List Attribute → ℕ

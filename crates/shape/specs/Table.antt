@@ -6,7 +6,8 @@ use Prim.Native.String.{String}
 use lib.Dec.{eqb, leb}
 use lib.ListN.{getD, length, take, drop}
 use Rattle.lists.specs.Lists.{countUp}
-use Rattle.numbers.specs.Numbers.{whole, volumeDimensions, dimensionList, exponent, decimal, wholes, sixteen, key, colour}
+use Rattle.numbers.specs.Numbers.{whole, volumeDimensions, dimensionList, exponent, decimal, wholes, sixteen, key, keyList, colour}
+use Rattle.base64.specs.Base64.{coded}
 use Rattle.schema.specs.Schema.{Form, anyValue, word, number, AttributeRow, required, optional, TextForm, anyText, numbers, Times, once}
 use Rattle.schema.specs.Schema.{atMostOnce, anyTimes, atLeastOnce, neededBelow, Case, _⇒_, Which, always, chosen, chosenElse, ChildRow}
 use Rattle.schema.specs.Schema.{child, Order, anyOrder, inOrder, Row, branch, leaf}
@@ -94,7 +95,12 @@ entryWord t l p n i = wordAt t l (entry t p n i 0)
 
 -- TEXTS
 unfoldable pub textFormBy : (form most : ℕ) → TextForm
-textFormBy f a = cond (eqb f 1) (numbers sixteen) (cond (eqb f 2) (numbers (wholes a)) anyText)
+textFormBy f a =
+    cond (eqb f 1) (numbers sixteen)
+    (cond (eqb f 2) (numbers (wholes a))
+    (cond (eqb f 3) (numbers keyList)
+    (cond (eqb f 4) (numbers coded)
+    anyText)))
 
 unfoldable pub textFormAt : List ℕ → ℕ → TextForm
 textFormAt t f = textFormBy (formCell t f 0) (formCell t f 1)

@@ -3,8 +3,22 @@ use lookup::table;
 ghost use mathlib.Core.Path.{_≡_};
 ghost use Rattle.grammar.specs.Look.{textOf};
 ghost use Rattle.nodes.specs.Places.{the};
-ghost use Rattle.shape.specs.Parts.{textNumbered, textFault};
+ghost use Rattle.nodes.specs.Texts.{text-of};
+ghost use Rattle.shape.specs.Parts.{keysBy, textNumbered, textFault};
 ghost use Rattle.shape.specs.Asked.{Known};
+
+// The text lists keys of a form: as numbers, or as Base64.
+fn keys_by(text: &[u8], at: usize, form: usize) -> bool
+    ensures { λ r. ⌜ r ≡ keysBy form (text-of (now (text .entry)) at) ⌝ }
+{
+    if form == 3 {
+        return key_lists::are_keys(text, at);
+    }
+    if form == 4 {
+        return base64_reader::are_coded(text, at);
+    }
+    true
+}
 
 // The text is numbers of its form.
 fn text_right(text: &[u8], at: usize, table: &[u32], form: usize) -> bool
@@ -21,7 +35,7 @@ fn text_right(text: &[u8], at: usize, table: &[u32], form: usize) -> bool
     if what == 2 {
         return forms::are_wholes(text, at, table::form_cell(table, form - 1, 1) as u64);
     }
-    true
+    keys_by(text, at, what)
 }
 
 // The fault of the numbers in the text of the element at `at`; that other text is blank, the walk sees.

@@ -1,5 +1,5 @@
--- CIFTI's table as numbers and letters, as the code lays them out; shape's `Table` says how such a table is read, and `Laws/Agree` that
--- it is that of the paper.
+-- The one table, CIFTI's kinds and behind them GIFTI's, as numbers and letters, as the code lays them out; shape's `Table` says how such a
+-- table is read, and `Laws/Agree` and `Laws/Arrays` that it is that of the papers.
 use mathlib.Core.List.{List, [], _∷_, _++_}
 use Prim.Native.Nat.{ℕ, _+_}
 use Prim.Native.String.{String}
@@ -31,6 +31,13 @@ kinds =
     ∷ 15 ∷ 15 ∷ 15 ∷ 18 ∷ 0 ∷ 0  -- labelledMap
     ∷ 15 ∷ 15 ∷ 18 ∷ 19 ∷ 0 ∷ 0  -- labelTable
     ∷ 15 ∷ 20 ∷ 19 ∷ 19 ∷ 1 ∷ 0  -- label
+    ∷ 20 ∷ 22 ∷ 19 ∷ 22 ∷ 0 ∷ 1  -- gifti
+    ∷ 23 ∷ 32 ∷ 22 ∷ 24 ∷ 0 ∷ 0  -- plainArray
+    ∷ 22 ∷ 31 ∷ 24 ∷ 26 ∷ 0 ∷ 0  -- codedArray
+    ∷ 23 ∷ 32 ∷ 26 ∷ 28 ∷ 0 ∷ 0  -- otherArray
+    ∷ 32 ∷ 32 ∷ 28 ∷ 28 ∷ 19 ∷ 0  -- plainData
+    ∷ 32 ∷ 32 ∷ 28 ∷ 28 ∷ 20 ∷ 0  -- codedData
+    ∷ 32 ∷ 32 ∷ 28 ∷ 28 ∷ 1 ∷ 0  -- otherData
     ∷ []
 
 -- word; form; whether it may be left out
@@ -56,6 +63,18 @@ attributes =
     ∷ 36 ∷ 14 ∷ 0  -- Green
     ∷ 37 ∷ 14 ∷ 0  -- Blue
     ∷ 38 ∷ 14 ∷ 0  -- Alpha
+    ∷ 0 ∷ 0 ∷ 0  -- Version
+    ∷ 78 ∷ 15 ∷ 0  -- NumberOfDataArrays
+    ∷ 87 ∷ 20 ∷ 0  -- Endian, of Base64Binary
+    ∷ 79 ∷ 16 ∷ 0  -- ArrayIndexingOrder
+    ∷ 80 ∷ 0 ∷ 0  -- DataType
+    ∷ 81 ∷ 0 ∷ 0  -- Intent
+    ∷ 82 ∷ 0 ∷ 0  -- Encoding
+    ∷ 83 ∷ 17 ∷ 0  -- Dimensionality
+    ∷ 84 ∷ 3 ∷ 0  -- Dim0
+    ∷ 85 ∷ 0 ∷ 1  -- ExternalFileName
+    ∷ 86 ∷ 0 ∷ 1  -- ExternalFileOffset
+    ∷ 87 ∷ 20 ∷ 1  -- Endian, of others
     ∷ []
 
 -- word; times; choice; kind
@@ -80,6 +99,15 @@ children =
     ∷ 39 ∷ 0 ∷ 0 ∷ 17  -- LabelTable
     ∷ 16 ∷ 1 ∷ 0 ∷ 2  -- MetaData
     ∷ 40 ∷ 2 ∷ 0 ∷ 18  -- Label
+    ∷ 16 ∷ 1 ∷ 0 ∷ 2  -- MetaData
+    ∷ 39 ∷ 0 ∷ 0 ∷ 17  -- LabelTable
+    ∷ 88 ∷ 3 ∷ 3 ∷ 0  -- DataArray
+    ∷ 16 ∷ 1 ∷ 0 ∷ 2  -- MetaData
+    ∷ 89 ∷ 0 ∷ 0 ∷ 23  -- Data, of ASCII
+    ∷ 16 ∷ 1 ∷ 0 ∷ 2  -- MetaData
+    ∷ 89 ∷ 0 ∷ 0 ∷ 24  -- Data, of Base64Binary
+    ∷ 16 ∷ 1 ∷ 0 ∷ 2  -- MetaData
+    ∷ 89 ∷ 0 ∷ 0 ∷ 25  -- Data, of another encoding
     ∷ []
 
 -- word of the attribute; cases from, up to; else
@@ -87,6 +115,7 @@ choices : List ℕ
 choices =
     2 ∷ 0 ∷ 4 ∷ 0  -- the kind of a map
     ∷ 10 ∷ 4 ∷ 6 ∷ 0  -- the kind of a model
+    ∷ 82 ∷ 6 ∷ 8 ∷ 23  -- the kind of an array
     ∷ []
 
 -- word; kind
@@ -98,6 +127,8 @@ cases =
     ∷ 31 ∷ 15  -- labels
     ∷ 32 ∷ 11  -- surface
     ∷ 33 ∷ 12  -- voxels
+    ∷ 90 ∷ 20  -- plainArray
+    ∷ 91 ∷ 21  -- codedArray
     ∷ []
 
 -- what it is; limits, or of words from, up to, and their front part and 1
@@ -118,6 +149,12 @@ forms =
     ∷ 1 ∷ 28 ∷ 32 ∷ 0  -- a kind of map
     ∷ 7 ∷ 0 ∷ 0 ∷ 0  -- a key
     ∷ 8 ∷ 0 ∷ 0 ∷ 0  -- a colour
+    ∷ 3 ∷ 0 ∷ 9999999 ∷ 0  -- a whole number of any value
+    ∷ 1 ∷ 92 ∷ 94 ∷ 0  -- an order of indices
+    ∷ 3 ∷ 1 ∷ 1 ∷ 0  -- the number 1
+    ∷ 3 ∷ 0 ∷ 0 ∷ 0  -- text: keys
+    ∷ 4 ∷ 0 ∷ 0 ∷ 0  -- text: Base64
+    ∷ 1 ∷ 94 ∷ 96 ∷ 0  -- an order of bytes
     ∷ []
 
 -- what stands in front of every name of a structure, and the rest of each name
@@ -128,9 +165,17 @@ rests : List String
 unfolding front structures each lettering
 rests = each (λ s. lettered (drop (length (ascii front)) (ascii s))) structures
 
+-- GIFTI's words
+giftiWords : List String
+giftiWords =
+    "NumberOfDataArrays" ∷ "ArrayIndexingOrder" ∷ "DataType" ∷ "Intent" ∷ "Encoding" ∷ "Dimensionality" ∷ "Dim0"  -- 78
+    ∷ "ExternalFileName" ∷ "ExternalFileOffset" ∷ "Endian" ∷ "DataArray" ∷ "Data" ∷ "ASCII" ∷ "Base64Binary"  -- 85
+    ∷ "RowMajorOrder" ∷ "ColumnMajorOrder" ∷ "BigEndian" ∷ "LittleEndian"  -- 92
+    ∷ []
+
 -- the words, from 0
 vocabulary : List String
-unfolding front rests units
+unfolding front rests units giftiWords
 vocabulary =
     "Version" ∷ "AppliesToMatrixDimension" ∷ "IndicesMapToDataType" ∷ "NumberOfSeriesPoints"  -- 0
     ∷ "SeriesStart" ∷ "SeriesStep" ∷ "SeriesExponent" ∷ "SeriesUnit" ∷ "IndexOffset" ∷ "IndexCount"  -- 4
@@ -140,7 +185,7 @@ vocabulary =
     ∷ "VoxelIndicesIJK" ∷ "CIFTI_INDEX_TYPE_BRAIN_MODELS" ∷ "CIFTI_INDEX_TYPE_SERIES"  -- 27
     ∷ "CIFTI_INDEX_TYPE_SCALARS" ∷ "CIFTI_INDEX_TYPE_LABELS" ∷ "CIFTI_MODEL_TYPE_SURFACE" ∷ "CIFTI_MODEL_TYPE_VOXELS"  -- 30
     ∷ "Key" ∷ "Red" ∷ "Green" ∷ "Blue" ∷ "Alpha" ∷ "LabelTable" ∷ "Label"  -- 34
-    ∷ (units ++ (front ∷ rests))  -- 41, 45, 46
+    ∷ (units ++ (front ∷ (rests ++ giftiWords)))  -- 41, 45, 46, 78
 
 unfoldable pub letters : List ℕ
 unfolding vocabulary eachIn

@@ -1,4 +1,5 @@
-// CIFTI's table of rows, lent to the walk: conditions 3, 6 and 7 of any text, and the numbers of the words that the paper names.
+// The table of rows, lent to the walk: conditions 3, 6 and 7 of any text, as CIFTI or as GIFTI, and the numbers of the words that the
+// paper names.
 use lookup::words::word_number;
 use shape::Checked;
 ghost use mathlib.Core.Path.{_≡_};
@@ -7,7 +8,7 @@ ghost use Rattle.cifti.specs.Words.{structures, units, numberIn};
 ghost use Rattle.cifti.specs.Maps.{wordsOfKinds};
 ghost use Rattle.shape.specs.Table.{wordsAt};
 ghost use Rattle.vocabulary.specs.Table.{table, letters};
-ghost use Rattle.vocabulary.specs.Checks.{ChecksCifti, Answers};
+ghost use Rattle.vocabulary.specs.Checks.{ChecksCifti, ChecksGifti, Answers};
 
 // The numbers and letters.
 mod table;
@@ -18,16 +19,16 @@ struct Answer {
     number: u64,
 }
 
-// Conditions 3, 6 and 7 of the text where they are asked for; else the place of the value at `v` among the words of a form of the
-// table, or their number. Both are asked here, so that the table is laid out in one place of the compiled library.
-fn asked(text: &[u8], conditions: bool, v: usize, form: u32) -> Answer
-    ensures { λ r. ⌜ Answers (now (text .entry)) conditions v form (r .checked) (r .number) ⌝ }
+// Conditions 3, 6 and 7 of the text, whose root is of a kind, where they are asked for; else the place of the value at `v` among the
+// words of a form of the table, or their number. All are asked here, so that the table is laid out in one place of the compiled library.
+fn asked(text: &[u8], conditions: bool, kind: u32, v: usize, form: u32) -> Answer
+    ensures { λ r. ⌜ Answers (now (text .entry)) conditions kind v form (r .checked) (r .number) ⌝ }
 {
     let table = table::numbers();
     let letters = table::letters();
     if conditions {
         return Answer {
-            checked: walk::check(text, &table, &letters, 0),
+            checked: walk::check(text, &table, &letters, kind),
             number: 0,
         };
     }
@@ -37,18 +38,25 @@ fn asked(text: &[u8], conditions: bool, v: usize, form: u32) -> Answer
     }
 }
 
-// Conditions 3, 6 and 7.
+// Conditions 3, 6 and 7, as CIFTI.
 pub fn checked(text: &[u8]) -> Checked
     ensures { λ r. ⌜ ChecksCifti (now (text .entry)) r ⌝ }
 {
-    asked(text, true, 0, 0).checked
+    asked(text, true, 0, 0, 0).checked
+}
+
+// Conditions 3, 6 and 7, as GIFTI.
+pub fn gifti_checked(text: &[u8]) -> Checked
+    ensures { λ r. ⌜ ChecksGifti (now (text .entry)) r ⌝ }
+{
+    asked(text, true, 19, 0, 0).checked
 }
 
 // The place of the value at `v` among the words of a form of the table, or their number.
 fn named(text: &[u8], v: usize, form: u32) -> u64
     ensures { λ r. ⌜ r ≡ numberIn (wordsAt table letters form) (value-there (now (text .entry)) v) ⌝ }
 {
-    asked(text, false, v, form).number
+    asked(text, false, 0, v, form).number
 }
 
 // The structure that the value at `v` names; 32 where it names none.

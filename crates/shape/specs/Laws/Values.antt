@@ -11,12 +11,13 @@ use Rattle.lists.specs.Lists.{countUp}
 use Rattle.grammar.specs.Look.{Word, textOf}
 use Rattle.nodes.specs.Places.{the}
 use Rattle.nodes.specs.Texts.{text-of, text-law}
-use Rattle.numbers.specs.Numbers.{whole, volumeDimensions, dimensionList, exponent, decimal, wholes, sixteen, key, colour}
-use Rattle.schema.specs.Schema.{Form, word, number, anyValue, isWord, isNumber, isText}
+use Rattle.numbers.specs.Numbers.{whole, volumeDimensions, dimensionList, exponent, decimal, wholes, sixteen, key, keyList, colour}
+use Rattle.base64.specs.Base64.{coded}
+use Rattle.schema.specs.Schema.{Form, word, number, anyValue, isWord, isNumber, isText, anyText, numbers}
 use Rattle.schema.specs.Words.{numberIn}
 use Rattle.shape.specs.Table.{frontedAt, formBy, formAt, formCell, textFormBy, textFormAt}
 use Rattle.shape.specs.Faults.{fault}
-use Rattle.shape.specs.Parts.{amongWords, numberBy, labelBy, textNumbered, textFault}
+use Rattle.shape.specs.Parts.{amongWords, numberBy, labelBy, keysBy, textNumbered, textFault}
 use Rattle.shape.specs.Asked.{Known}
 use Rattle.shape.specs.Laws.Searches.{among-found}
 
@@ -146,7 +147,32 @@ unfolding textNumbered
 text-form t zero w h = absurd (h refl)
 text-form t (suc f) w h = let z : suc f - 1 ≡ f = omega arith in rw z
 
-module _ (t : List ℕ) {text : List ℕ} {at f : ℕ} (p : Known text at f) where
+-- those that are neither the sixteen nor whole numbers
+keys-form : (k a : ℕ) (w : Word) → (k ≡ 1 → ⊥) → (k ≡ 2 → ⊥) → isText (textFormBy k a) w ≡ keysBy k w
+unfolding textFormBy keysBy isText
+keys-form k a w p q = rw (ne-eqb k 1 p, ne-eqb k 2 q) (go (eqb k 3) (eqb k 4))
+  where
+    go : (b c : Bool) → isText (cond b (numbers keyList) (cond c (numbers coded) anyText)) w ≡ cond b (keyList w) (cond c (coded w) true)
+    go true c = refl
+    go false true = refl
+    go false false = refl
+
+module _ (w : Word) (k : ℕ) where
+  pub by-list : {r : Bool} → k ≡ 3 → r ≡ keyList w → r ≡ keysBy k w
+  unfolding keysBy
+  by-list e h = rw e h
+
+  pub by-code : {r : Bool} → k ≡ 4 → r ≡ coded w → r ≡ keysBy k w
+  unfolding keysBy
+  by-code e h = rw e h
+
+  pub by-any : (k ≡ 3 → ⊥) → (k ≡ 4 → ⊥) → true ≡ keysBy k w
+  unfolding keysBy
+  by-any p q = rw (ne-eqb k 3 p, ne-eqb k 4 q)
+
+pub ruleset keying = (by-list, by-code, by-any, needs)
+
+module _ (t : List ℕ) {text : List ℕ} {at f : ℕ} (p₀ : Known text at f) where
   abbrev w : Word
   w = textOf (the text at)
 
@@ -157,15 +183,16 @@ module _ (t : List ℕ) {text : List ℕ} {at f : ℕ} (p : Known text at f) whe
   module _ (h : f ≡ 0 → ⊥) {k : ℕ} (i : k ≡ formCell t (f - 1) 0) where
     pub text-sixteen : {r : Bool} → k ≡ 1 → r ≡ sixteen (text-of text at) → r ≡ textNumbered t f w
     unfolding textFormAt textFormBy isText
-    text-sixteen e q = q ∙ ap sixteen (text-law (p .stands)) ∙ sym (text-form t f w h ∙ rw (← i, e))
+    text-sixteen e q = q ∙ ap sixteen (text-law (p₀ .stands)) ∙ sym (text-form t f w h ∙ rw (← i, e))
 
     pub text-wholes : {r : Bool} → k ≡ 2 → {a : ℕ} → a ≡ formCell t (f - 1) 1 → r ≡ wholes a (text-of text at) → r ≡ textNumbered t f w
     unfolding textFormAt textFormBy isText
-    text-wholes e {a} q u = u ∙ ap (wholes a) (text-law (p .stands)) ∙ sym (text-form t f w h ∙ rw (← i, e, ← q))
+    text-wholes e {a} q u = u ∙ ap (wholes a) (text-law (p₀ .stands)) ∙ sym (text-form t f w h ∙ rw (← i, e, ← q))
 
-    pub text-any : (k ≡ 1 → ⊥) → (k ≡ 2 → ⊥) → true ≡ textNumbered t f w
-    unfolding textFormAt textFormBy isText
-    text-any p q = sym (text-form t f w h ∙ rw (← i, ne-eqb k 1 p, ne-eqb k 2 q))
+    pub text-others : {r : Bool} → (k ≡ 1 → ⊥) → (k ≡ 2 → ⊥) → r ≡ keysBy k (text-of text at) → r ≡ textNumbered t f w
+    unfolding textFormAt
+    text-others p q u = u ∙ ap (keysBy k) (text-law (p₀ .stands))
+        ∙ sym (text-form t f w h ∙ rw (← i) (keys-form k (formCell t (f - 1) 1) w p q))
 
 module _ (t : List ℕ) (f : ℕ) (w : Word) {b : Bool} where
   pub text-good : b ≡ textNumbered t f w → b ≡ true → 0 ≡ textFault t f w
@@ -176,4 +203,4 @@ module _ (t : List ℕ) (f : ℕ) (w : Word) {b : Bool} where
   unfolding textFault fault
   text-bad h k = rw (sym h ∙ k)
 
-pub ruleset texting = (text-blank, text-sixteen, text-wholes, text-any, text-good, text-bad, needs)
+pub ruleset texting = (text-blank, text-sixteen, text-wholes, text-others, text-good, text-bad, needs)

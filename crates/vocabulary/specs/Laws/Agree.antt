@@ -28,7 +28,7 @@ use Rattle.shape.specs.Faults.{fault, faultOf}
 use Rattle.shape.specs.Checked.{Checks, Judges}
 use Rattle.shape.specs.declared.Checked.{Checked}
 use Rattle.vocabulary.specs.Table.{table, letters}
-use Rattle.vocabulary.specs.Checks.{rootFault, Judged, ChecksCifti, Answers}
+use Rattle.vocabulary.specs.Checks.{rootFault, JudgedBy, ChecksBy, ChecksCifti, Answers}
 use Rattle.schema.specs.Laws.Renamed.{rowNamed, renaming, shaped-named, numbered-named, walk-named}
 
 -- one computed equation over all kinds
@@ -81,45 +81,50 @@ unit-is x e = e ∙ ap (λ l. numberIn l x) units-are
 pub kind-is : (x : Word) {r : ℕ} → r ≡ numberIn (wordsAt table letters 12) x → r ≡ numberIn wordsOfKinds x
 kind-is x e = e ∙ ap (λ l. numberIn l x) kinds-are
 
-pub shape-is : (e : Element) → everywhere (rowsOf table letters) shaped (elementNumber cifti) e ≡ everywhere rows shaped cifti e
+shape-is : (e : Element) → everywhere (rowsOf table letters) shaped (elementNumber cifti) e ≡ everywhere rows shaped cifti e
 shape-is e = walk-named elementNumber rows (rowsOf table letters) rows-are shaped shaped (shaped-named elementNumber) e cifti
 
-pub number-is : (e : Element) → everywhere (rowsOf table letters) numbered (elementNumber cifti) e ≡ everywhere rows numbered cifti e
+number-is : (e : Element) → everywhere (rowsOf table letters) numbered (elementNumber cifti) e ≡ everywhere rows numbered cifti e
 number-is e = walk-named elementNumber rows (rowsOf table letters) rows-are numbered numbered (numbered-named elementNumber) e cifti
 
-fault-so : (s n : Bool) → fault s n ≡ cond (not s) 6 (cond (not n) 7 0)
+pub fault-so : (s n : Bool) → fault s n ≡ cond (not s) 6 (cond (not n) 7 0)
 unfolding fault
 fault-so true true = refl
 fault-so true false = refl
 fault-so false n = refl
 
-root-fault : (e : Element) → faultOf table letters 0 e ≡ rootFault e
+pub root-fault : (e : Element) → faultOf table letters 0 e ≡ rootFault e
 unfolding rootFault shapeWrong numberWrong faultOf elementNumber
 root-fault e = rw (shape-is e, number-is e) (fault-so (everywhere rows shaped cifti e) (everywhere rows numbered cifti e))
 
-cifti-checked : {text : List ℕ} {r : Checked} → Checks table letters 0 text r → ChecksCifti text r
-cifti-checked {text} {r} c = record {
+-- the walk from a root of a kind, where its faults are those of the rules
+pub checked-by : {k : ℕ} {faultIn : Element → ℕ} → ((e : Element) → faultOf table letters k e ≡ faultIn e) → {text : List ℕ} {r : Checked}
+    → Checks table letters k text r → ChecksBy faultIn text r
+checked-by {k} {faultIn} f {text} {r} c = record {
   unwritten = λ n. c .none (λ e w. never-some (sym n ∙ parse-iff text e .1 w));
   written = λ e p. judged e p (c .some-one e (parse-iff text e .0 p));
 }
   where
-    judged : (e : Element) → parse text ≡ some e → Judges table letters 0 text r e → Judged text (r .root) (r .number)
+    judged : (e : Element) → parse text ≡ some e → Judges table letters k text r e → JudgedBy faultIn text (r .root) (r .number)
     judged e p j = record {
       parsed = p ∙ ap some (sym (j .root-is));
       placed = j .placed;
       stands = j .stands;
-      fault-is = j .number-is ∙ root-fault e ∙ ap rootFault (sym (j .root-is));
+      fault-is = j .number-is ∙ f e ∙ ap faultIn (sym (j .root-is));
     }
 
+pub cifti-checked : {text : List ℕ} {r : Checked} → Checks table letters 0 text r → ChecksCifti text r
+cifti-checked c = checked-by root-fault c
+
 -- as the code lends it, and what it is asked
-module _ {t l : List ℕ} (te : t ≡ table) (le : l ≡ letters) {text : List ℕ} {asked : Bool} {v f n : ℕ} {r : Checked} where
-  pub lent-checked : asked ≡ true → Checks t l 0 text r → Answers text asked v f r n
+module _ {t l : List ℕ} (te : t ≡ table) (le : l ≡ letters) {text : List ℕ} {asked : Bool} {k v f n : ℕ} {r : Checked} where
+  pub lent-checked : asked ≡ true → Checks t l k text r → Answers text asked k v f r n
   lent-checked h c = record {
-    checked-so = λ _. cifti-checked (rw (te, le) at c);
+    checked-so = λ _. rw (te, le) at c;
     number-is = λ no. absurd (true≢false (sym h ∙ no));
   }
 
-  pub lent-number : asked ≡ false → n ≡ numberIn (wordsAt t l f) (value-there text v) → Answers text asked v f r n
+  pub lent-number : asked ≡ false → n ≡ numberIn (wordsAt t l f) (value-there text v) → Answers text asked k v f r n
   lent-number h e = record {
     checked-so = λ yes. absurd (true≢false (sym yes ∙ h));
     number-is = λ _. e ∙ rw (te, le);

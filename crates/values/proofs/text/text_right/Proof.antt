@@ -15,4 +15,5 @@ text-right-spec =
     (λ c κs. search texting)
     (λ c κs. search texting)
     (λ c. search texting)
+    (λ c κs. search texting)
     (λ c. search texting))
