@@ -15,7 +15,7 @@ ghost use Rattle.base64.specs.Fours.{codedBytes};
 
 // One to three bytes as one number, how many they are, and the place behind their letters.
 pub enum Group {
-    Bytes(u64, u64, usize),
+    Bytes(u64, usize, usize),
     End,
     Bad,
 }
@@ -51,10 +51,10 @@ pub fn are_coded(text: &[u8], at: usize) -> bool
 }
 
 // How many bytes the contents from `at` on hold; 0 where they are no Base64.
-fn count_from(text: &[u8], at: usize) -> u64
+fn count_from(text: &[u8], at: usize) -> usize
     ensures { λ r. ⌜ r ≡ codedBytes (saysAt (now (text .entry)) at) ⌝ }
 {
-    let mut n: u64 = 0;
+    let mut n: usize = 0;
     let mut i = at;
     loop {
         match group_at(text, i) {
@@ -73,7 +73,7 @@ fn count_from(text: &[u8], at: usize) -> u64
 }
 
 // How many bytes the text of the element at `at` holds; 0 where it is no Base64.
-pub fn byte_count(text: &[u8], at: usize) -> u64
+pub fn byte_count(text: &[u8], at: usize) -> usize
     ensures { λ r. ⌜ r ≡ codedBytes (text-of (now (text .entry)) at) ⌝ }
 {
     match inside::texts::text_start(text, at) {

@@ -8,8 +8,8 @@ use Rattle.grammar.specs.Bytes.{blank}
 use Rattle.grammar.specs.Look.{Word}
 use Rattle.nodes.specs.Texts.{saysAt, left}
 use Rattle.numbers.specs.Numbers.{words, key, keyValue}
-use Rattle.key_lists.specs.declared.NextKey.{NextKey}
-use Rattle.key_lists.specs.declared.NextKey.the-variants.{Key, End, Bad}
+use Rattle.key_lists.specs.declared.ListedKey.{ListedKey}
+use Rattle.key_lists.specs.declared.ListedKey.the-variants.{Key, End, Bad}
 
 -- The first of the words writes the key z; the others are ahead of the place j, and fewer bytes than `most` are.
 pub record First (text : List ℕ) (ahead : List Word) (most : ℕ) (z : ℤ) (j : ℕ) : Type 0 where
@@ -26,13 +26,13 @@ pub record NoKey (ahead : List Word) : Type 0 where
   pub out-of-form : key word ≡ false
   pub splits : ahead ≡ word ∷ others
 
-pub record Told (text : List ℕ) (ahead : List Word) (most : ℕ) (r : NextKey) : Type 0 where
+pub record Told (text : List ℕ) (ahead : List Word) (most : ℕ) (r : ListedKey) : Type 0 where
   pub on-key : {z : ℤ} {j : ℕ} → r ≡ Key z j → First text ahead most z j
   pub on-end : r ≡ End → ahead ≡ []
   pub on-bad : r ≡ Bad → NoKey ahead
 
 -- what `next_key` promises: the first of the words from a place on
-abbrev pub KeyTold : List ℕ → ℕ → NextKey → Type 0
+abbrev pub KeyTold : List ℕ → ℕ → ListedKey → Type 0
 KeyTold text i r = Told text (words (saysAt text i)) (left text i) r
 
 -- a word with the sign that was read

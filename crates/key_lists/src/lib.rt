@@ -15,32 +15,32 @@ ghost use Rattle.numbers.specs.Numbers.{words, keyList};
 ghost use Rattle.key_lists.specs.KeyLists.{SignRead, spelled, Told, KeyTold};
 
 // The key that stands next in a list, and the place behind it.
-pub enum NextKey {
+pub enum ListedKey {
     Key(i32, usize),
     End,
     Bad,
 }
 
 // The key whose digits begin at `at`, its sign being read.
-fn key_from(text: &[u8], at: usize, negative: bool) -> NextKey
+fn key_from(text: &[u8], at: usize, negative: bool) -> ListedKey
     requires { ⌜ SignRead (now text) at negative ⌝ }
     ensures { λ r. ⌜ Told (now (text .entry)) (words (spelled negative (saysAt (now (text .entry)) at))) (left (now (text .entry)) at) r ⌝ }
 {
     let run = digits(text, at, Source::Contents, 10, 0);
     if run.count == 0 {
-        return NextKey::Bad;
+        return ListedKey::Bad;
     }
     if !word_ends(text, run.next, Source::Contents) {
-        return NextKey::Bad;
+        return ListedKey::Bad;
     }
     if key_limit(negative) < run.value {
-        return NextKey::Bad;
+        return ListedKey::Bad;
     }
-    NextKey::Key(signed(negative, run.value) as i32, run.next)
+    ListedKey::Key(signed(negative, run.value) as i32, run.next)
 }
 
 // The next key, whatever stands before it or in it.
-fn any_key(text: &[u8], at: usize) -> NextKey
+fn any_key(text: &[u8], at: usize) -> ListedKey
     ensures { λ r. ⌜ KeyTold (now (text .entry)) at r ⌝ }
 {
     let i = blanks(text, at);
@@ -51,19 +51,19 @@ fn any_key(text: &[u8], at: usize) -> NextKey
             }
             key_from(text, i, false)
         }
-        Char::End => NextKey::End,
+        Char::End => ListedKey::End,
     }
 }
 
 // The next key of the list in a text, from `at` on: where plain bytes write it, most keys, it is read as a plain number.
-pub fn next_key(text: &[u8], at: usize) -> NextKey
+pub fn next_key(text: &[u8], at: usize) -> ListedKey
     ensures { λ r. ⌜ KeyTold (now (text .entry)) at r ⌝ }
 {
     let quick = quick_number(text, at);
     if quick == 0 {
         return any_key(text, at);
     }
-    NextKey::Key((quick / 16) as i32, at + (quick % 16) as usize)
+    ListedKey::Key((quick / 16) as i32, at + (quick % 16) as usize)
 }
 
 // The contents from `at` on list keys.
@@ -73,13 +73,13 @@ fn keys_from(text: &[u8], at: usize) -> bool
     let mut i = at;
     loop {
         match next_key(text, i) {
-            NextKey::Key(_, j) => {
+            ListedKey::Key(_, j) => {
                 i = j;
             }
-            NextKey::End => {
+            ListedKey::End => {
                 return true;
             }
-            NextKey::Bad => {
+            ListedKey::Bad => {
                 return false;
             }
         }

@@ -32,7 +32,7 @@ bits-back (negsuc n) h =
     rw (le-ltb (4294967295 - n) 2147483648 (omega arith), s) refl
 
 -- four bytes, and the 32 bits of them
-whole-back : (n : ℕ) → bits32 (n / 16777216) (n / 65536 % 256) (n / 256 % 256) (n % 256) ≡ n
+pub whole-back : (n : ℕ) → bits32 (n / 16777216) (n / 65536 % 256) (n / 256 % 256) (n % 256) ≡ n
 unfolding bits32
 whole-back n = digits-back n (n / 256) (n / 65536) (n / 16777216) (omega arith) (omega arith) (omega arith)
   where

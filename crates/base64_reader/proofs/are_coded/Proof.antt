@@ -5,4 +5,10 @@ use Rattle.base64_reader.proofs.are_coded.Tie as tie
 pub are-coded-spec : {M : Type 1} → statement M
 are-coded-spec =
     tie.close
-    (tie.spec (λ c κs. search coded-texts) (λ c. search coded-texts) (λ c κs. search coded-texts) (λ c. search coded-texts) (λ c. search coded-texts) (λ c. search coded-texts))
+    (tie.spec
+    (λ c κs. search coded-texts)
+    (λ c. search coded-texts)
+    (λ c κs. search coded-texts)
+    (λ c. search coded-texts)
+    (λ c. search coded-texts)
+    (λ c. search coded-texts))

@@ -10,7 +10,7 @@ use lib.ListN.{length, length-append}
 use borrow.Author.Needs.{needs}
 use Rattle.lists.specs.Lists.{isSome, those}
 use Rattle.grammar.specs.Look.{Word}
-use Rattle.nodes.specs.Texts.{saysAt, left, inside, text-of, text-none, text-some}
+use Rattle.nodes.specs.Texts.{saysAt, left, left-most, inside, text-of, text-none, text-some}
 use Rattle.nodes.specs.declared.Found.{Found}
 use Rattle.nodes.specs.declared.Found.the-variants.{At, Nothing}
 use Rattle.base64.specs.Base64.{unblanked, decode, bytesIn, coded}
@@ -94,11 +94,6 @@ unfolding bytesOr countFrom
 count-whole Option.none = refl
 count-whole (some l) = omega arith
 
--- the bytes ahead are no more than those of the text
-left-within : (text : List ℕ) (i : ℕ) → left text i ≤ length text
-unfolding left
-left-within text i = omega arith
-
 pub record Counting (text : List ℕ) (at n i : ℕ) : Type 0 where
   pub same : codedBytes (saysAt text at) ≡ countFrom n (decode (lettersAt text i))
   pub room : left text i + n ≤ left text at
@@ -122,7 +117,7 @@ module _ {text : List ℕ} {at k i : ℕ} (go : Counting text at k i) {g : Group
     counting-less = omega (arith, t .on-bytes e .less)
 
     pub counting-room : k + n ≤ length text
-    counting-room = omega (arith, t .on-bytes e .less, go .room, left-within text at)
+    counting-room = omega (arith, t .on-bytes e .less, go .room, left-most text at)
 
     pub counting-on : Counting text at (k + n) j
     counting-on =

@@ -4,4 +4,11 @@ use Rattle.key_lists.proofs.next_key.Tie as tie
 
 pub next-key-spec : {M : Type 1} → statement M
 next-key-spec =
-    tie.close (tie.spec (λ c κs. search key-quick) (λ c κs. search key-quick) (λ c. search key-quick) (λ c. search key-quick) (λ c. search key-quick) (λ c. search key-quick))
+    tie.close
+    (tie.spec
+    (λ c κs. search key-quick)
+    (λ c κs. search key-quick)
+    (λ c. search key-quick)
+    (λ c. search key-quick)
+    (λ c. search key-quick)
+    (λ c. search key-quick))

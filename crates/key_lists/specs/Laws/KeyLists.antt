@@ -35,8 +35,8 @@ use Rattle.numbers.specs.declared.Run.{Run}
 use Rattle.keys.specs.Laws.Keys.{signed-small, signed-fits, signed-back}
 use Rattle.key_lists.specs.KeyLists.{First, NoKey, Told, KeyTold, spelled, SignRead, minus-read, none-read}
 use Rattle.key_lists.specs.Laws.Spelled.{Unsigned, nothing, other, digits-unsigned, key-by, value-by, spelled-append}
-use Rattle.key_lists.specs.declared.NextKey.{NextKey}
-use Rattle.key_lists.specs.declared.NextKey.the-variants.{Key, End, Bad}
+use Rattle.key_lists.specs.declared.ListedKey.{ListedKey}
+use Rattle.key_lists.specs.declared.ListedKey.the-variants.{Key, End, Bad}
 
 -- the three answers
 pub told-key : {text : List ℕ} {l : List Word} {most : ℕ} {z : ℤ} {j : ℕ} → First text l most z j → Told text l most (Key z j)
@@ -200,11 +200,13 @@ module _ {text : List ℕ} {at : ℕ} {t : Bool} (sign : SignRead text at t) {ru
         less : left text (run .next) < left text at
         unfolding leftIn stream
         less =
-            let k : length (ran .read) ≤ length (saysAt text at) = omega (arith, ap length splits, length-append (ran .read) (saysAt text (run .next))) in
+            let k : length (ran .read) ≤ length (saysAt text at) =
+            omega (arith, ap length splits, length-append (ran .read) (saysAt text (run .next))) in
             let b = behind-law Contents text (length (ran .read)) at k in
             go (ran .read) (ran .counted) (rw (sym (ran .place)) at (b .ahead))
           where
-            go : (u : Word) → run .count ≡ 0 + length u → left text (run .next) + length u ≤ left text at → left text (run .next) < left text at
+            go : (u : Word) → run .count ≡ 0 + length u → left text (run .next) + length u ≤ left text at
+                → left text (run .next) < left text at
             go [] c q = absurd (some c)
             go (a ∷ u) c q = omega arith
 
@@ -212,7 +214,8 @@ module _ {text : List ℕ} {at : ℕ} {t : Bool} (sign : SignRead text at t) {ru
           pub from-fits : SFits w32 (toZ w64 (ofZ w64 v))
           from-fits = signed-fits t size q
 
-          pub from-key : Told text (words (spelled t (saysAt text at))) (left text at) (Key (toZ w32 (ofZ w32 (toZ w64 (ofZ w64 v)))) (run .next))
+          pub from-key : Told text (words (spelled t (saysAt text at))) (left text at)
+              (Key (toZ w32 (ofZ w32 (toZ w64 (ofZ w64 v)))) (run .next))
           from-key = told-key (record {
             word = spelled t (ran .read);
             in-form = form ∙ le-leb (run .value) (keyLimit (signIf t)) size;
@@ -233,7 +236,7 @@ leading-few (a ∷ w) = go (blank a) (leading-few w)
     go true h = omega arith
     go false h = omega arith
 
-retold : {text : List ℕ} {k l : List Word} {m n : ℕ} {r : NextKey} → Told text k m r → l ≡ k → m ≤ n → Told text l n r
+retold : {text : List ℕ} {k l : List Word} {m n : ℕ} {r : ListedKey} → Told text k m r → l ≡ k → m ≤ n → Told text l n r
 retold {text} {k} {l} {m} {n} {r} t e h = record {
   on-key = λ {z} {j} q. (let f = t .on-key q in record {
     word = f .word;
@@ -243,7 +246,8 @@ retold {text} {k} {l} {m} {n} {r} t e h = record {
     less = omega (arith, f .less);
   });
   on-end = λ q. e ∙ t .on-end q;
-  on-bad = λ q. (let f = t .on-bad q in record { word = f .word; others = f .others; out-of-form = f .out-of-form; splits = e ∙ f .splits });
+  on-bad = λ q. (let f = t .on-bad q in
+      record { word = f .word; others = f .others; out-of-form = f .out-of-form; splits = e ∙ f .splits });
 }
 
 module _ (text : List ℕ) (at : ℕ) {i : ℕ} (ei : i ≡ behind Contents text (leading blank (stream Contents text at)) at) where
@@ -285,11 +289,11 @@ module _ (text : List ℕ) (at : ℕ) {i : ℕ} (ei : i ≡ behind Contents text
       pub sign-none : (b ≡ 45 → ⊥) → SignRead text i false
       sign-none n = none-read begins (no-blank b (saysAt text j) begins) n
 
-      pub sign-minus-told : b ≡ 45 → {r : NextKey} → Told text (words (spelled true (saysAt text j))) (left text j) r → KeyTold text at r
+      pub sign-minus-told : b ≡ 45 → {r : ListedKey} → Told text (words (spelled true (saysAt text j))) (left text j) r → KeyTold text at r
       unfolding spelled
       sign-minus-told h t = retold t (same-words ∙ ap words (rw h at begins)) (omega (arith, further, nearer))
 
-    pub sign-none-told : {r : NextKey} → Told text (words (spelled false (saysAt text i))) (left text i) r → KeyTold text at r
+    pub sign-none-told : {r : ListedKey} → Told text (words (spelled false (saysAt text i))) (left text i) r → KeyTold text at r
     unfolding spelled
     sign-none-told t = retold t same-words further
 
@@ -342,7 +346,7 @@ pub record Listing (text : List ℕ) (at i : ℕ) : Type 0 where
 pub listing-start : (text : List ℕ) (at : ℕ) → Listing text at at
 listing-start text at = record { same-list = refl }
 
-module _ {text : List ℕ} {at i : ℕ} (go : Listing text at i) {r : NextKey} (t : KeyTold text i r) where
+module _ {text : List ℕ} {at i : ℕ} (go : Listing text at i) {r : ListedKey} (t : KeyTold text i r) where
   pub listing-end : r ≡ End → true ≡ keyList (saysAt text at)
   unfolding keyList all
   listing-end e = sym (go .same-list ∙ rw (t .on-end e))

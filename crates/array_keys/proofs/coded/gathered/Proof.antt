@@ -1,0 +1,33 @@
+use Rattle.array_keys.specs.Laws.Gathered.{Gathering, gathering}
+use Rattle.nodes.specs.Texts.{left}
+use Rattle.array_keys.proofs.coded.gathered.Statement.{statement}
+use Rattle.array_keys.proofs.coded.gathered.Tie as tie
+
+abbrev Inv-loop : tie.InvT-loop
+Inv-loop text at₀ held₀ bytes₀ at held bytes = Gathering text at₀ held₀ bytes₀ at held bytes
+
+abbrev μ-loop : tie.MeasureT-loop
+μ-loop text at₀ held₀ bytes₀ at held bytes = left text at
+
+pub gathered-spec : {M : Type 1} → statement M
+gathered-spec =
+    tie.close
+    (tie.spec
+    Inv-loop
+    μ-loop
+    (λ c κs. search gathering)
+    (λ c. search gathering)
+    (λ c κs. search gathering)
+    (λ c. search gathering)
+    (λ c κs. search gathering)
+    (λ c. search gathering)
+    (λ c. search gathering)
+    (λ c. search gathering)
+    (λ c. search gathering)
+    (λ c κs. search gathering)
+    (λ c. search gathering)
+    (λ c. search gathering)
+    (λ c κs. search gathering)
+    (λ c. search gathering)
+    (λ c κs. search gathering)
+    (λ c. search gathering))

@@ -1,0 +1,15 @@
+use Rattle.array_keys.specs.Laws.Gathered.{turning}
+use Rattle.array_keys.proofs.fours.turned.Statement.{statement}
+use Rattle.array_keys.proofs.fours.turned.Tie as tie
+
+pub turned-spec : {M : Type 1} → statement M
+turned-spec =
+    tie.close
+    (tie.spec
+    (λ c. search turning)
+    (λ c. search turning)
+    (λ c. search turning)
+    (λ c. search turning)
+    (λ c. search turning)
+    (λ c. search turning)
+    (λ c. search turning))

@@ -1,0 +1,15 @@
+use Rattle.array_keys.specs.Laws.Ahead.{starting}
+use Rattle.array_keys.proofs.keys_start.Statement.{statement}
+use Rattle.array_keys.proofs.keys_start.Tie as tie
+
+pub keys-start-spec : {M : Type 1} → statement M
+keys-start-spec =
+    tie.close
+    (tie.spec
+    (λ c κs. search starting)
+    (λ c. search starting)
+    (λ c κs. search starting)
+    (λ c. search starting)
+    (λ c κs. search starting)
+    (λ c. search starting)
+    (λ c. search starting))
