@@ -2,7 +2,7 @@
 // any other in an array of the function's own, by ranges of keys that it has room for.
 
 // A key as a number that is not below 0, in the order of the keys.
-mod codes;
+pub mod codes;
 // Keys that rise, or fall.
 mod rising;
 // The keys of a range, and whether one of them stands twice.

@@ -41,7 +41,7 @@ read-in w = go (key w) refl
     go true h = rw h (right-in w h)
     go false h = rw h zero-in
 
-here-in : (text : List ℕ) (k : ℕ) → inKeys (keyHere text k) ≡ true
+pub here-in : (text : List ℕ) (k : ℕ) → inKeys (keyHere text k) ≡ true
 unfolding keyHere
 here-in text k = read-in (value-at-name text k (ascii "Key"))
 
@@ -62,7 +62,7 @@ same-test x y u v f g = go (eqb x y) refl
     go true h = h ∙ sym (eq-eqb u v (f (eqb-true x y h)))
     go false h = h ∙ sym (ne-eqb u v (λ e. eqb-false x y h (g e)))
 
-code-same : (a b : ℤ) → inKeys a ≡ true → inKeys b ≡ true → sameKey a b ≡ eqb (codeOf a) (codeOf b)
+pub code-same : (a b : ℤ) → inKeys a ≡ true → inKeys b ≡ true → sameKey a b ≡ eqb (codeOf a) (codeOf b)
 unfolding sameKey codeOf
 code-same (pos m) (pos n) h k = same-test m n (2147483648 + m) (2147483648 + n) (λ e. omega arith) (λ e. omega arith)
 code-same (pos m) (negsuc n) h k = sym (ne-eqb (2147483648 + m) (2147483647 - n) (λ e. omega arith))

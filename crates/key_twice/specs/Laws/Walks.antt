@@ -26,15 +26,15 @@ module _ (text : List ℕ) {kid kid₁ : Kid} {k : ℕ} (is-child : kid ≡ Chil
   pub walk-less : length (row text kid₁) < length (row text kid)
   walk-less = let z : length (row text kid) ≡ suc (length (row text kid₁)) = ap length (row-next text is-child e) in omega arith
 
-  come-more : toCome text kid ≡ codeHere text k ∷ toCome text kid₁
+  pub come-more : toCome text kid ≡ codeHere text k ∷ toCome text kid₁
   unfolding each
   come-more = ap (each (codeHere text)) (row-next text is-child e)
 
-come-first : (text : List ℕ) (at : ℕ) {kid : Kid} → kid ≡ firstLabel text at → toCome text kid ≡ codesAt text at
+pub come-first : (text : List ℕ) (at : ℕ) {kid : Kid} → kid ≡ firstLabel text at → toCome text kid ≡ codesAt text at
 unfolding codesAt
 come-first text at e = ap (each (codeHere text)) (row-first text at e)
 
-come-done : (text : List ℕ) {kid : Kid} → kid ≡ Done → toCome text kid ≡ []
+pub come-done : (text : List ℕ) {kid : Kid} → kid ≡ Done → toCome text kid ≡ []
 unfolding each
 come-done text e = ap (each (codeHere text)) (row-done text e)
 

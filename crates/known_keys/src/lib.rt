@@ -1,0 +1,13 @@
+// Whether keys stand in the table of labels at a place, with no memory lent: the table's keys, as many at a time as there is room for, are
+// brought into their order, and each key is searched by halves.
+
+// Numbers brought into their order.
+mod order;
+// A number searched among numbers in order.
+mod search;
+// The keys of a table, so many at a time.
+mod turns;
+
+pub use search::place_in;
+pub use turns::Turn;
+pub use turns::taken;
