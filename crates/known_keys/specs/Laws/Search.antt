@@ -78,7 +78,13 @@ pub record Halfway (keys : List ℕ) (code low n : ℕ) : Type 0 where
   pub past : (k : ℕ) → low + n ≤ k → k < length keys → code < getD keys k 0
 
 pub halfway-start : {keys : List ℕ} (code : ℕ) → (inOrder keys ≡ true) × (0 < length keys) → Halfway keys code 0 (length keys)
-halfway-start code (o, h) = record { ordered = o; some = h; inside = omega arith; up-to = λ u. absurd (omega arith); past = λ k u v. absurd (omega arith) }
+halfway-start code (o, h) = record {
+  ordered = o;
+  some = h;
+  inside = omega arith;
+  up-to = λ u. absurd (omega arith);
+  past = λ k u v. absurd (omega arith);
+}
 
 module _ {keys : List ℕ} {code low n : ℕ} (go : Halfway keys code low n) where
   pub halfway-up : 1 < n → getD keys (low + n / 2) 0 ≤ code → Halfway keys code (low + n / 2) (n - n / 2)
@@ -148,7 +154,10 @@ pub placed-at : {keys : List ℕ} {code at : ℕ} → at < length keys → getD 
 placed-at {keys} {code} {at} h e = record { found = λ u. held code keys at h e; missed = λ u. absurd (omega arith) }
 
 pub placed-nowhere : {keys : List ℕ} {code at : ℕ} → Nearest keys code at → (getD keys at 0 ≡ code → ⊥) → Placed keys code (length keys)
-placed-nowhere {keys} {code} n h = record { found = λ u. absurd (omega arith); missed = λ u. refute (member code keys) (λ m. h (n .there m)) }
+placed-nowhere {keys} {code} n h = record {
+  found = λ u. absurd (omega arith);
+  missed = λ u. refute (member code keys) (λ m. h (n .there m));
+}
 
 pub placed-none : {keys : List ℕ} {code : ℕ} → length keys ≡ 0 → Placed keys code 0
 unfolding member

@@ -91,7 +91,8 @@ small-codes text (k ∷ l) =
 module _ {text : List ℕ} {from : Kid} {work : List ℕ} {n : ℕ} {next : Kid} (g : Gathered text from work n next) where
   pub codes-small : Within 0 4294967295 (take n work)
   codes-small =
-      all-within 0 4294967295 (take n work) (and-left (all (between 0 4294967295) (take n work)) (all (between 0 4294967295) (toCome text next))
+      all-within 0 4294967295 (take n work)
+      (and-left (all (between 0 4294967295) (take n work)) (all (between 0 4294967295) (toCome text next))
       (sym (all-append (between 0 4294967295) (take n work) (toCome text next)) ∙ ap (all (between 0 4294967295)) (g .parts)
       ∙ small-codes text (row text from)))
 
@@ -190,7 +191,8 @@ member-any c (y ∷ l) = go (eqb y c) (turned y c) (member-any c l)
     go true e on = rw (← e) (le-leb 1 (1 + count (λ z. eqb z c) l) (omega arith))
     go false e on = let z : 0 + count (λ z. eqb z c) l ≡ count (λ z. eqb z c) l = omega arith in rw (← e, z) on
 
-pub member-key : (k : ℤ) → inKeys k ≡ true → (text : List ℕ) (at : ℕ) → member (codeOf k) (codesAt text at) ≡ any (sameKey k) (keysAt text at)
+pub member-key : (k : ℤ) → inKeys k ≡ true → (text : List ℕ) (at : ℕ)
+    → member (codeOf k) (codesAt text at) ≡ any (sameKey k) (keysAt text at)
 unfolding codesAt codeHere keysAt
 member-key k h text at =
     member-any (codeOf k) (codesAt text at)

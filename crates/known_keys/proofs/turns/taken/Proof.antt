@@ -13,8 +13,8 @@ aggregate c =
 same-length : tie.Need-same-length
 same-length c =
     let turn = c .before .before .before .before .before .before .gather in
-    length-front (turn .last .1 .1 .0) (c .before .before .arrange .last .0) (turn .result .n) (c .before .before .arrange .ensures .reordered .long)
-    ∙ turn .kept .1 .1 .0
+    let order = c .before .before .arrange in
+    length-front (turn .last .1 .1 .0) (order .last .0) (turn .result .n) (order .ensures .reordered .long) ∙ turn .kept .1 .1 .0
 
 pub taken-spec : {M : Type 1} → statement M
 taken-spec =
