@@ -8,8 +8,8 @@ ghost use Rattle.known_keys.specs.Known.{Gathered, Taken};
 
 // So many keys, and the Label behind theirs.
 pub struct Turn {
-    n: usize,
-    next: Kid,
+    pub n: usize,
+    pub next: Kid,
 }
 
 // The codes of the keys from a Label on are written from the start, as many as there is room for.

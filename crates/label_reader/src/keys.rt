@@ -1,5 +1,6 @@
 // The keys of the label table of a dimension and an index, in text order.
 use super::before::number_before;
+use label_table::Filled;
 use label_table::fill_keys;
 use label_table::key_count;
 use map_names::named_there;
@@ -7,12 +8,6 @@ use nodes::Found;
 use records::Index;
 ghost use Rattle.cifti.specs.Labels.{Keys};
 ghost use Rattle.label_reader.specs.Keys.{WrittenTo};
-
-// The number of the refusal, or 0, and then how many keys were written.
-pub struct Filled {
-    pub number: u64,
-    pub count: usize,
-}
 
 // The keys of the table at `at`, where there is room for them.
 fn keys_from(text: &[u8], at: usize, keys: &mut [i32]) -> Filled

@@ -6,8 +6,8 @@ mod keys;
 // The name of a key, and where it stands in the text.
 mod names;
 
-pub use keys::Filled;
 pub use keys::label_keys;
+pub use label_table::Filled;
 pub use names::label_name;
 pub use names::label_name_number;
 pub use names::label_place;

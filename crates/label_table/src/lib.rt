@@ -5,6 +5,7 @@ pub mod labels;
 // The keys, counted and written into a lent slice; the label of a key.
 mod listed;
 
+pub use listed::Filled;
 pub use listed::fill_keys;
 pub use listed::key_count;
 pub use listed::label_with;

@@ -8,6 +8,12 @@ ghost use mathlib.Core.Path.{_≡_};
 ghost use lib.ListN.{length};
 ghost use Rattle.label_table.specs.Labels.{keysAt, filledWith, labelWith};
 
+// What those answer that write keys into a lent slice: the number of the refusal, or 0, and then how many keys were written.
+pub struct Filled {
+    pub number: u64,
+    pub count: usize,
+}
+
 // How many keys the table has.
 pub fn key_count(text: &[u8], at: usize) -> usize
     ensures { λ r. ⌜ r ≡ length (keysAt (now (text .entry)) at) ⌝ }

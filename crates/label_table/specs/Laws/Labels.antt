@@ -248,13 +248,13 @@ filledFrom zero ks s = filledWith ks s
 filledFrom (suc n) ks [] = []
 filledFrom (suc n) ks (x ∷ s) = x ∷ filledFrom n ks s
 
-from-none : (n : ℕ) (s : List ℤ) → filledFrom n [] s ≡ s
+pub from-none : (n : ℕ) (s : List ℤ) → filledFrom n [] s ≡ s
 unfolding filledFrom filledWith
 from-none zero s = refl
 from-none (suc n) [] = refl
 from-none (suc n) (x ∷ s) = ap (λ l. x ∷ l) (from-none n s)
 
-from-full : (n : ℕ) (ks s : List ℤ) → length s ≤ n → filledFrom n ks s ≡ s
+pub from-full : (n : ℕ) (ks s : List ℤ) → length s ≤ n → filledFrom n ks s ≡ s
 unfolding filledFrom filledWith
 from-full zero [] [] h = refl
 from-full zero (k ∷ ks) [] h = refl
@@ -262,7 +262,7 @@ from-full zero ks (x ∷ s) h = absurd (omega arith)
 from-full (suc n) ks [] h = refl
 from-full (suc n) ks (x ∷ s) h = ap (λ l. x ∷ l) (from-full n ks s (omega arith))
 
-from-more : (n : ℕ) (a : ℤ) (ks s : List ℤ) → n < length s → filledFrom n (a ∷ ks) s ≡ filledFrom (suc n) ks (set s n a)
+pub from-more : (n : ℕ) (a : ℤ) (ks s : List ℤ) → n < length s → filledFrom n (a ∷ ks) s ≡ filledFrom (suc n) ks (set s n a)
 unfolding filledFrom filledWith
 from-more zero a ks [] h = absurd (omega arith)
 from-more zero a ks (x ∷ s) h = refl
