@@ -6,7 +6,7 @@ use Prim.Native.String.{String}
 use Rattle.numbers.specs.Numbers.{whole, keyList}
 use Rattle.base64.specs.Base64.{coded}
 use Rattle.schema.specs.Schema.{anyValue, word, number, AttributeRow, required, optional, anyText, numbers, once, atMostOnce}
-use Rattle.schema.specs.Schema.{atLeastOnce, Case, _⇒_, always, chosen, chosenElse, child, anyOrder, inOrder, Row, branch, leaf}
+use Rattle.schema.specs.Schema.{atLeastOnce, Case, _⇒_, always, chosenElse, child, anyOrder, inOrder, Row, branch, leaf}
 use Rattle.schema.specs.Laws.Renamed.{rowNamed}
 use Rattle.cifti.specs.Rows.{ElementKind, metaData, labelTable, elementNumber, rows}
 

@@ -3,13 +3,9 @@ use mathlib.Core.Path.{_≡_, refl, sym, ap, _∙_, subst}
 use mathlib.Core.List.{List, [], _∷_, _++_, append-nil}
 use mathlib.Core.Option.{Option, some}
 use mathlib.Core.Option
-use mathlib.Core.Bool.{Bool, true, false, _&&_, _||_, cond, false≢true, true≢false}
-use Prim.Native.Nat.{ℕ}
-use Prim.Native.String.{String}
+use mathlib.Core.Bool.{Bool, true, false, _&&_, _||_, cond, false≢true}
 use native.Mathlib.Omega.{arith}
 use borrow.Author.Tests.{eqb-true, not-false}
-use lib.Dec.{eqb}
-use lib.ListN.{length}
 use Rattle.lists.specs.Lists.{all, count, those, eachIn}
 use Rattle.lists.specs.Laws.Booleans.{and-left, and-right, both-ways}
 use Rattle.grammar.specs.Bytes.{ascii}
@@ -18,19 +14,20 @@ use Rattle.grammar.specs.Look.{Word, is, nameOf, attributesOf, contentsOf, valu
 use Rattle.grammar.specs.Parser.{same}
 use Rattle.numbers.specs.Numbers.{whole, keyList}
 use Rattle.base64.specs.Base64.{coded}
-use Rattle.schema.specs.Schema.{anyValue, word, number, AttributeRow, required, optional, ChildRow, child, once, atMostOnce, always, anyOrder}
-use Rattle.schema.specs.Schema.{inOrder, branch, Case, kindOf, kindBy, kindChosen, kindAmong, orElse, everywhere, shaped, numbered}
+use Rattle.schema.specs.Schema.{anyValue, word, number, AttributeRow, required, optional, ChildRow, child, once, atMostOnce}
+use Rattle.schema.specs.Schema.{atLeastOnce, always, chosenElse, anyOrder}
+use Rattle.schema.specs.Schema.{inOrder, branch, kindOf, kindBy, kindChosen, kindAmong, orElse, shaped, numbered}
 use Rattle.schema.specs.Schema.{childShaped, standsSo}
 use Rattle.schema.specs.Laws.Renamed.{walk-named, shaped-named, numbered-named}
-use Rattle.schema.specs.Laws.Good.{Good, GoodAs, good-as, AllGood, one-good, good-head, good-tail, EachGood, those-good, good-children}
-use Rattle.schema.specs.Laws.Good.{row-met, in-form, text-in-form, not-both, One, one-good-of}
+use Rattle.schema.specs.Laws.Good.{Good, GoodAs, good-as, AllGood, none-left, one-good, good-children, row-met, in-form}
+use Rattle.schema.specs.Laws.Good.{text-in-form, not-both, One, one-good-of}
 use Rattle.cifti.specs.Rows.{ElementKind, metaData, labelTable, rows}
 use Rattle.cifti.specs.Laws.Tables.{keys-in-form}
 use Rattle.gifti.specs.Rows.{GiftiKind, ofCifti, gifti, plainArray, codedArray, otherArray, plainData, codedData, encodings, endians}
 use Rattle.gifti.specs.Rows.{arrayAttributes, arrayRow, giftiRows}
 use Rattle.gifti.specs.Arrays.{arraysOf, isCoded, dataOf, labelTables}
 use Rattle.gifti.specs.Conditions.{shapeWrong, numberWrong, encodingRead, arrayRead, arrayNotRead}
-use Rattle.gifti.specs.Held.{TableHeld, ArrayHeld, rootRows, ArraysAhead}
+use Rattle.gifti.specs.Held.{GoodTable, GoodArray, GoodArrays, no-array, one-array}
 
 -- the second of the rows is met
 second-met : {A : Type 0} (p : A → Bool) (x y : A) (l : List A) → all p (x ∷ y ∷ l) ≡ true → p y ≡ true
@@ -38,6 +35,14 @@ unfolding all
 second-met p x y l h = and-left (p y) (all p l) (and-right (p x) (p y && all p l) h)
 
 -- ---- The root.
+
+-- the rows of its children
+abbrev rootRows : List (ChildRow GiftiKind)
+rootRows =
+    child "MetaData" atMostOnce (always (ofCifti metaData))
+    ∷ child "LabelTable" once (always (ofCifti labelTable))
+    ∷ child "DataArray" atLeastOnce (chosenElse "Encoding" encodings otherArray)
+    ∷ []
 
 pub good-root : (e : Element) → shapeWrong e ≡ false → numberWrong e ≡ false → Good giftiRows gifti e
 unfolding shapeWrong numberWrong
@@ -54,7 +59,7 @@ module _ {e : Element} (g : Good giftiRows gifti e) where
   pub said-in-form : whole 0 9999999 (attr "NumberOfDataArrays" e) ≡ true
   said-in-form = in-form g _ _ _ root-row 1 (omega arith) "NumberOfDataArrays" (whole 0 9999999) refl
 
-  pub root-children : AllGood giftiRows rootRows (elements (contentsOf e))
+  root-children : AllGood giftiRows rootRows (elements (contentsOf e))
   root-children = good-children g _ _ _ root-row
 
 -- ---- The table.
@@ -83,11 +88,11 @@ module _ {e : Element} (g : Good giftiRows gifti e) where
   unfolding childShaped standsSo
   one-table = eqb-true _ _ (second-met (childShaped (elements (contentsOf e))) _ _ _ (row-met g _ _ _ root-row))
 
-  pub table-held : TableHeld e
+  pub good-table : GoodTable e
   unfolding labelTables children
-  table-held =
+  good-table =
       let o = one-good-of "LabelTable" (ofCifti labelTable) rootRows table-kind (elements (contentsOf e)) (root-children g) one-table in
-      record { table = o .one; only = o .alone; keys = keys-in-form (of-cifti (o .good)) }
+      record { table = o .one; one-table = o .alone; keys-right = keys-in-form (of-cifti (o .good)) }
 
 -- ---- An array: the Data that it holds.
 
@@ -113,7 +118,8 @@ one-data k {j} {a} s g row =
     one-good-of "Data" k (arrayRows k) (data-kind k) (elements (contentsOf a)) (good-children g _ _ _ row)
     (eqb-true _ _ (second-met (childShaped (elements (contentsOf a))) _ _ _ (row-met g _ _ _ row)))
 
-data-of : (a d : Element) → children "Data" a ≡ d ∷ [] → dataOf a ≡ textOf d
+-- what the array's one Data writes
+pub data-of : (a d : Element) → children "Data" a ≡ d ∷ [] → dataOf a ≡ textOf d
 unfolding dataOf eachIn
 data-of a d h = rw h (append-nil (textOf d))
 
@@ -127,29 +133,27 @@ coded-row : giftiRows codedArray ≡ branch (required "Endian" (word endians) �
 unfolding giftiRows arrayRow
 coded-row = refl
 
-plain-held : {a : Element} → Good giftiRows plainArray a → isCoded a ≡ false → ArrayHeld a
+good-plain : {a : Element} → Good giftiRows plainArray a → isCoded a ≡ false → GoodArray a
 unfolding arrayAttributes giftiRows
-plain-held {a} g c =
+good-plain {a} g c =
     let o = one-data plainData _ g plain-row in
     record {
-      holds = o .one;
-      only = o .alone;
-      written = data-of a (o .one) (o .alone);
-      size = in-form g _ _ _ plain-row 5 (omega arith) "Dim0" (whole 1 1048576) refl;
-      numbers = λ _. text-in-form (o .good) [] keyList refl;
+      held = o .one;
+      one-data = o .alone;
+      length-said = in-form g _ _ _ plain-row 5 (omega arith) "Dim0" (whole 1 1048576) refl;
+      plain = λ _. text-in-form (o .good) [] keyList refl;
       bytes = λ t. both-ways t c;
     }
 
-coded-held : {a : Element} → Good giftiRows codedArray a → isCoded a ≡ true → ArrayHeld a
+good-coded : {a : Element} → Good giftiRows codedArray a → isCoded a ≡ true → GoodArray a
 unfolding arrayAttributes giftiRows
-coded-held {a} g c =
+good-coded {a} g c =
     let o = one-data codedData _ g coded-row in
     record {
-      holds = o .one;
-      only = o .alone;
-      written = data-of a (o .one) (o .alone);
-      size = in-form g _ _ _ coded-row 6 (omega arith) "Dim0" (whole 1 1048576) refl;
-      numbers = λ f. both-ways c f;
+      held = o .one;
+      one-data = o .alone;
+      length-said = in-form g _ _ _ coded-row 6 (omega arith) "Dim0" (whole 1 1048576) refl;
+      plain = λ f. both-ways c f;
       bytes = λ _. text-in-form (o .good) [] coded refl;
     }
 
@@ -170,9 +174,9 @@ none-read : (is "ASCII" [] ≡ false) × (is "Base64Binary" [] ≡ false)
 unfolding is same
 none-read = (refl, refl)
 
-array-held : (a : Element) → GoodAs giftiRows rootRows a → is "DataArray" (nameOf a) ≡ true → arrayRead a ≡ true → ArrayHeld a
+good-array : (a : Element) → GoodAs giftiRows rootRows a → is "DataArray" (nameOf a) ≡ true → arrayRead a ≡ true → GoodArray a
 unfolding kindOf kindBy kindChosen kindAmong orElse encodings arrayRead encodingRead isCoded has attr orEmpty
-array-held a (good-as {k} q g) n h = go (valueIn "Encoding" (attributesOf a)) refl chosen-so (and-left _ _ h)
+good-array a (good-as {k} q g) n h = go (valueIn "Encoding" (attributesOf a)) refl chosen-so (and-left _ _ h)
   where
     chosen-so : orElse otherArray (kindChosen encodings (valueIn "Encoding" (attributesOf a))) ≡ some k
     chosen-so = rw (
@@ -185,40 +189,35 @@ array-held a (good-as {k} q g) n h = go (valueIn "Encoding" (attributesOf a)) re
     coded-so v p = ap (λ o. is "Base64Binary" (orEmpty o)) p
 
     pick : (v : Word) → valueIn "Encoding" (attributesOf a) ≡ some v → (b c : Bool) → is "ASCII" v ≡ b → is "Base64Binary" v ≡ c
-        → orElse otherArray (cond b (some plainArray) (cond c (some codedArray) Option.none)) ≡ some k → (b || c) ≡ true → ArrayHeld a
+        → orElse otherArray (cond b (some plainArray) (cond c (some codedArray) Option.none)) ≡ some k → (b || c) ≡ true → GoodArray a
     pick v p true c x y r t =
         let z : k ≡ plainArray = cc in
-        plain-held (subst (λ (i : GiftiKind). Good giftiRows i a) z g)
+        good-plain (subst (λ (i : GiftiKind). Good giftiRows i a) z g)
         (coded-so v p ∙ not-both "ASCII" "Base64Binary" v x coded-ascii)
     pick v p false true x y r t = let z : k ≡ codedArray = cc in
-        coded-held (subst (λ (i : GiftiKind). Good giftiRows i a) z g) (coded-so v p ∙ y)
+        good-coded (subst (λ (i : GiftiKind). Good giftiRows i a) z g) (coded-so v p ∙ y)
     pick v p false false x y r t = absurd (false≢true t)
 
     go : (o : Option Word) → valueIn "Encoding" (attributesOf a) ≡ o → orElse otherArray (kindChosen encodings o) ≡ some k
-        → (is "ASCII" (orEmpty o) || is "Base64Binary" (orEmpty o)) ≡ true → ArrayHeld a
+        → (is "ASCII" (orEmpty o) || is "Base64Binary" (orEmpty o)) ≡ true → GoodArray a
     go Option.none p r t = both-ways t (rw (none-read .0, none-read .1) refl)
     go (some v) p r t = pick v p (is "ASCII" v) (is "Base64Binary" v) refl refl r t
 
--- ---- The arrays, as a walk over the root's children meets them.
+-- ---- The arrays of the root.
 
-pub arrays-ahead : {e : Element} → Good giftiRows gifti e → arrayNotRead e ≡ false → ArraysAhead (elements (contentsOf e))
+arrays-good : (l : List Element) → AllGood giftiRows rootRows l → all arrayRead (those (λ d. is "DataArray" (nameOf d)) l) ≡ true
+    → GoodArrays (those (λ d. is "DataArray" (nameOf d)) l)
+unfolding those all
+arrays-good [] none-left h = no-array
+arrays-good (a ∷ l) (one-good g m) h = go (is "DataArray" (nameOf a)) refl h (arrays-good l m)
+  where
+    go : (b : Bool) → is "DataArray" (nameOf a) ≡ b
+        → all arrayRead (cond b (a ∷ those (λ d. is "DataArray" (nameOf d)) l) (those (λ d. is "DataArray" (nameOf d)) l)) ≡ true
+        → (all arrayRead (those (λ d. is "DataArray" (nameOf d)) l) ≡ true → GoodArrays (those (λ d. is "DataArray" (nameOf d)) l))
+        → GoodArrays (cond b (a ∷ those (λ d. is "DataArray" (nameOf d)) l) (those (λ d. is "DataArray" (nameOf d)) l))
+    go true n k on = one-array (good-array a g n (and-left _ _ k)) (on (and-right (arrayRead a) _ k))
+    go false n k on = on k
+
+pub good-arrays : {e : Element} → Good giftiRows gifti e → arrayNotRead e ≡ false → GoodArrays (arraysOf e)
 unfolding arrayNotRead arraysOf children
-arrays-ahead g h = record { good = root-children g; read = not-false _ h }
-
-module _ {a : Element} {l : List Element} (h : ArraysAhead (a ∷ l)) where
-  split : (b : Bool) → is "DataArray" (nameOf a) ≡ b
-      → all arrayRead (cond b (a ∷ those (λ d. is "DataArray" (nameOf d)) l) (those (λ d. is "DataArray" (nameOf d)) l)) ≡ true
-  unfolding those
-  split b p = rw p at (h .read)
-
-  pub held-here : is "DataArray" (nameOf a) ≡ true → ArrayHeld a
-  unfolding all
-  held-here n = array-held a (good-head (h .good)) n (and-left _ _ (split true n))
-
-  pub held-behind : ArraysAhead l
-  unfolding all
-  held-behind = record { good = good-tail (h .good); read = go (is "DataArray" (nameOf a)) refl }
-    where
-      go : (b : Bool) → is "DataArray" (nameOf a) ≡ b → all arrayRead (those (λ d. is "DataArray" (nameOf d)) l) ≡ true
-      go true p = and-right (arrayRead a) _ (split true p)
-      go false p = split false p
+good-arrays {e} g h = arrays-good (elements (contentsOf e)) (root-children g) (not-false _ h)

@@ -87,7 +87,9 @@ module _ {text : List ℕ} {at n : ℕ} (j : JudgedGifti text at n) where
 
           pub root-number : (n ≡ 0 → ⊥) → (o : GiftiOpening) → o .number ≡ 7 → o .root ≡ 0 → OpensRoot text at o
           unfolding rootNumber
-          root-number z o q m = refuses o (λ x. omega arith) m (rw (sym p ∙ f, shaped, sym r ∙ d, number-by (shapeWrong e) (numberWrong e) fault-so s z) q)
+          root-number z o q m =
+              refuses o (λ x. omega arith) m
+              (rw (sym p ∙ f, shaped, sym r ∙ d, number-by (shapeWrong e) (numberWrong e) fault-so s z) q)
 
 pub ruleset rooted = (root-stands, root-wrong, root-shape, root-unread, root-passes, root-number, needs)
 
