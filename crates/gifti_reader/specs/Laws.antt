@@ -1,0 +1,6 @@
+pub mod Tally
+pub mod Array
+pub mod Arrays
+pub mod Search
+pub mod Number
+pub mod Keys
