@@ -6,6 +6,7 @@ use mathlib.Core.Option
 use mathlib.Core.Bool.{Bool, true, false, cond}
 use Prim.Native.Nat.{ℕ, zero, suc, _+_, _*_, _/_, _%_, _^_, _<_, _≤_}
 use lib.Dec.{eqb}
+use lib.ListN.{length}
 use Rattle.grammar.specs.Look.{Word}
 use Rattle.nodes.specs.Texts.{saysAt, left}
 use Rattle.nodes.specs.declared.Char.{Char}
@@ -36,6 +37,10 @@ lowBytes (suc n) v = (v / 256 ^ n % 256) ∷ lowBytes n v
 unfoldable pub prefixed : List ℕ → Option (List ℕ) → Option (List ℕ)
 prefixed l Option.none = Option.none
 prefixed l (some k) = some (l ++ k)
+
+-- the 24 bits of four values; 16777216 where one of the four is no value
+unfoldable pub bitsOf : (p q r s : ℕ) → ℕ
+bitsOf p q r s = cond (fourValues p q r s) (sixes p q r s) 16777216
 
 -- four letters by their values, the word behind them, and what it holds
 unfoldable pub fourRead : (p q r s : ℕ) → Word → Option (List ℕ) → Option (List ℕ)
@@ -87,3 +92,8 @@ pub record LastTold (whole : Option (List ℕ)) (at : ℕ) (r : Group) : Type 0 
   pub on-bytes : {v n j : ℕ} → r ≡ Bytes v n j → Lasts whole at v n j
   pub on-end : r ≡ End → ⊥
   pub on-bad : r ≡ Bad → whole ≡ Option.none
+
+-- the 24 bits of four plain letters; 16777216 says nothing
+pub record Quick (text : List ℕ) (at n : ℕ) : Type 0 where
+  pub told : n < 16777216 → GroupTold text at (Bytes n 3 (at + 4))
+  pub inside : n < 16777216 → at + 4 ≤ length text

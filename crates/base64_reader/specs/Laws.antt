@@ -1,3 +1,4 @@
 pub mod Letters
 pub mod Groups
+pub mod Quick
 pub mod Texts

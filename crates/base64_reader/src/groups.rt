@@ -8,7 +8,7 @@ ghost use mathlib.Core.List.{[]};
 ghost use Prim.Native.Nat.{suc, _<_, _≤_};
 ghost use Rattle.nodes.specs.Texts.{saysAt, left};
 ghost use Rattle.base64.specs.Base64.{unblanked, oneByte, twoBytes, ending};
-ghost use Rattle.base64_reader.specs.Groups.{LastTold, FourTold, GroupTold};
+ghost use Rattle.base64_reader.specs.Groups.{bitsOf, LastTold, FourTold, GroupTold, Quick};
 
 // One byte in 24 bits, the others being 0.
 fn one_byte(bits: u64, at: usize) -> Group
@@ -51,6 +51,16 @@ fn last_of(p: u64, q: u64, r: u64, at: usize) -> Group
     two_bytes(p * 262144 + q * 4096 + r * 64, at)
 }
 
+// The 24 bits of four values; 16777216 where one of the four is no value.
+fn bits_of(p: u64, q: u64, r: u64, s: u64) -> u64
+    ensures { λ n. ⌜ n ≡ bitsOf p q r s ⌝ }
+{
+    if (64 <= p) | ((64 <= q) | ((64 <= r) | (64 <= s))) {
+        return 16777216;
+    }
+    p * 262144 + q * 4096 + r * 64 + s
+}
+
 // Four letters by their values, `at` behind them.
 fn group_of(text: &[u8], p: u64, q: u64, r: u64, s: u64, at: usize) -> Group
     ensures { λ g. ⌜ FourTold (now (text .entry)) p q r s at g ⌝ }
@@ -65,14 +75,15 @@ fn group_of(text: &[u8], p: u64, q: u64, r: u64, s: u64, at: usize) -> Group
             }
         }
     }
-    if (64 <= p) | ((64 <= q) | ((64 <= r) | (64 <= s))) {
-        return Group::Bad;
+    let bits = bits_of(p, q, r, s);
+    if bits < 16777216 {
+        return Group::Bytes(bits, 3, at);
     }
-    Group::Bytes(p * 262144 + q * 4096 + r * 64 + s, 3, at)
+    Group::Bad
 }
 
 // The next four letters, whatever stands between them.
-pub fn group_at(text: &[u8], at: usize) -> Group
+fn any_group(text: &[u8], at: usize) -> Group
     ensures { λ g. ⌜ GroupTold (now (text .entry)) at g ⌝ }
 {
     match next_letter(text, at) {
@@ -95,4 +106,33 @@ pub fn group_at(text: &[u8], at: usize) -> Group
         },
         Char::End => Group::End,
     }
+}
+
+// The 24 bits of four plain letters at `at`, those that stand in the text as they are; 16777216 where there are none.
+fn quick_bits(text: &[u8], at: usize) -> u64
+    ensures { λ n. ⌜ Quick (now (text .entry)) at n ⌝ }
+{
+    if text.len() < 4 {
+        return 16777216;
+    }
+    if text.len() - 4 < at {
+        return 16777216;
+    }
+    bits_of(
+        value_of(text[at]),
+        value_of(text[at + 1]),
+        value_of(text[at + 2]),
+        value_of(text[at + 3]),
+    )
+}
+
+// The next four letters: plain bytes first.
+pub fn group_at(text: &[u8], at: usize) -> Group
+    ensures { λ g. ⌜ GroupTold (now (text .entry)) at g ⌝ }
+{
+    let bits = quick_bits(text, at);
+    if bits < 16777216 {
+        return Group::Bytes(bits, 3, at + 4);
+    }
+    any_group(text, at)
 }

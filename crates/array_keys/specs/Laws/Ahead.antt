@@ -1,5 +1,5 @@
 -- Where a text is in form, its keys are those ahead of its start.
-use mathlib.Core.Path.{_≡_, refl, sym, ap, _∙_}
+use mathlib.Core.Path.{_≡_, refl, sym, ap, subst, _∙_}
 use mathlib.Core.List.{List, [], _∷_, _++_}
 use mathlib.Core.Option.{Option, some}
 use mathlib.Core.Option
@@ -174,3 +174,22 @@ module _ {encoding : Encoding} {text : List ℕ} {from : KeyPlace} {r : NextKey}
   next-little e t = rw e t
 
 pub ruleset choosing = (next-plain, next-big, next-little, needs)
+
+-- ---- What each answer says of the keys ahead.
+
+pub record Handed (encoding : Encoding) (text : List ℕ) (p : KeyPlace) (z : ℤ) (q : KeyPlace) : Type 0 where
+  pub splits : keysAhead encoding text p ≡ z ∷ keysAhead encoding text q
+  pub less : keysLeft text q < keysLeft text p
+
+module _ {encoding : Encoding} {text : List ℕ} {p : KeyPlace} {r : NextKey} (t : KeyTold encoding text p r) where
+  pub key-law : {z : ℤ} {q : KeyPlace} → r ≡ Key z q → Handed encoding text p z q
+  key-law {z} {q} e = by (subst (λ (x : NextKey). KeyTold encoding text p x) e t)
+    where
+      by : KeyTold encoding text p (Key z q) → Handed encoding text p z q
+      by (told-key h k) = record { splits = h; less = k }
+
+  pub end-law : r ≡ End → keysAhead encoding text p ≡ []
+  end-law e = by (subst (λ (x : NextKey). KeyTold encoding text p x) e t)
+    where
+      by : KeyTold encoding text p End → keysAhead encoding text p ≡ []
+      by (told-end h) = h

@@ -9,14 +9,15 @@ use native.Mathlib.Omega.{arith}
 use lib.Dec.{eqb, ltb, leb}
 use borrow.Author.Needs.{needs}
 use borrow.Author.Tests.{eqb-true, eq-eqb, ne-eqb, lt-ltb, le-ltb, leb-true, leb-false}
-use Rattle.lists.specs.Laws.Booleans.{clash, or-left, or-right, or-elim}
+use Rattle.lists.specs.Laws.Booleans.{clash, and-halves}
 use Rattle.grammar.specs.Look.{Word}
 use Rattle.nodes.specs.Texts.{saysAt, left}
 use Rattle.nodes.specs.declared.Char.{Char}
 use Rattle.nodes.specs.declared.Char.the-variants as chars
 use Rattle.base64.specs.Base64.{worth, isValue, sixes, three, threeMore, oneByte, twoBytes, ending, fourValues, decode}
 use Rattle.base64.specs.Fours.{bytesOr}
-use Rattle.base64_reader.specs.Groups.{lettersAt, Letter, LetterTold, lowBytes, prefixed, fourRead, fourAhead, bytesAhead}
+use Rattle.base64.specs.Laws.Letters.{value-below, is-value as a-value}
+use Rattle.base64_reader.specs.Groups.{lettersAt, Letter, LetterTold, lowBytes, prefixed, bitsOf, fourRead, fourAhead, bytesAhead}
 use Rattle.base64_reader.specs.Groups.{Taken, Told, GroupTold, FourTold, Lasts, LastTold}
 use Rattle.base64_reader.specs.declared.Group.{Group}
 use Rattle.base64_reader.specs.declared.Group.the-variants.{Bytes, End, Bad}
@@ -72,10 +73,6 @@ pub ruleset spare = (one-wrong, one-right, two-wrong, two-right, needs)
 no-value : (v : ℕ) → 64 ≤ v → isValue v ≡ false
 unfolding isValue
 no-value v h = le-ltb v 64 h
-
-a-value : (v : ℕ) → v < 64 → isValue v ≡ true
-unfolding isValue
-a-value v h = lt-ltb v 64 h
 
 module _ (p q r at : ℕ) where
   pub last-first : 64 ≤ p → LastTold (ending p q r []) at Bad
@@ -147,6 +144,91 @@ module _ (n : ℕ) (h : n < 16777216) where
   three-prefixed Option.none = refl
   three-prefixed (some l) = ap some (three-low l)
 
+-- ---- The bits of four values.
+
+flip : (v : ℕ) → isValue v ≡ not (leb 64 v)
+flip v = go (leb 64 v) refl
+  where
+    go : (t : Bool) → leb 64 v ≡ t → isValue v ≡ not t
+    go true k = no-value v (leb-true 64 v k)
+    go false k = a-value v (leb-false 64 v k)
+
+none-of : (a b c d : Bool) → not (a || (b || (c || d))) ≡ (not a && (not b && (not c && not d)))
+none-of true b c d = refl
+none-of false true c d = refl
+none-of false false true d = refl
+none-of false false false d = refl
+
+four-tested : (p q r s : ℕ) → fourValues p q r s ≡ not (leb 64 p || (leb 64 q || (leb 64 r || leb 64 s)))
+unfolding fourValues
+four-tested p q r s = rw (flip p, flip q, flip r, flip s) (sym (none-of (leb 64 p) (leb 64 q) (leb 64 r) (leb 64 s)))
+
+pub record Values (p q r s n : ℕ) : Type 0 where
+  pub first : p < 64
+  pub second : q < 64
+  pub third : r < 64
+  pub fourth : s < 64
+  pub values : fourValues p q r s ≡ true
+  pub bits : n ≡ sixes p q r s
+
+module _ (p q r s : ℕ) where
+  below : fourValues p q r s ≡ true → {n : ℕ} → n ≡ sixes p q r s → Values p q r s n
+  unfolding fourValues
+  below h e =
+      let (a, x) = and-halves (isValue p) (isValue q && (isValue r && isValue s)) h in
+      let (b, y) = and-halves (isValue q) (isValue r && isValue s) x in
+      let (c, d) = and-halves (isValue r) (isValue s) y in
+      record { first = value-below p a; second = value-below q b; third = value-below r c; fourth = value-below s d; values = h; bits = e }
+
+  module _ {n : ℕ} (en : n ≡ bitsOf p q r s) where
+    pub bits-some : n < 16777216 → Values p q r s n
+    unfolding bitsOf
+    bits-some h = go (fourValues p q r s) refl en
+      where
+        go : (t : Bool) → fourValues p q r s ≡ t → n ≡ cond t (sixes p q r s) 16777216 → Values p q r s n
+        go true k e = below k e
+        go false k e = absurd (omega arith)
+
+    pub bits-none : 16777216 ≤ n → fourValues p q r s ≡ false
+    unfolding bitsOf sixes
+    bits-none h = go (fourValues p q r s) refl en
+      where
+        go : (t : Bool) → fourValues p q r s ≡ t → n ≡ cond t (sixes p q r s) 16777216 → fourValues p q r s ≡ false
+        go true k e = let b = below k e in absurd (omega (arith, b .first, b .second, b .third, b .fourth))
+        go false k e = k
+
+  pub bits-wrong : (leb 64 p || (leb 64 q || (leb 64 r || leb 64 s))) ≡ true → 16777216 ≡ bitsOf p q r s
+  unfolding bitsOf
+  bits-wrong h = rw (four-tested p q r s ∙ ap not h) refl
+
+  module _ (h : (leb 64 p || (leb 64 q || (leb 64 r || leb 64 s))) ≡ false) where
+    are : Values p q r s (sixes p q r s)
+    are = below (four-tested p q r s ∙ ap not h) refl
+
+    pub bits-right : p * 262144 + q * 4096 + r * 64 + s ≡ bitsOf p q r s
+    unfolding bitsOf sixes
+    bits-right = rw (are .values) refl
+
+    pub bits-p : p * 262144 < 2 ^ 64
+    bits-p = omega (arith, are .first)
+
+    pub bits-q : q * 4096 < 2 ^ 64
+    bits-q = omega (arith, are .second)
+
+    pub bits-r : r * 64 < 2 ^ 64
+    bits-r = omega (arith, are .third)
+
+    pub bits-pq : p * 262144 + q * 4096 < 2 ^ 64
+    bits-pq = omega (arith, are .first, are .second)
+
+    pub bits-pqr : p * 262144 + q * 4096 + r * 64 < 2 ^ 64
+    bits-pqr = omega (arith, are .first, are .second, are .third)
+
+    pub bits-all : p * 262144 + q * 4096 + r * 64 + s < 2 ^ 64
+    bits-all = omega (arith, are .first, are .second, are .third, are .fourth)
+
+pub ruleset bits = (bits-wrong, bits-right, bits-p, bits-q, bits-r, bits-pq, bits-pqr, bits-all, needs)
+
 module _ (text : List ℕ) (p q r s at : ℕ) where
   module _ (pad : s ≡ 65) {c : Char} (t : LetterTold text at c) where
     pub four-more : {b j : ℕ} → c ≡ chars.Byte b j → FourTold text p q r s at Bad
@@ -172,76 +254,26 @@ module _ (text : List ℕ) (p q r s at : ℕ) where
           on-bad = λ k. (rw (x, nothing) (h .on-bad k), rw (x, nothing, h .on-bad k) refl);
         }
 
-  module _ (n : s ≡ 65 → ⊥) where
-    pub four-wrong : (leb 64 p || (leb 64 q || (leb 64 r || leb 64 s))) ≡ true → FourTold text p q r s at Bad
-    unfolding fourRead fourAhead fourValues
-    four-wrong h = told-bad (rw (ne-eqb s 65 n, no) refl) (rw (ne-eqb s 65 n, no) refl)
-      where
-        flip : (v : ℕ) → isValue v ≡ not (leb 64 v)
-        flip v = go (leb 64 v) refl
-          where
-            go : (t : Bool) → leb 64 v ≡ t → isValue v ≡ not t
-            go true k = no-value v (leb-true 64 v k)
-            go false k = a-value v (leb-false 64 v k)
+  module _ {n : ℕ} (en : n ≡ bitsOf p q r s) where
+    pub four-wrong : (s ≡ 65 → ⊥) → 16777216 ≤ n → FourTold text p q r s at Bad
+    unfolding fourRead fourAhead
+    four-wrong k h = let no = bits-none p q r s en h in told-bad (rw (ne-eqb s 65 k, no) refl) (rw (ne-eqb s 65 k, no) refl)
 
-        one : (a b c d : Bool) → (a || (b || (c || d))) ≡ true → (not a && (not b && (not c && not d))) ≡ false
-        one true b c d k = refl
-        one false true c d k = refl
-        one false false true d k = refl
-        one false false false d k = ap not k
+    pub four-right : n < 16777216 → FourTold text p q r s at (Bytes n 3 at)
+    unfolding fourRead fourAhead
+    four-right h =
+        let b = bits-some p q r s en h in
+        let no-pad : eqb s 65 ≡ false = ne-eqb s 65 (λ e. omega (arith, b .fourth)) in
+        told-bytes (record {
+          some-read = omega arith;
+          few = omega arith;
+          small = h;
+          spelled = rw (no-pad, b .values, sym (b .bits)) (three-prefixed n h (decode (lettersAt text at)));
+          bytes = rw (no-pad, b .values, sym (b .bits)) (three-low n h (bytesAhead (lettersAt text at)));
+          less = omega arith;
+        })
 
-        no : fourValues p q r s ≡ false
-        no = rw (flip p, flip q, flip r, flip s) (one (leb 64 p) (leb 64 q) (leb 64 r) (leb 64 s) h)
-
-    module _ (h : (leb 64 p || (leb 64 q || (leb 64 r || leb 64 s))) ≡ false) where
-      p-below : p < 64
-      p-below = leb-false 64 p (or-left (leb 64 p) _ h)
-
-      q-below : q < 64
-      q-below = leb-false 64 q (or-left (leb 64 q) _ (or-right (leb 64 p) _ h))
-
-      r-below : r < 64
-      r-below = leb-false 64 r (or-left (leb 64 r) _ (or-right (leb 64 q) _ (or-right (leb 64 p) _ h)))
-
-      s-below : s < 64
-      s-below = leb-false 64 s (or-right (leb 64 r) _ (or-right (leb 64 q) _ (or-right (leb 64 p) _ h)))
-
-      values : fourValues p q r s ≡ true
-      unfolding fourValues
-      values = rw (a-value p p-below, a-value q q-below, a-value r r-below, a-value s s-below) refl
-
-      pub four-right : FourTold text p q r s at (Bytes (p * 262144 + q * 4096 + r * 64 + s) 3 at)
-      unfolding fourRead fourAhead sixes
-      four-right =
-          let small : p * 262144 + q * 4096 + r * 64 + s < 16777216 = omega (arith, p-below, q-below, r-below, s-below) in
-          told-bytes (record {
-            some-read = omega arith;
-            few = omega arith;
-            small = small;
-            spelled = rw (ne-eqb s 65 n, values) (three-prefixed _ small (decode (lettersAt text at)));
-            bytes = rw (ne-eqb s 65 n, values) (three-low _ small (bytesAhead (lettersAt text at)));
-            less = omega arith;
-          })
-
-      pub four-p : p * 262144 < 2 ^ 64
-      four-p = omega (arith, p-below)
-
-      pub four-q : q * 4096 < 2 ^ 64
-      four-q = omega (arith, q-below)
-
-      pub four-r : r * 64 < 2 ^ 64
-      four-r = omega (arith, r-below)
-
-      pub four-pq : p * 262144 + q * 4096 < 2 ^ 64
-      four-pq = omega (arith, p-below, q-below)
-
-      pub four-pqr : p * 262144 + q * 4096 + r * 64 < 2 ^ 64
-      four-pqr = omega (arith, p-below, q-below, r-below)
-
-      pub four-all : p * 262144 + q * 4096 + r * 64 + s < 2 ^ 64
-      four-all = omega (arith, p-below, q-below, r-below, s-below)
-
-pub ruleset fours = (four-more, four-last, four-wrong, four-right, four-p, four-q, four-r, four-pq, four-pqr, four-all, needs)
+pub ruleset fours = (four-more, four-last, four-wrong, four-right, needs)
 
 -- ---- The letters themselves.
 
