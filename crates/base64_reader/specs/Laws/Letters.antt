@@ -1,12 +1,12 @@
 -- The next letter that is no blank, and the value of a letter.
 use mathlib.Core.Path.{_≡_, refl, sym, ap, _∙_}
 use mathlib.Core.List.{List, [], _∷_, _++_}
-use mathlib.Core.Bool.{Bool, true, false, not, cond}
+use mathlib.Core.Bool.{Bool, true, false, _||_, not, cond}
 use Prim.Native.Nat.{ℕ, zero, suc, _+_, _-_, _^_, _<_, _≤_}
 use native.Mathlib.Omega.{arith}
 use borrow.Author.Needs.{needs}
-use borrow.Author.Tests.{not-true, not-false, leb-true}
-use lib.Dec.{leb}
+use borrow.Author.Tests.{not-true, not-false, eqb-true, leb-true, le-ltb}
+use lib.Dec.{eqb, ltb, leb}
 use lib.ListN.{getD}
 use Rattle.lists.specs.Lists.{those, table, allBelow}
 use Rattle.lists.specs.Quantifiers.{allBelow-iff}
@@ -73,15 +73,45 @@ module _ {text : List ℕ} {at i : ℕ} (go : Passing text at i) {c : Char} (ec 
 
 pub ruleset passing = (passing-start, passing-end, passing-less, passing-on, passing-letter, needs)
 
--- THE VALUE OF EACH BYTE
-small : allBelow 256 (λ b. leb (worth b) 65) ≡ true
+-- THE VALUE OF EACH BYTE: 64 below `+` and above `z`; of those between, from a table that has each 35 greater
+none-below : allBelow 43 (λ b. eqb (worth b) 64) ≡ true
 unfolding allBelow worth
-small = refl
+none-below = refl
 
-pub value-there : (b : ℕ) → b < 256 → getD (table 256 worth) b 0 ≡ worth b
-value-there b h = entry-of-table worth 0 256 b h
+none-above : allBelow 256 (λ b. ltb b 123 || eqb (worth b) 64) ≡ true
+unfolding allBelow worth
+none-above = refl
 
-pub value-fits : (b : ℕ) → b < 256 → getD (table 256 worth) b 0 < 2 ^ 64
-value-fits b h =
-    let k : worth b ≤ 65 = leb-true (worth b) 65 (allBelow-iff 256 (λ b. leb (worth b) 65) .0 small b h) in
-    rw (value-there b h) (omega arith)
+few : allBelow 256 (λ b. leb (worth b) 65) ≡ true
+unfolding allBelow worth
+few = refl
+
+pub value-low : (b : ℕ) → b < 43 → 64 ≡ worth b
+value-low b h = sym (eqb-true (worth b) 64 (allBelow-iff 43 (λ b. eqb (worth b) 64) .0 none-below b h))
+
+pub value-high : (b : ℕ) → b < 256 → 122 < b → 64 ≡ worth b
+value-high b h k =
+    let t = allBelow-iff 256 (λ b. ltb b 123 || eqb (worth b) 64) .0 none-above b h in
+    sym (eqb-true (worth b) 64 (rw (le-ltb b 123 k) at t))
+
+-- by how far a byte stands behind `+`
+unfoldable pub shifted : ℕ → ℕ
+shifted k = worth (k + 43) + 35
+
+module _ (b : ℕ) (low : 43 ≤ b) (high : b ≤ 122) where
+  there : getD (table 80 shifted) (b - 43) 0 ≡ worth b + 35
+  unfolding shifted
+  there =
+      let e : b - 43 + 43 ≡ b = omega arith in
+      entry-of-table shifted 0 80 (b - 43) (omega arith) ∙ ap (λ n. worth n + 35) e
+
+  pub value-big : 35 ≤ getD (table 80 shifted) (b - 43) 0
+  value-big = rw there (omega arith)
+
+  pub value-fits : getD (table 80 shifted) (b - 43) 0 - 35 < 2 ^ 64
+  value-fits =
+      let k : worth b ≤ 65 = leb-true (worth b) 65 (allBelow-iff 256 (λ b. leb (worth b) 65) .0 few b (omega arith)) in
+      rw there (omega arith)
+
+  pub value-is : getD (table 80 shifted) (b - 43) 0 - 35 ≡ worth b
+  value-is = rw there (omega arith)
