@@ -12,7 +12,7 @@ use Rattle.gifti.specs.Tests.Pieces.{cases, root, label, table, array, a
 -- its keys.
 
 abbrev marked : String → List ℕ
-marked s = ascii s
+marked s = ascii "<![CDATA[" ⊹ ascii s ⊹ ascii "]]>"
 
 abbrev md : (name value : String) → List ℕ
 md n v = ascii "<MD>\n<Name>" ⊹ marked n ⊹ ascii "</Name>\n<Value>" ⊹ marked v ⊹ ascii "</Value>\n</MD>\n"
@@ -24,7 +24,8 @@ colours k r g b n =
 
 abbrev example : (schema : List ℕ) (dim0 : String) → List ℕ
 example s d =
-    ascii "<?xml version=\"1.0\" encoding=\"UTF-8\"?>\n<GIFTI\n" ⊹ s
+    ascii "<?xml version=\"1.0\" encoding=\"UTF-8\"?>\n"
+    ⊹ ascii "<!DOCTYPE GIFTI SYSTEM \"http://www.nitrc.org/frs/download.php/1594/gifti.dtd\">\n<GIFTI\n" ⊹ s
     ⊹ ascii " Version=\"1.0\"\n NumberOfDataArrays=\"1\">\n<MetaData>\n" ⊹ md "date" "3 Nov 2009 11:08:27"
     ⊹ ascii "</MetaData>\n<LabelTable>\n" ⊹ colours "0" "0.667" "0.667" "0.667" "???" ⊹ colours "1" "1.000" "1.000" "0.000" "Positive"
     ⊹ colours "2" "0.008" "1.000" "1.000" "Negative" ⊹ ascii "</LabelTable>\n<DataArray Intent=\"NIFTI_INTENT_LABEL\"\n"
