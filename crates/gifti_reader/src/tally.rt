@@ -21,7 +21,8 @@ pub struct Tally {
 // The keys that the Data at `from` writes, against codes of keys in their order.
 pub(crate) fn count_keys(text: &[u8], from: usize, encoding: Encoding, codes: &[u64]) -> Tally
     requires { ⌜ inOrder (now codes) ≡ true ⌝ }
-    ensures { λ r. ⌜ Tallied (now (text .entry)) (keysAhead encoding (now (text .entry)) (keysStart (now (text .entry)) from)) (now (codes .entry)) r ⌝ }
+    ensures { λ r. ⌜ Tallied (now (text .entry)) (keysAhead encoding (now (text .entry)) (keysStart (now (text .entry)) from))
+        (now (codes .entry)) r ⌝ }
 {
     let mut keys = 0;
     let mut known = 0;

@@ -40,7 +40,8 @@ unfolding codesOf each
 codes-append [] l = refl
 codes-append (a ∷ k) l = ap (λ x. codeOf a ∷ x) (codes-append k l)
 
-pub known-append : (codes : List ℕ) (k l : List ℤ) → knownIn codes (codesOf (k ++ l)) ≡ knownIn codes (codesOf k) + knownIn codes (codesOf l)
+pub known-append : (codes : List ℕ) (k l : List ℤ)
+    → knownIn codes (codesOf (k ++ l)) ≡ knownIn codes (codesOf k) + knownIn codes (codesOf l)
 unfolding knownIn
 known-append codes k l = ap (count (λ c. member c codes)) (codes-append k l) ∙ count-append (λ c. member c codes) (codesOf k) (codesOf l)
 
@@ -62,7 +63,8 @@ rest-good (one-array g m) = m
 abbrev pub isArray : Element → Bool
 isArray d = is "DataArray" (nameOf d)
 
-pub record Summed (text : List ℕ) (e : Element) (codes : List ℕ) (arrays : ℕ) (fit : Bool) (keys known : ℕ) (l : List Element) : Type 0 where
+pub record Summed (text : List ℕ) (e : Element) (codes : List ℕ) (arrays : ℕ) (fit : Bool) (keys known : ℕ) (l : List Element)
+    : Type 0 where
   pub small : length text ≤ 16777216
   pub in-order : inOrder codes ≡ true
   pub good : GoodArrays (those isArray l)
@@ -247,4 +249,15 @@ module _ {text : List ℕ} {e : Element} {codes : List ℕ} {arrays : ℕ} {fit 
                     known-few = omega arith;
                   }
 
-pub ruleset walking = (walking-start, walking-done, walking-less, walking-other, walking-array, room-arrays, room-keys, room-known, walking-more, needs)
+pub ruleset walking = (
+  walking-start,
+  walking-done,
+  walking-less,
+  walking-other,
+  walking-array,
+  room-arrays,
+  room-keys,
+  room-known,
+  walking-more,
+  needs,
+)

@@ -71,7 +71,8 @@ unfolding keysBy
 no-keys zero i d k = absurd (k refl)
 no-keys (suc n) i d k = refl
 
-pub refused-so : (text : List ℕ) (i : ℕ) (keys : List ℤ) {n : ℕ} → (n ≡ 0 → ⊥) → n ≡ numberOf text i (length keys) → KeysOf text i keys n 0 keys
+pub refused-so : (text : List ℕ) (i : ℕ) (keys : List ℤ) {n : ℕ} → (n ≡ 0 → ⊥)
+    → n ≡ numberOf text i (length keys) → KeysOf text i keys n 0 keys
 unfolding numberOf keysTold keysGiven overwritten
 refused-so text i keys {n} k h =
     let none : keysTold text i (length keys) ≡ [] = ap (λ m. keysBy m i (parse text)) (sym h) ∙ no-keys n i (parse text) k in
@@ -116,7 +117,10 @@ module _ {text : List ℕ} {root i : ℕ} (h : Passed text root i) where
     array-full q =
         let (st, is) = found-there reached q in
         let n = there-is .1 in
-        record { here = record { stands = st; good = subst (λ (x : Element). GoodArray x) (sym is) (n .good) }; full = ap fillsDim0 is ∙ n .full }
+        record {
+          here = record { stands = st; good = subst (λ (x : Element). GoodArray x) (sym is) (n .good) };
+          full = ap fillsDim0 is ∙ n .full;
+        }
 
     module _ (keys : List ℤ) where
       pub keys-nowhere : f ≡ Nothing → KeysOf text i keys 18 0 keys
@@ -126,7 +130,8 @@ module _ {text : List ℕ} {root i : ℕ} (h : Passed text root i) where
       number-so : {b : Bool} → ltb (length keys) (length (getD (each arrayKeys (arraysOf (the text root))) i [])) ≡ b
           → numberOf text i (length keys) ≡ first (17 when b ∷ [])
       unfolding numberOf conditionsOfArrays there rowsOfArrays roomShort keysAt keysOfArrays
-      number-so q = number-here i (length keys) (h .file) ∙ first-none none-of (17 when roomShort i (length keys) (the text root) ∷ []) ∙ rw q refl
+      number-so q =
+          number-here i (length keys) (h .file) ∙ first-none none-of (17 when roomShort i (length keys) (the text root) ∷ []) ∙ rw q refl
 
       module _ {k : ℕ} (q : f ≡ At k) where
         keys-so : getD (each arrayKeys (arraysOf (the text root))) i [] ≡ arrayKeys (the text k)

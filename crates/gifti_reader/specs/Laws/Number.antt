@@ -62,8 +62,10 @@ module _ {text : List ℕ} {root : ℕ} (h : FileHere text root) where
         let (st, is) = found-there reached q in
         let right : keysRight (the text k) ≡ true = rw is (h .keys-right) in
         record {
-          keys-are = keys-told st right ∙ ap tableKeys is ∙ sym (append-nil (tableKeys (h .table))) ∙ sym (ap (eachIn tableKeys) (h .one-table));
-          twice-is = twice-told st right ∙ ap keyTwice is ∙ sym (or-false (keyTwice (h .table))) ∙ sym (ap (any keyTwice) (h .one-table));
+          keys-are = keys-told st right ∙ ap tableKeys is ∙ sym (append-nil (tableKeys (h .table)))
+              ∙ sym (ap (eachIn tableKeys) (h .one-table));
+          twice-is = twice-told st right ∙ ap keyTwice is ∙ sym (or-false (keyTwice (h .table)))
+              ∙ sym (ap (any keyTwice) (h .one-table));
         }
 
     pub table-nowhere : f ≡ Nothing → TableAt text (the text root) 0

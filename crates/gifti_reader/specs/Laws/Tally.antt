@@ -120,24 +120,38 @@ module _ {e : Encoding} {text : List ℕ} {from : ℕ} {codes : List ℕ} {keys 
           let n : length (keysAhead e text place) ≡ suc (length (keysAhead e text q)) = ap length parts in
           let c = go .counted in
           let m : member (codeOf k) codes ≡ true = rw code at (w .found u) in
-          let o : knownIn codes (codesOf (keysAhead e text place)) ≡ 1 + knownIn codes (codesOf (keysAhead e text q)) = one-more ∙ rw m refl in
+          let o : knownIn codes (codesOf (keysAhead e text place)) ≡ 1 + knownIn codes (codesOf (keysAhead e text q))
+          = one-more ∙ rw m refl in
           let d = go .found in
           let l = key-split t h .less in
           let x = go .few in
           let y = go .known-few in
-          record { counted = omega arith; found = omega arith; in-range = go .in-range ∙ range-so; few = omega arith; known-few = omega arith }
+          record {
+            counted = omega arith;
+            found = omega arith;
+            in-range = go .in-range ∙ range-so;
+            few = omega arith;
+            known-few = omega arith;
+          }
 
       pub counting-unknown : length codes ≤ at → Counting e text from codes (keys + 1) known q
       counting-unknown u =
           let n : length (keysAhead e text place) ≡ suc (length (keysAhead e text q)) = ap length parts in
           let c = go .counted in
           let m : member (codeOf k) codes ≡ false = rw code at (w .missed u) in
-          let o : knownIn codes (codesOf (keysAhead e text place)) ≡ 0 + knownIn codes (codesOf (keysAhead e text q)) = one-more ∙ rw m refl in
+          let o : knownIn codes (codesOf (keysAhead e text place)) ≡ 0 + knownIn codes (codesOf (keysAhead e text q))
+          = one-more ∙ rw m refl in
           let d = go .found in
           let l = key-split t h .less in
           let x = go .few in
           let y = go .known-few in
-          record { counted = omega arith; found = omega arith; in-range = go .in-range ∙ range-so; few = omega arith; known-few = omega arith }
+          record {
+            counted = omega arith;
+            found = omega arith;
+            in-range = go .in-range ∙ range-so;
+            few = omega arith;
+            known-few = omega arith;
+          }
 
 pub ruleset counting = (counting-start, counting-done, counting-less, counting-known, counting-unknown, needs)
 

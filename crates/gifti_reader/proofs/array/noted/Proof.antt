@@ -6,7 +6,8 @@ use Rattle.gifti_reader.proofs.array.noted.Tie as tie
 returns : tie.Need-returns
 returns c =
     let start = c .before .before .before .before .before in
-    noted-so (start .pre) (c .before .before .before .data-of .ensures) (c .before .before .encoding-of .ensures) (c .attribute-number .ensures)
+    noted-so (start .pre) (c .before .before .before .data-of .ensures) (c .before .before .encoding-of .ensures)
+    (c .attribute-number .ensures)
 
 pub noted-spec : {M : Type 1} → statement M
 noted-spec =

@@ -5,7 +5,8 @@ use Rattle.gifti_reader.proofs.arrays.arrays_told.Statement.{statement}
 use Rattle.gifti_reader.proofs.arrays.arrays_told.Tie as tie
 
 abbrev Inv-loop : tie.InvT-loop
-Inv-loop text root codes arrays₀ fit₀ keys₀ known₀ kid₀ t11 arrays fit keys known kid = Walking text (the text root) codes arrays fit keys known kid
+Inv-loop text root codes arrays₀ fit₀ keys₀ known₀ kid₀ t11 arrays fit keys known kid =
+    Walking text (the text root) codes arrays fit keys known kid
 
 abbrev μ-loop : tie.MeasureT-loop
 μ-loop text root codes arrays₀ fit₀ keys₀ known₀ kid₀ t11 arrays fit keys known kid = left text kid

@@ -29,16 +29,18 @@ returns-4 : tie.Need-returns-4
 returns-4 c =
     let start = c .before .before .before .before .before .before .before .before .before .before in
     let said = said-so (start .pre .file) (c .before .before .before .before .before .before .attribute-number .ensures) in
-    once-unknown (start .args .array) (start .pre .table-at) (c .before .before .before .before .before .before .before .before .searched .ensures)
-    said (c .before .before .before .before .before .if1 .left) (c .before .before .before .before .if2 .left)
+    once-unknown (start .args .array) (start .pre .table-at)
+    (c .before .before .before .before .before .before .before .before .searched .ensures) said
+    (c .before .before .before .before .before .if1 .left) (c .before .before .before .before .if2 .left)
     (not-false _ (c .before .before .if3 .left)) (c .if4 .taken)
 
 returns-5 : tie.Need-returns-5
 returns-5 c =
     let start = c .before .before .before .before .before .before .before .before .before .before in
     let said = said-so (start .pre .file) (c .before .before .before .before .before .before .attribute-number .ensures) in
-    once-none (start .args .array) (start .pre .table-at) (c .before .before .before .before .before .before .before .before .searched .ensures)
-    said (c .before .before .before .before .before .if1 .left) (c .before .before .before .before .if2 .left)
+    once-none (start .args .array) (start .pre .table-at)
+    (c .before .before .before .before .before .before .before .before .searched .ensures) said
+    (c .before .before .before .before .before .if1 .left) (c .before .before .before .before .if2 .left)
     (not-false _ (c .before .before .if3 .left)) (c .if4 .left)
 
 pub number-once-spec : {M : Type 1} → statement M
