@@ -6,8 +6,10 @@ use super::fours::top_of;
 use super::place;
 use base64_reader::Group;
 use base64_reader::group_at;
+use base64_reader::letter_values;
 ghost use mathlib.Core.Path.{_≡_};
 ghost use Prim.Native.Nat.{_+_, _*_, _%_, _^_, _<_, _≤_};
+ghost use Rattle.base64_reader.specs.Groups.{valuesLent};
 ghost use Rattle.array_keys.specs.Ahead.{KeyTold, encodingIf};
 ghost use Rattle.array_keys.specs.Gathered.{keptBytes, BytesRead, Gathered};
 
@@ -37,14 +39,15 @@ fn more_held(held: u64, more: u64, count: usize) -> u64
 }
 
 // Reads on until four bytes and more are held, or there are no more.
-fn gathered(text: &[u8], from: KeyPlace) -> KeyPlace
+fn gathered(text: &[u8], from: KeyPlace, values: &[u8]) -> KeyPlace
+    requires { ⌜ now values ≡ valuesLent ⌝ }
     ensures { λ r. ⌜ Gathered (now (text .entry)) from r ⌝ }
 {
     let mut at = from.at;
     let mut held = from.held;
     let mut bytes = kept_bytes(from.bytes);
     while bytes < 4 {
-        match group_at(text, at) {
+        match group_at(text, at, values) {
             Group::Bytes(v, n, j) => {
                 held = more_held(held, v, n);
                 bytes += n;
@@ -65,7 +68,8 @@ fn gathered(text: &[u8], from: KeyPlace) -> KeyPlace
 pub(crate) fn coded_next(text: &[u8], from: KeyPlace, little: bool) -> NextKey
     ensures { λ r. ⌜ KeyTold (encodingIf little) (now (text .entry)) from r ⌝ }
 {
-    let found = gathered(text, from);
+    let values = letter_values();
+    let found = gathered(text, from, &values);
     if found.bytes < 4 {
         return NextKey::End;
     }

@@ -7,6 +7,7 @@ use mathlib.Core.Bool.{Bool, true, false, cond}
 use Prim.Native.Nat.{ℕ, zero, suc, _+_, _*_, _/_, _%_, _^_, _<_, _≤_}
 use lib.Dec.{eqb}
 use lib.ListN.{length}
+use Rattle.lists.specs.Lists.{table}
 use Rattle.grammar.specs.Look.{Word}
 use Rattle.nodes.specs.Texts.{saysAt, left}
 use Rattle.nodes.specs.declared.Char.{Char}
@@ -15,6 +16,13 @@ use Rattle.base64.specs.Base64.{unblanked, worth, sixes, three, threeMore, endi
 use Rattle.base64.specs.Fours.{bytesOr}
 use Rattle.base64_reader.specs.declared.Group.{Group}
 use Rattle.base64_reader.specs.declared.Group.the-variants.{Bytes, End, Bad}
+
+-- the values of the bytes from `+` to `z`, each 35 greater, as they are lent
+unfoldable pub shifted : ℕ → ℕ
+shifted k = worth (k + 43) + 35
+
+unfoldable pub valuesLent : List ℕ
+valuesLent = table 80 shifted
 
 -- what is ahead of a place, without its blanks
 unfoldable pub lettersAt : List ℕ → ℕ → Word

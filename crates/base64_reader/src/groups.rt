@@ -8,7 +8,7 @@ ghost use mathlib.Core.List.{[]};
 ghost use Prim.Native.Nat.{suc, _<_, _≤_};
 ghost use Rattle.nodes.specs.Texts.{saysAt, left};
 ghost use Rattle.base64.specs.Base64.{unblanked, oneByte, twoBytes, ending};
-ghost use Rattle.base64_reader.specs.Groups.{bitsOf, LastTold, FourTold, GroupTold, Quick};
+ghost use Rattle.base64_reader.specs.Groups.{bitsOf, LastTold, FourTold, GroupTold, Quick, valuesLent};
 
 // One byte in 24 bits, the others being 0.
 fn one_byte(bits: u64, at: usize) -> Group
@@ -83,7 +83,8 @@ fn group_of(text: &[u8], p: u64, q: u64, r: u64, s: u64, at: usize) -> Group
 }
 
 // The next four letters, whatever stands between them.
-fn any_group(text: &[u8], at: usize) -> Group
+fn any_group(text: &[u8], at: usize, values: &[u8]) -> Group
+    requires { ⌜ now values ≡ valuesLent ⌝ }
     ensures { λ g. ⌜ GroupTold (now (text .entry)) at g ⌝ }
 {
     match next_letter(text, at) {
@@ -92,10 +93,10 @@ fn any_group(text: &[u8], at: usize) -> Group
                 Char::Byte(c, k) => match next_letter(text, k) {
                     Char::Byte(d, l) => group_of(
                         text,
-                        value_of(a),
-                        value_of(b),
-                        value_of(c),
-                        value_of(d),
+                        value_of(a, values),
+                        value_of(b, values),
+                        value_of(c, values),
+                        value_of(d, values),
                         l,
                     ),
                     Char::End => Group::Bad,
@@ -109,7 +110,8 @@ fn any_group(text: &[u8], at: usize) -> Group
 }
 
 // The 24 bits of four plain letters at `at`, those that stand in the text as they are; 16777216 where there are none.
-fn quick_bits(text: &[u8], at: usize) -> u64
+fn quick_bits(text: &[u8], at: usize, values: &[u8]) -> u64
+    requires { ⌜ now values ≡ valuesLent ⌝ }
     ensures { λ n. ⌜ Quick (now (text .entry)) at n ⌝ }
 {
     if text.len() < 4 {
@@ -119,20 +121,21 @@ fn quick_bits(text: &[u8], at: usize) -> u64
         return 16777216;
     }
     bits_of(
-        value_of(text[at]),
-        value_of(text[at + 1]),
-        value_of(text[at + 2]),
-        value_of(text[at + 3]),
+        value_of(text[at], values),
+        value_of(text[at + 1], values),
+        value_of(text[at + 2], values),
+        value_of(text[at + 3], values),
     )
 }
 
 // The next four letters: plain bytes first.
-pub fn group_at(text: &[u8], at: usize) -> Group
+pub fn group_at(text: &[u8], at: usize, values: &[u8]) -> Group
+    requires { ⌜ now values ≡ valuesLent ⌝ }
     ensures { λ g. ⌜ GroupTold (now (text .entry)) at g ⌝ }
 {
-    let bits = quick_bits(text, at);
+    let bits = quick_bits(text, at, values);
     if bits < 16777216 {
         return Group::Bytes(bits, 3, at + 4);
     }
-    any_group(text, at)
+    any_group(text, at, values)
 }

@@ -7,6 +7,7 @@ mod groups;
 
 pub use groups::group_at;
 use nodes::Found;
+pub use values::letter_values;
 ghost use mathlib.Core.Path.{_≡_};
 ghost use mathlib.Core.Bool.{Bool};
 ghost use Rattle.nodes.specs.Texts.{saysAt, text-of};
@@ -24,9 +25,10 @@ pub enum Group {
 fn coded_from(text: &[u8], at: usize) -> bool
     ensures { λ r. ⌜ r ≡ coded (saysAt (now (text .entry)) at) ⌝ }
 {
+    let values = letter_values();
     let mut i = at;
     loop {
-        match group_at(text, i) {
+        match group_at(text, i, &values) {
             Group::Bytes(_, _, j) => {
                 i = j;
             }
@@ -54,10 +56,11 @@ pub fn are_coded(text: &[u8], at: usize) -> bool
 fn count_from(text: &[u8], at: usize) -> usize
     ensures { λ r. ⌜ r ≡ codedBytes (saysAt (now (text .entry)) at) ⌝ }
 {
+    let values = letter_values();
     let mut n: usize = 0;
     let mut i = at;
     loop {
-        match group_at(text, i) {
+        match group_at(text, i, &values) {
             Group::Bytes(_, k, j) => {
                 n += k;
                 i = j;

@@ -4,7 +4,7 @@ use nodes::Char;
 use number_lists::chars::letter;
 ghost use mathlib.Core.Path.{_≡_};
 ghost use Rattle.base64.specs.Base64.{worth};
-ghost use Rattle.base64_reader.specs.Groups.{LetterTold};
+ghost use Rattle.base64_reader.specs.Groups.{LetterTold, valuesLent};
 
 // The next letter: blanks are passed over.
 pub(crate) fn next_letter(text: &[u8], at: usize) -> Char
@@ -26,9 +26,17 @@ pub(crate) fn next_letter(text: &[u8], at: usize) -> Char
     }
 }
 
-// The value of a letter; 65 for `=`, 64 for what is no letter. The values of the bytes from `+` to `z` stand in a text, each as many
-// behind `#`: a text is laid out once, and a table would be at each use.
-pub(crate) fn value_of(b: u8) -> u64
+// The values of the bytes from `+` to `z` as letters, each 35 greater: lent to whoever reads letters, since a table is laid out at each
+// use.
+pub fn letter_values() -> [u8; 80]
+    ensures { λ r. ⌜ r ≡ valuesLent ⌝ }
+{
+    *b"acccbWXYZ[\\]^_`cccdccc#$%&'()*+,-./0123456789:;<cccccc=>?@ABCDEFGHIJKLMNOPQRSTUV"
+}
+
+// The value of a letter; 65 for `=`, 64 for what is no letter.
+pub(crate) fn value_of(b: u8, values: &[u8]) -> u64
+    requires { ⌜ now values ≡ valuesLent ⌝ }
     ensures { λ r. ⌜ r ≡ worth b ⌝ }
 {
     if b < b'+' {
@@ -37,7 +45,5 @@ pub(crate) fn value_of(b: u8) -> u64
     if b'z' < b {
         return 64;
     }
-    let values =
-        b"acccbWXYZ[\\]^_`cccdccc#$%&'()*+,-./0123456789:;<cccccc=>?@ABCDEFGHIJKLMNOPQRSTUV";
-    (values[(b - b'+') as usize] - b'#') as u64
+    (values[(b - b'+') as usize] - 35) as u64
 }

@@ -4,10 +4,10 @@ use Rattle.base64_reader.proofs.coded_from.Statement.{statement}
 use Rattle.base64_reader.proofs.coded_from.Tie as tie
 
 abbrev Inv-loop : tie.InvT-loop
-Inv-loop text at i₀ i = Coding text at i
+Inv-loop text at values i₀ i = Coding text at i
 
 abbrev μ-loop : tie.MeasureT-loop
-μ-loop text at i₀ i = left text i
+μ-loop text at values i₀ i = left text i
 
 pub coded-from-spec : {M : Type 1} → statement M
 coded-from-spec =
@@ -15,6 +15,8 @@ coded-from-spec =
     (tie.spec
     Inv-loop
     μ-loop
+    (λ c κs. search coding)
+    (λ c. search coding)
     (λ c. search coding)
     (λ c κs. search coding)
     (λ c. search coding)

@@ -5,10 +5,10 @@ use Rattle.base64_reader.proofs.count_from.Statement.{statement}
 use Rattle.base64_reader.proofs.count_from.Tie as tie
 
 abbrev Inv-loop : tie.InvT-loop
-Inv-loop text at n₀ i₀ n i = Counting text at n i
+Inv-loop text at values n₀ i₀ n i = Counting text at n i
 
 abbrev μ-loop : tie.MeasureT-loop
-μ-loop text at n₀ i₀ n i = left text i
+μ-loop text at values n₀ i₀ n i = left text i
 
 pub count-from-spec : {M : Type 1} → statement M
 count-from-spec =
@@ -16,12 +16,15 @@ count-from-spec =
     (tie.spec
     Inv-loop
     μ-loop
+    (λ c κs. search counting)
+    (λ c. search counting)
     (λ c. search counting)
     (λ c κs. search counting)
     (λ c. search counting)
     (λ c. omega (
       arith,
-      counting-room (c .before .before .before .before .loop .inv) (c .before .before .before .group-at .ensures) (c .before .k .given .1),
+      counting-room (c .before .before .before .before .before .loop .inv) (c .before .before .before .group-at .ensures)
+          (c .before .k .given .1),
     ))
     (λ c. search counting)
     (λ c. search counting)

@@ -7,10 +7,10 @@ use native.Mathlib.Omega.{arith}
 use borrow.Author.Needs.{needs}
 use borrow.Author.Tests.{not-true, not-false, eqb-true, leb-true, le-ltb}
 use lib.Dec.{eqb, ltb, leb}
-use lib.ListN.{getD}
-use Rattle.lists.specs.Lists.{those, table, allBelow}
+use lib.ListN.{length, getD}
+use Rattle.lists.specs.Lists.{those, allBelow}
 use Rattle.lists.specs.Quantifiers.{allBelow-iff}
-use Rattle.lists.specs.Laws.Tables.{entry-of-table}
+use Rattle.lists.specs.Laws.Tables.{entry-of-table, size-of-table}
 use Rattle.lists.specs.Laws.Booleans.{clash}
 use Rattle.grammar.specs.Bytes.{blank}
 use Rattle.grammar.specs.Look.{Word}
@@ -21,7 +21,7 @@ use Rattle.numbers.specs.Stream.{charAt, letterAt, stream, leftIn}
 use Rattle.numbers.specs.Laws.Stream.{char-byte, char-end}
 use Rattle.numbers.specs.declared.Source.the-variants.{Contents}
 use Rattle.base64.specs.Base64.{unblanked, worth}
-use Rattle.base64_reader.specs.Groups.{lettersAt, Letter, LetterTold}
+use Rattle.base64_reader.specs.Groups.{shifted, valuesLent, lettersAt, Letter, LetterTold}
 
 pub letter-told : {text : List ℕ} {i b j : ℕ} → Letter text i b j → LetterTold text i (chars.Byte b j)
 letter-told {text} {i} {b} {j} h = record {
@@ -73,7 +73,7 @@ module _ {text : List ℕ} {at i : ℕ} (go : Passing text at i) {c : Char} (ec 
 
 pub ruleset passing = (passing-start, passing-end, passing-less, passing-on, passing-letter, needs)
 
--- THE VALUE OF EACH BYTE: 64 below `+` and above `z`; of those between, from a table that has each 35 greater
+-- THE VALUE OF EACH BYTE: 64 below `+` and above `z`; of those between, as it is lent
 none-below : allBelow 43 (λ b. eqb (worth b) 64) ≡ true
 unfolding allBelow worth
 none-below = refl
@@ -94,24 +94,30 @@ value-high b h k =
     let t = allBelow-iff 256 (λ b. ltb b 123 || eqb (worth b) 64) .0 none-above b h in
     sym (eqb-true (worth b) 64 (rw (le-ltb b 123 k) at t))
 
--- by how far a byte stands behind `+`
-unfoldable pub shifted : ℕ → ℕ
-shifted k = worth (k + 43) + 35
+module _ {values : List ℕ} (lent : values ≡ valuesLent) where
+  pub value-long : length values ≡ 80
+  unfolding valuesLent
+  value-long = ap length lent ∙ size-of-table shifted 80
 
-module _ (b : ℕ) (low : 43 ≤ b) (high : b ≤ 122) where
-  there : getD (table 80 shifted) (b - 43) 0 ≡ worth b + 35
-  unfolding shifted
-  there =
-      let e : b - 43 + 43 ≡ b = omega arith in
-      entry-of-table shifted 0 80 (b - 43) (omega arith) ∙ ap (λ n. worth n + 35) e
+  module _ (b : ℕ) (low : 43 ≤ b) (high : b ≤ 122) where
+    there : getD values (b - 43) 0 ≡ worth b + 35
+    unfolding shifted valuesLent
+    there =
+        let e : b - 43 + 43 ≡ b = omega arith in
+        ap (λ l. getD l (b - 43) 0) lent ∙ entry-of-table shifted 0 80 (b - 43) (omega arith) ∙ ap (λ n. worth n + 35) e
 
-  pub value-big : 35 ≤ getD (table 80 shifted) (b - 43) 0
-  value-big = rw there (omega arith)
+    pub value-inside : b - 43 < length values
+    value-inside = omega (arith, value-long)
 
-  pub value-fits : getD (table 80 shifted) (b - 43) 0 - 35 < 2 ^ 64
-  value-fits =
-      let k : worth b ≤ 65 = leb-true (worth b) 65 (allBelow-iff 256 (λ b. leb (worth b) 65) .0 few b (omega arith)) in
-      rw there (omega arith)
+    pub value-big : 35 ≤ getD values (b - 43) 0
+    value-big = rw there (omega arith)
 
-  pub value-is : getD (table 80 shifted) (b - 43) 0 - 35 ≡ worth b
-  value-is = rw there (omega arith)
+    pub value-fits : getD values (b - 43) 0 - 35 < 2 ^ 64
+    value-fits =
+        let k : worth b ≤ 65 = leb-true (worth b) 65 (allBelow-iff 256 (λ b. leb (worth b) 65) .0 few b (omega arith)) in
+        rw there (omega arith)
+
+    pub value-is : getD values (b - 43) 0 - 35 ≡ worth b
+    value-is = rw there (omega arith)
+
+pub ruleset valuing = (value-low, value-high, value-inside, value-big, value-fits, value-is, needs)

@@ -9,6 +9,8 @@ coded-next-spec =
     (λ c κs. search nexting)
     (λ c. search nexting)
     (λ c κs. search nexting)
+    (λ c. search nexting)
+    (λ c κs. search nexting)
     (λ c κs. search nexting)
     (λ c κs. search nexting)
     (λ c. search nexting))

@@ -4,10 +4,10 @@ use Rattle.array_keys.proofs.coded.gathered.Statement.{statement}
 use Rattle.array_keys.proofs.coded.gathered.Tie as tie
 
 abbrev Inv-loop : tie.InvT-loop
-Inv-loop text at₀ held₀ bytes₀ at held bytes = Gathering text at₀ held₀ bytes₀ at held bytes
+Inv-loop text values at₀ held₀ bytes₀ at held bytes = Gathering text at₀ held₀ bytes₀ at held bytes
 
 abbrev μ-loop : tie.MeasureT-loop
-μ-loop text at₀ held₀ bytes₀ at held bytes = left text at
+μ-loop text values at₀ held₀ bytes₀ at held bytes = left text at
 
 pub gathered-spec : {M : Type 1} → statement M
 gathered-spec =
