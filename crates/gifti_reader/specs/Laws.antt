@@ -1,6 +1,2 @@
-pub mod Tally
-pub mod Array
-pub mod Arrays
-pub mod Search
 pub mod Number
 pub mod Keys

@@ -1,7 +1,7 @@
 // The keys of one array, in a lent slice.
-use super::array::noted;
 use super::number::number_of;
-use super::tally::fill;
+use gifti_arrays::fill;
+use gifti_arrays::noted;
 use gifti_opening::gifti_opened;
 use label_table::Filled;
 use nodes::Found;
@@ -10,8 +10,9 @@ ghost use Rattle.nodes.specs.Places.{the};
 ghost use Rattle.gifti.specs.Arrays.{arrayKeys};
 ghost use Rattle.gifti.specs.Keys.{KeysOf};
 ghost use Rattle.gifti_opening.specs.Passed.{FileHere};
-ghost use Rattle.gifti_reader.specs.Ready.{ArrayFull};
-ghost use Rattle.gifti_reader.specs.Keys.{Passed, Wrote};
+ghost use Rattle.gifti_arrays.specs.Ready.{ArrayFull};
+ghost use Rattle.label_table.specs.Labels.{Wrote};
+ghost use Rattle.gifti_reader.specs.Keys.{Passed};
 
 // The keys of the array at `at`, where there is room for them.
 fn keys_at(text: &[u8], at: usize, keys: &mut [i32]) -> Filled

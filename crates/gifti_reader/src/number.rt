@@ -1,6 +1,6 @@
 // Conditions 9, 24, 18, 30 and 31, in this order.
-use super::arrays::arrays_told;
-use super::search::searched;
+use gifti_arrays::arrays_told;
+use gifti_arrays::searched;
 use key_twice::key_twice;
 use maps::fields::attribute_number;
 use nodes::Found;

@@ -21,7 +21,7 @@ use Rattle.nodes.specs.Places.{the}
 use Rattle.nodes.specs.declared.Found.{Found}
 use Rattle.nodes.specs.declared.Found.the-variants.{At, Nothing}
 use Rattle.label_tables.specs.LabelTable.{tableKeys}
-use Rattle.label_table.specs.Labels.{keysAt, filledWith}
+use Rattle.label_table.specs.Labels.{keysAt, filledWith, Wrote}
 use Rattle.label_table.specs.Laws.Told.{keys-told, filled-told}
 use Rattle.cifti.specs.Maps.{mapsOf}
 use Rattle.cifti.specs.Conditions.{ofMaps}
@@ -35,10 +35,8 @@ use Rattle.label_reader.specs.Laws.Tabled.{Tabled, untabled, tabled, tab
 
 -- ---- On any bytes: 17 where there is less room than keys, and the list as it was; else all of them.
 
-pub record WrittenTo (text : List ℕ) (at : ℕ) (before : List ℤ) (number count : ℕ) (after : List ℤ) : Type 0 where
-  pub short : length before < length (keysAt text at) → (number ≡ 17) × (count ≡ 0) × (after ≡ before)
-  pub fits : length (keysAt text at) ≤ length before
-      → (number ≡ 0) × (count ≡ length (keysAt text at)) × (after ≡ filledWith (keysAt text at) before)
+abbrev pub WrittenTo : (text : List ℕ) (at : ℕ) (before : List ℤ) (number count : ℕ) (after : List ℤ) → Type 0
+WrittenTo text at before number count after = Wrote (keysAt text at) before number count after
 
 module _ (text : List ℕ) (at : ℕ) (before : List ℤ) {n : ℕ} (e : n ≡ length (keysAt text at)) where
   pub written-short : length before < n → WrittenTo text at before 17 0 before

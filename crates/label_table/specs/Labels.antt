@@ -1,9 +1,11 @@
 -- A TABLE OF LABELS AT A PLACE, on any bytes: the places of its Labels, and the keys that they write. What is in no form reads as 0; the
 -- laws say what it all is where an element stands whose keys are in form.
+use mathlib.Core.Path.{_≡_}
 use mathlib.Core.List.{List, [], _∷_}
 use mathlib.Core.Bool.{Bool}
-use Prim.Native.Nat.{ℕ}
+use Prim.Native.Nat.{ℕ, _≤_, _<_}
 use lib.IntN.{ℤ, pos}
+use lib.ListN.{length}
 use Rattle.lists.specs.Lists.{those, twoOf, each}
 use Rattle.grammar.specs.Bytes.{ascii}
 use Rattle.nodes.specs.Children.{first, next}
@@ -58,6 +60,11 @@ unfoldable pub filledWith : List ℤ → List ℤ → List ℤ
 filledWith [] s = s
 filledWith (k ∷ ks) [] = []
 filledWith (k ∷ ks) (x ∷ s) = k ∷ filledWith ks s
+
+-- keys written into a list: 17 where there is less room than keys, and the list as it was; else all of them
+pub record Wrote (l before : List ℤ) (number count : ℕ) (after : List ℤ) : Type 0 where
+  pub short : length before < length l → (number ≡ 17) × (count ≡ 0) × (after ≡ before)
+  pub fits : length l ≤ length before → (number ≡ 0) × (count ≡ length l) × (after ≡ filledWith l before)
 
 -- the first Label that has the key
 unfoldable pub has-key : ℤ → List ℕ → ℕ → Bool

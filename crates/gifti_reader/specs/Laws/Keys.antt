@@ -25,7 +25,7 @@ use Rattle.nodes.specs.declared.Found.the-variants.{At, Nothing}
 use Rattle.ways.specs.Way.{nth}
 use Rattle.ways.specs.Walked.{Agrees}
 use Rattle.ways.specs.Treads.{childNamed}
-use Rattle.label_table.specs.Labels.{filledWith}
+use Rattle.label_table.specs.Labels.{filledWith, Wrote}
 use Rattle.label_table.specs.Laws.Told.{filled-told}
 use Rattle.cifti.specs.Labels.{overwritten}
 use Rattle.gifti.specs.Arrays.{arraysOf, arrayKeys, dim0, fillsDim0, keysOfArrays}
@@ -33,18 +33,19 @@ use Rattle.gifti.specs.Conditions.{noArray, lengthWrong, roomShort, keysAt, con
 use Rattle.gifti.specs.Held.{GoodArray, GoodArrays, no-array, one-array}
 use Rattle.gifti.specs.Keys.{keysBy, keysGiven, KeysOf}
 use Rattle.gifti.specs.Laws.Arrays.{filled-many}
-use Rattle.gifti.specs.Laws.Keys.{numberOf, keysTold, keys-by}
+use Rattle.cifti.specs.Laws.Text.{answers-by, answers-unique}
+use Rattle.gifti.specs.Laws.Keys.{numberOf, keysTold, keys-by, keys-unique}
 use Rattle.gifti_opening.specs.Opening.{OpensGifti}
 use Rattle.gifti_opening.specs.Passed.{FileHere}
 use Rattle.gifti_opening.specs.Laws.Passed.{file-here, opens-refused, number-here}
 use Rattle.gifti_opening.specs.declared.GiftiOpening.{GiftiOpening}
 use Rattle.array_keys.specs.Ahead.{keysAhead, keysStart}
-use Rattle.gifti_reader.specs.Ready.{ArrayHere, ArrayFull}
-use Rattle.gifti_reader.specs.Arrays.{Noted}
+use Rattle.gifti_arrays.specs.Ready.{ArrayHere, ArrayFull}
+use Rattle.gifti_arrays.specs.Arrays.{Noted}
 use Rattle.gifti_reader.specs.Number.{rowsOfArrays}
-use Rattle.gifti_reader.specs.Keys.{Passed, Wrote}
-use Rattle.gifti_reader.specs.Laws.Array.{named-agrees, found-there, found-nowhere}
-use Rattle.gifti_reader.specs.declared.array.ArrayNote.{ArrayNote}
+use Rattle.gifti_reader.specs.Keys.{Passed}
+use Rattle.gifti_arrays.specs.Laws.Array.{named-agrees, found-there, found-nowhere}
+use Rattle.gifti_arrays.specs.declared.array.ArrayNote.{ArrayNote}
 
 -- ---- The keys of the array at a place.
 
@@ -77,6 +78,13 @@ unfolding numberOf keysTold keysGiven overwritten
 refused-so text i keys {n} k h =
     let none : keysTold text i (length keys) ≡ [] = ap (λ m. keysBy m i (parse text)) (sym h) ∙ no-keys n i (parse text) k in
     keys-by text i keys n 0 keys h (sym (ap length none)) (sym (ap (λ l. l ++ drop (length l) keys) none))
+
+-- what any answer with a number says
+pub refused-kept : {text : List ℕ} {i : ℕ} {keys : List ℤ} {n count : ℕ} {after : List ℤ} → KeysOf text i keys n count after
+    → (n ≡ 0 → ⊥) → (count ≡ 0) × (after ≡ keys)
+unfolding numberOf
+refused-kept {text} {i} {keys} r k =
+    let (a, b, c) = keys-unique r (refused-so text i keys k (answers-unique (r .numbered) (answers-by text _ refl))) in (b, c)
 
 -- ---- The array asked for.
 

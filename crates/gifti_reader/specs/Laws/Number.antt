@@ -40,12 +40,12 @@ use Rattle.known_keys.specs.Laws.Turns.{member-key}
 use Rattle.gifti.specs.Arrays.{arraysOf, arraysSaid, arrayKeys, fillsDim0, labelTables, knownKeys, keysOfArrays}
 use Rattle.gifti.specs.Conditions.{arraysWrong, labelTwice, noArray, lengthWrong, isKnown, someUnknown, keyUnknown}
 use Rattle.gifti_opening.specs.Passed.{FileHere}
-use Rattle.gifti_reader.specs.Tally.{codesOf}
-use Rattle.gifti_reader.specs.Ready.{ArraysAsked, TableHere}
-use Rattle.gifti_reader.specs.Arrays.{keysOfAll, ToldAll}
+use Rattle.gifti_arrays.specs.Tally.{codesOf}
+use Rattle.gifti_arrays.specs.Ready.{ArraysAsked, TableHere}
+use Rattle.gifti_arrays.specs.Arrays.{keysOfAll, ToldAll}
 use Rattle.gifti_reader.specs.Number.{rowsOfArrays, numberTwice, numberOnce, TableAt, TableOnce}
-use Rattle.gifti_reader.specs.Laws.Array.{named-agrees, found-there, found-nowhere}
-use Rattle.gifti_reader.specs.declared.arrays.Told.{Told}
+use Rattle.gifti_arrays.specs.Laws.Array.{named-agrees, found-there, found-nowhere}
+use Rattle.gifti_arrays.specs.declared.arrays.Told.{Told}
 
 -- ---- The table.
 

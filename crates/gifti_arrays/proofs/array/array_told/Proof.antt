@@ -1,0 +1,13 @@
+use borrow.Author.Needs.{needs}
+use Rattle.gifti_arrays.specs.Laws.Array.{array-so}
+use Rattle.gifti_arrays.proofs.array.array_told.Statement.{statement}
+use Rattle.gifti_arrays.proofs.array.array_told.Tie as tie
+
+pub array-told-spec : {M : Type 1} → statement M
+array-told-spec =
+    tie.close
+    (tie.spec
+    (λ c κs. search needs)
+    (λ c κs. search needs)
+    (λ c κs. search needs)
+    (λ c. search (array-so, needs)))

@@ -1,0 +1,35 @@
+use Rattle.nodes.specs.Places.{the}
+use Rattle.nodes.specs.Children.{left}
+use Rattle.gifti_arrays.specs.Laws.Arrays.{walking, Walking}
+use Rattle.gifti_arrays.proofs.arrays.arrays_told.Statement.{statement}
+use Rattle.gifti_arrays.proofs.arrays.arrays_told.Tie as tie
+
+abbrev Inv-loop : tie.InvT-loop
+Inv-loop text root codes arrays₀ fit₀ keys₀ known₀ kid₀ t11 arrays fit keys known kid =
+    Walking text (the text root) codes arrays fit keys known kid
+
+abbrev μ-loop : tie.MeasureT-loop
+μ-loop text root codes arrays₀ fit₀ keys₀ known₀ kid₀ t11 arrays fit keys known kid = left text kid
+
+pub arrays-told-spec : {M : Type 1} → statement M
+arrays-told-spec =
+    tie.close
+    (tie.spec
+    Inv-loop
+    μ-loop
+    (λ c κs. search walking)
+    (λ c. search walking)
+    (λ c. search walking)
+    (λ c κs. search walking)
+    (λ c. search walking)
+    (λ c κs. search walking)
+    (λ c κs. search walking)
+    (λ c. search walking)
+    (λ c. search walking)
+    (λ c. search walking)
+    (λ c. search walking)
+    (λ c. search walking)
+    (λ c. search walking)
+    (λ c. search walking)
+    (λ c. search walking)
+    (λ c. search walking))
