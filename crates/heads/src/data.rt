@@ -7,12 +7,13 @@ use steps::Step;
 ghost use mathlib.Core.Path.{_≡_};
 ghost use lib.ListN.{length, drop};
 ghost use Rattle.grammar.specs.Bytes.{ascii, begins};
+ghost use Rattle.grammar.specs.Read.{span};
 ghost use Rattle.grammar.specs.Parser.{data-character-at, data-at};
 ghost use Rattle.steps.specs.Step.{stepped};
-ghost use Rattle.steps.specs.Leaves.{data-rest-at};
+ghost use Rattle.steps.specs.Leaves.{data-plain, data-rest-at};
 
 // `]]>` stands at `at`.
-pub fn brackets_at(text: &[u8], at: usize) -> bool
+fn brackets_at(text: &[u8], at: usize) -> bool
     ensures { λ r. ⌜ r ≡ begins (ascii "]]>") (drop at (now (text .entry))) ⌝ }
 {
     if text.len() <= at {
@@ -37,18 +38,41 @@ fn data_character_end(text: &[u8], at: usize) -> Step
     character_end(text, at)
 }
 
+// A byte that is a character by itself, and is no `]` and no return.
+fn is_data_plain(a: u8) -> bool
+    ensures { λ r. ⌜ r ≡ data-plain a ⌝ }
+{
+    (((a == b' ') | ((a == b'\t') | ((a == b'\n') | (a == b'\r')))) | ((32 <= a) & (a <= 127)))
+        & (!(a == b']') & !(a == b'\r'))
+}
+
+// Where such bytes end.
+fn data_plain_end(text: &[u8], at: usize) -> usize
+    ensures { λ r. ⌜ Step.To r ≡ stepped (length (now (text .entry))) (span data-plain (drop at (now (text .entry)))) ⌝ }
+{
+    let mut i = at;
+    while i < text.len() {
+        if !is_data_plain(text[i]) {
+            return i;
+        }
+        i += 1;
+    }
+    text.len()
+}
+
 // The rest of CDATA, with its end.
 fn data_rest_end(text: &[u8], at: usize) -> Step
     ensures { λ r. ⌜ r ≡ stepped (length (now (text .entry))) (data-rest-at (drop at (now (text .entry)))) ⌝ }
 {
     let mut i = at;
     while i < text.len() {
-        if brackets_at(text, i) {
-            return mark_end(text, i, b"]]>");
+        let j = data_plain_end(text, i);
+        if brackets_at(text, j) {
+            return mark_end(text, j, b"]]>");
         }
-        match data_character_end(text, i) {
-            Step::To(j) => {
-                i = j;
+        match data_character_end(text, j) {
+            Step::To(k) => {
+                i = k;
             }
             Step::No => {
                 return Step::No;

@@ -2,9 +2,11 @@
 use mathlib.Core.Path.{_≡_, refl}
 use mathlib.Core.List.{List, [], _∷_}
 use Prim.Native.Nat.{ℕ, _-_, _<_}
-use mathlib.Core.Bool.{Bool, true, false}
+use mathlib.Core.Bool.{Bool, true, false, _&&_, not}
+use lib.Dec.{eqb}
 use lib.ListN.{length}
 use Rattle.grammar.specs.Bytes.{ascii, begins}
+use Rattle.grammar.specs.Characters.{lead1}
 use Rattle.grammar.specs.Read.{Read, fail, got, Reader, bind, mark, span, Ok, ok-map, mark-sound, span-sound, byte-complete, byte-other}
 use Rattle.grammar.specs.Parser.{name-at, gap-at, equals-at, literal-at, reference-at, line-end-at, value-character-at, value-at}
 use Rattle.grammar.specs.Parser.{remark-at, data-character-at, skipped-at}
@@ -98,6 +100,10 @@ data-character-eats s = less (λ _ w h. data-character-long h) (data-character-s
 
 pub data-character-tails : (s : List ℕ) → Ok (Tails s) (data-character-at s)
 data-character-tails s = tails (data-character-sound s)
+
+-- a character of it that is one byte, but for `]` and a return
+unfoldable pub data-plain : ℕ → Bool
+data-plain a = lead1 a && (not (eqb a 93) && not (eqb a 13))
 
 -- CDATA behind `<![CDATA[`
 unfoldable pub data-rest-at : Reader (Unit {0})

@@ -1,25 +1,29 @@
 -- CDATA, at a position of the text: one law for each way through the code.
-use mathlib.Core.Path.{_≡_, refl, ap, sym, _∙_}
-use mathlib.Core.List.{List, [], _∷_}
+use mathlib.Core.Path.{_≡_, refl, ap, sym, _∙_, subst}
+use mathlib.Core.List.{List, [], _∷_, _++_}
 use Prim.Native.Nat.{ℕ, _+_, _-_, _≤_, _<_}
 use native.Mathlib.Omega.{arith}
 use borrow.Author.Needs.{needs}
-use mathlib.Core.Bool.{Bool, true, false}
-use borrow.Author.Tests.{ne-eqb}
+use mathlib.Core.Bool.{Bool, true, false, _&&_, not}
+use borrow.Author.Tests.{ne-eqb, not-true}
 use lib.Dec.{eqb}
 use lib.ListN.{length, drop, getD}
-use Rattle.lists.specs.Laws.Booleans.{not-so}
-use Rattle.grammar.specs.Bytes.{ascii, begins}
+use Rattle.lists.specs.Laws.Booleans.{not-so, and-left, and-right}
+use Rattle.grammar.specs.Bytes.{ascii, begins, parted, Each, no-byte, a-byte}
+use Rattle.grammar.specs.Characters.{utf8-1, lead1}
+use Rattle.grammar.specs.Grammar.{DataCharacter}
 use Rattle.grammar.specs.Document.{together}
-use Rattle.grammar.specs.Read.{Read, fail, got, bind, byte, mark, alt, all-of}
+use Rattle.grammar.specs.Read.{Read, fail, got, bind, byte, mark, alt, all-of, span, span-sound, Ok, ok-got}
 use Rattle.grammar.specs.Parser.{literal-at, feed-at, line-end-at, data-byte, data-character-at, data-at}
 use Rattle.grammar.specs.Laws.Tokens.{line-end-other}
-use Rattle.steps.specs.Step.{stepped, at-byte, at-end, refuses}
+use Rattle.grammar.specs.Laws.Data.{data-character-reads}
+use Rattle.steps.specs.Step.{stepped, at-byte, at-end, refuses, Went, went}
 use Rattle.steps.specs.Laws.Until.{until, Going, going-start, going-stops, going-fails, going-stuck, going-goes, moved, stepped-value}
-use Rattle.steps.specs.Laws.Until.{stepped-each}
+use Rattle.steps.specs.Laws.Until.{stepped-each, until-go}
 use Rattle.steps.specs.Laws.Parsing.{stuck, follows}
 use Rattle.steps.specs.Laws.Feeds.{feed-got, return-read}
-use Rattle.steps.specs.Leaves.{character-at, literal-is, mark-tails, data-rest-at, data-character-eats, data-character-tails}
+use Rattle.steps.specs.Leaves.{character-at, literal-is, mark-tails, span-tails, data-plain, data-rest-at, data-character-eats}
+use Rattle.steps.specs.Leaves.{data-character-tails}
 use Rattle.steps.specs.declared.Step.{Step}
 use Rattle.steps.specs.declared.Step.the-variants.{To, No}
 
@@ -73,6 +77,43 @@ InData text at i = Going (begins (ascii "]]>")) data-character-at (mark (ascii "
 pub data-start : (text : List ℕ) (at : ℕ) → InData text at at
 data-start text at = going-start (begins (ascii "]]>")) data-character-at (mark (ascii "]]>")) text at
 
+-- plain bytes are passed over at once
+plain-on : (a : ℕ) (s : List ℕ) → data-plain a ≡ true → data-rest-at (a ∷ s) ≡ data-rest-at s
+unfolding data-plain data-rest-at begins parted bind
+plain-on a s e =
+    let others = and-right (lead1 a) _ e in
+    let no-bracket : eqb a 93 ≡ false = not-true (eqb a 93) (and-left (not (eqb a 93)) _ others) in
+    let no-return : eqb a 13 ≡ false = not-true (eqb a 13) (and-right (not (eqb a 93)) _ others) in
+    let open-here : begins (ascii "]]>") (a ∷ s) ≡ false = rw no-bracket in
+    let alone : parted (a ∷ []) s ≡ false = rw no-return in
+    let read = data-character-reads (DataCharacter.literal (utf8-1 (and-left (lead1 a) _ e)) no-return) s alone in
+    until-go (begins (ascii "]]>")) data-character-at (mark (ascii "]]>")) data-character-eats (a ∷ s) open-here ∙ rw read
+
+plain-over : {w : List ℕ} → Each data-plain w → (r : List ℕ) → data-rest-at (w ++ r) ≡ data-rest-at r
+plain-over no-byte r = refl
+plain-over (a-byte {a} {w} e h) r = plain-on a (w ++ r) e ∙ plain-over h r
+
+module _ (text : List ℕ) (i : ℕ) {j : ℕ} (q : To j ≡ stepped (length text) (span data-plain (drop i text))) where
+  spanned : Went (span data-plain) text i j
+  spanned = went (span data-plain) text i j (span-tails data-plain (drop i text)) q
+
+  whole : (drop i text ≡ spanned .value ++ drop j text) × Each data-plain (spanned .value)
+  whole = ok-got (subst (λ (m : Read (List ℕ)). Ok (λ w r. (drop i text ≡ w ++ r) × Each data-plain w) m) (spanned .reads)
+      (span-sound data-plain (drop i text)))
+
+  pub data-over : (at : ℕ) → InData text at i → InData text at j
+  unfolding data-rest-at
+  data-over at go = record {
+    same-end = go .same-end ∙ ap (λ s. stepped (length text) (data-rest-at s)) (whole .0)
+        ∙ ap (stepped (length text)) (plain-over (whole .1) (drop j text));
+  }
+
+  pub data-falls : i < length text → {r : Step} → r ≡ stepped (length text) (data-character-at (drop j text)) → {k : ℕ} → r ≡ To k
+      → length text - k < length text - i
+  data-falls h is {k} n =
+      let on : j < k = moved data-character-at data-character-eats data-character-tails text j is n in
+      omega (arith, spanned .ahead (omega arith))
+
 module _ (text : List ℕ) (at i : ℕ) (go : InData text at i) where
   abbrev Rest : Step → Type 0
   Rest r = r ≡ stepped (length text) (data-rest-at (drop at text))
@@ -100,11 +141,6 @@ module _ (text : List ℕ) (at i : ℕ) (go : InData text at i) where
       data-more n = going-goes (begins (ascii "]]>")) data-character-at (mark (ascii "]]>")) data-character-eats text at i go
           (sym is ∙ e) data-character-tails s n
 
-pub data-less : (text : List ℕ) (i : ℕ) {r : Step} {j : ℕ} → i < length text → r ≡ stepped (length text) (data-character-at (drop i text))
-    → r ≡ To j → length text - j < length text - i
-data-less text i {j = j} h is n =
-    let on : i < j = moved data-character-at data-character-eats data-character-tails text i is n in omega arith
-
 -- the whole, behind its mark: the answer does not see the characters
 unfoldable pub inner-at : List ℕ → Read (List ℕ)
 inner-at s = bind (all-of (begins (ascii "]]>")) data-character-at s) (λ bs r. bind (mark (ascii "]]>") r) (λ _ r₁. got (together bs) r₁))
@@ -130,6 +166,6 @@ pub ruleset brackets-there = (brackets-none, brackets-other, needs)
 
 pub ruleset data-characters = (data-none, data-fed, data-other, needs)
 
-pub ruleset in-data = (data-start, data-open, data-closes, data-stuck, data-more, data-less, needs)
+pub ruleset in-data = (data-start, data-over, data-open, data-closes, data-stuck, data-more, data-falls, needs)
 
 pub ruleset data-whole = (data-missing, data-there, needs)
