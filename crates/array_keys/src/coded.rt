@@ -5,8 +5,9 @@ use super::fours::key_of;
 use super::fours::top_of;
 use super::place;
 use base64_reader::Group;
-use base64_reader::group_at;
+use base64_reader::any_group;
 use base64_reader::letter_values;
+use base64_reader::quick_bits;
 ghost use mathlib.Core.Path.{_≡_};
 ghost use Prim.Native.Nat.{_+_, _*_, _%_, _^_, _<_, _≤_};
 ghost use Rattle.base64_reader.specs.Groups.{valuesLent};
@@ -47,17 +48,24 @@ fn gathered(text: &[u8], from: KeyPlace, values: &[u8]) -> KeyPlace
     let mut held = from.held;
     let mut bytes = kept_bytes(from.bytes);
     while bytes < 4 {
-        match group_at(text, at, values) {
-            Group::Bytes(v, n, j) => {
-                held = more_held(held, v, n);
-                bytes += n;
-                at = j;
-            }
-            Group::End => {
-                return place(at, held, bytes);
-            }
-            Group::Bad => {
-                return place(at, held, bytes);
+        let bits = quick_bits(text, at, values);
+        if bits < 16777216 {
+            held = held % 16777216 * 16777216 + bits;
+            bytes += 3;
+            at += 4;
+        } else {
+            match any_group(text, at, values) {
+                Group::Bytes(v, n, j) => {
+                    held = more_held(held, v, n);
+                    bytes += n;
+                    at = j;
+                }
+                Group::End => {
+                    return place(at, held, bytes);
+                }
+                Group::Bad => {
+                    return place(at, held, bytes);
+                }
             }
         }
     }

@@ -83,7 +83,7 @@ fn group_of(text: &[u8], p: u64, q: u64, r: u64, s: u64, at: usize) -> Group
 }
 
 // The next four letters, whatever stands between them.
-fn any_group(text: &[u8], at: usize, values: &[u8]) -> Group
+pub fn any_group(text: &[u8], at: usize, values: &[u8]) -> Group
     requires { ⌜ now values ≡ valuesLent ⌝ }
     ensures { λ g. ⌜ GroupTold (now (text .entry)) at g ⌝ }
 {
@@ -110,7 +110,7 @@ fn any_group(text: &[u8], at: usize, values: &[u8]) -> Group
 }
 
 // The 24 bits of four plain letters at `at`, those that stand in the text as they are; 16777216 where there are none.
-fn quick_bits(text: &[u8], at: usize, values: &[u8]) -> u64
+pub fn quick_bits(text: &[u8], at: usize, values: &[u8]) -> u64
     requires { ⌜ now values ≡ valuesLent ⌝ }
     ensures { λ n. ⌜ Quick (now (text .entry)) at n ⌝ }
 {
@@ -126,16 +126,4 @@ fn quick_bits(text: &[u8], at: usize, values: &[u8]) -> u64
         value_of(text[at + 2], values),
         value_of(text[at + 3], values),
     )
-}
-
-// The next four letters: plain bytes first.
-pub fn group_at(text: &[u8], at: usize, values: &[u8]) -> Group
-    requires { ⌜ now values ≡ valuesLent ⌝ }
-    ensures { λ g. ⌜ GroupTold (now (text .entry)) at g ⌝ }
-{
-    let bits = quick_bits(text, at, values);
-    if bits < 16777216 {
-        return Group::Bytes(bits, 3, at + 4);
-    }
-    any_group(text, at, values)
 }

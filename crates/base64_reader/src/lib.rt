@@ -5,7 +5,8 @@ mod values;
 // The bytes of the next four letters.
 mod groups;
 
-pub use groups::group_at;
+pub use groups::any_group;
+pub use groups::quick_bits;
 use nodes::Found;
 pub use values::letter_values;
 ghost use mathlib.Core.Path.{_≡_};
@@ -28,15 +29,19 @@ fn coded_from(text: &[u8], at: usize) -> bool
     let values = letter_values();
     let mut i = at;
     loop {
-        match group_at(text, i, &values) {
-            Group::Bytes(_, _, j) => {
-                i = j;
-            }
-            Group::End => {
-                return true;
-            }
-            Group::Bad => {
-                return false;
+        if quick_bits(text, i, &values) < 16777216 {
+            i += 4;
+        } else {
+            match any_group(text, i, &values) {
+                Group::Bytes(_, _, j) => {
+                    i = j;
+                }
+                Group::End => {
+                    return true;
+                }
+                Group::Bad => {
+                    return false;
+                }
             }
         }
     }
@@ -60,16 +65,21 @@ fn count_from(text: &[u8], at: usize) -> usize
     let mut n: usize = 0;
     let mut i = at;
     loop {
-        match group_at(text, i, &values) {
-            Group::Bytes(_, k, j) => {
-                n += k;
-                i = j;
-            }
-            Group::End => {
-                return n;
-            }
-            Group::Bad => {
-                return 0;
+        if quick_bits(text, i, &values) < 16777216 {
+            n += 3;
+            i += 4;
+        } else {
+            match any_group(text, i, &values) {
+                Group::Bytes(_, k, j) => {
+                    n += k;
+                    i = j;
+                }
+                Group::End => {
+                    return n;
+                }
+                Group::Bad => {
+                    return 0;
+                }
             }
         }
     }

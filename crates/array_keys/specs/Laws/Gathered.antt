@@ -15,7 +15,7 @@ use Rattle.nodes.specs.Texts.{left}
 use Rattle.base64.specs.Base64.{decode}
 use Rattle.base64.specs.Fours.{Endian, big, little, inEndian, bits32, twos, keysIn}
 use Rattle.base64.specs.Laws.Fours.{whole-back}
-use Rattle.base64_reader.specs.Groups.{lettersAt, lowBytes, bytesAhead, Taken, Told, GroupTold}
+use Rattle.base64_reader.specs.Groups.{lettersAt, lowBytes, bytesAhead, Taken, Told, GroupTold, Quick}
 use Rattle.base64_reader.specs.declared.Group.{Group}
 use Rattle.base64_reader.specs.declared.Group.the-variants as groups
 use Rattle.array_keys.specs.Ahead.{heldBytes, codedAhead, keysAhead, keysLeft, endianIf, encodingIf, KeyTold, told-key, told-end}
@@ -146,7 +146,30 @@ module _ {text : List ℕ} {at₀ held₀ bytes₀ at held bytes : ℕ} (go : Ga
           fallen = λ _. omega (arith, go .further, b .less);
         }
 
-pub ruleset gathering = (gather-start, gather-done, gather-end, gather-bad, gather-read, gather-room, gather-less, gather-on, needs)
+  module _ (less : bytes < 4) {n : ℕ} (k : Quick text at n) (h : n < 16777216) where
+    pub gather-quick-held : held % 16777216 * 16777216 + n < 2 ^ 64
+    gather-quick-held = omega arith
+
+    pub gather-quick-less : left text (at + 4) < left text at
+    gather-quick-less = gather-less less (k .told h) refl
+
+    pub gather-quick : Gathering text at₀ held₀ bytes₀ (at + 4) (held % 16777216 * 16777216 + n) (bytes + 3)
+    gather-quick = gather-on less (k .told h) refl refl
+
+pub ruleset gathering = (
+  gather-start,
+  gather-done,
+  gather-end,
+  gather-bad,
+  gather-read,
+  gather-room,
+  gather-less,
+  gather-on,
+  gather-quick-held,
+  gather-quick-less,
+  gather-quick,
+  needs,
+)
 
 -- ---- The key of four bytes.
 

@@ -1,3 +1,5 @@
+use native.Mathlib.Omega.{arith}
+use Rattle.base64_reader.specs.Laws.Quick.{quick-place}
 use Rattle.base64_reader.specs.Laws.Texts.{Coding, coding}
 use Rattle.nodes.specs.Texts.{left}
 use Rattle.base64_reader.proofs.coded_from.Statement.{statement}
@@ -16,6 +18,11 @@ coded-from-spec =
     Inv-loop
     μ-loop
     (λ c κs. search coding)
+    (λ c. search coding)
+    (λ c. search coding)
+    (λ c κs. search coding)
+    (λ c. omega (arith, quick-place (c .before .quick-bits .ensures) (c .if1 .taken)))
+    (λ c. search coding)
     (λ c. search coding)
     (λ c. search coding)
     (λ c κs. search coding)

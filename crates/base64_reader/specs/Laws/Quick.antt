@@ -95,12 +95,6 @@ module _ (text : List ℕ) (at : ℕ) where
 
 pub ruleset quickly = (quick-none, quick-0, quick-1, quick-2, quick-3, quick-told, needs)
 
--- what is told so
-module _ {text : List ℕ} {at n : ℕ} (k : Quick text at n) (h : n < 16777216) where
-  pub quick-group : GroupTold text at (Bytes n 3 (at + 4))
-  quick-group = k .told h
-
-  pub quick-place : at + 4 ≤ length text
-  quick-place = k .inside h
-
-pub ruleset quick-on = (quick-group, needs)
+-- the place behind them
+pub quick-place : {text : List ℕ} {at n : ℕ} → Quick text at n → n < 16777216 → at + 4 ≤ length text
+quick-place k h = k .inside h

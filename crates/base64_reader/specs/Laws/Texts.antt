@@ -15,7 +15,7 @@ use Rattle.nodes.specs.declared.Found.{Found}
 use Rattle.nodes.specs.declared.Found.the-variants.{At, Nothing}
 use Rattle.base64.specs.Base64.{unblanked, decode, bytesIn, coded}
 use Rattle.base64.specs.Fours.{bytesOr, codedBytes}
-use Rattle.base64_reader.specs.Groups.{lettersAt, lowBytes, prefixed, Taken, Told, GroupTold}
+use Rattle.base64_reader.specs.Groups.{lettersAt, lowBytes, prefixed, Taken, Told, GroupTold, Quick}
 use Rattle.base64_reader.specs.declared.Group.{Group}
 use Rattle.base64_reader.specs.declared.Group.the-variants.{Bytes, End, Bad}
 
@@ -54,7 +54,14 @@ module _ {text : List ℕ} {at i : ℕ} (go : Coding text at i) {g : Group} (t :
     coding-on = let b = t .on-bytes e in
         record { same = go .same ∙ rw (b .spelled) (prefixed-is (lowBytes n v) (decode (lettersAt text j))) }
 
-pub ruleset coding = (coding-start, coding-end, coding-bad, coding-less, coding-on, needs)
+module _ {text : List ℕ} {at i : ℕ} (go : Coding text at i) {n : ℕ} (k : Quick text i n) (h : n < 16777216) where
+  pub coding-quick-less : left text (i + 4) < left text i
+  coding-quick-less = coding-less go (k .told h) refl
+
+  pub coding-quick : Coding text at (i + 4)
+  coding-quick = coding-on go (k .told h) refl
+
+pub ruleset coding = (coding-start, coding-end, coding-bad, coding-less, coding-on, coding-quick-less, coding-quick, needs)
 
 -- THE TEXT OF AN ELEMENT
 module _ (text : List ℕ) (at : ℕ) {f : Found} (e : f ≡ inside text at) where
@@ -128,4 +135,24 @@ module _ {text : List ℕ} {at k i : ℕ} (go : Counting text at k i) {g : Group
           room = omega (arith, b .less, go .room);
         }
 
-pub ruleset counting = (counting-start, counting-end, counting-bad, counting-less, counting-room, counting-on, needs)
+module _ {text : List ℕ} {at m i : ℕ} (go : Counting text at m i) {n : ℕ} (k : Quick text i n) (h : n < 16777216) where
+  pub counting-quick-less : left text (i + 4) < left text i
+  counting-quick-less = counting-less go (k .told h) refl
+
+  pub counting-quick-room : m + 3 ≤ length text
+  counting-quick-room = counting-room go (k .told h) refl
+
+  pub counting-quick : Counting text at (m + 3) (i + 4)
+  counting-quick = counting-on go (k .told h) refl
+
+pub ruleset counting = (
+  counting-start,
+  counting-end,
+  counting-bad,
+  counting-less,
+  counting-room,
+  counting-on,
+  counting-quick-less,
+  counting-quick,
+  needs,
+)

@@ -1,3 +1,5 @@
+use native.Mathlib.Omega.{arith}
+use Rattle.base64_reader.specs.Laws.Quick.{quick-place}
 use Rattle.array_keys.specs.Laws.Gathered.{Gathering, gathering}
 use Rattle.nodes.specs.Texts.{left}
 use Rattle.array_keys.proofs.coded.gathered.Statement.{statement}
@@ -16,6 +18,13 @@ gathered-spec =
     Inv-loop
     μ-loop
     (λ c κs. search gathering)
+    (λ c. search gathering)
+    (λ c κs. search gathering)
+    (λ c. search gathering)
+    (λ c. search gathering)
+    (λ c. search gathering)
+    (λ c. omega (arith, quick-place (c .before .quick-bits .ensures) (c .if1 .taken)))
+    (λ c. search gathering)
     (λ c. search gathering)
     (λ c κs. search gathering)
     (λ c. search gathering)
