@@ -1,6 +1,6 @@
 -- WHAT IS ASKED OF AN ARRAY, AND OF ALL, behind 2, 3, 4, 6, 29 and 7.
 use mathlib.Core.Path.{_≡_}
-use mathlib.Core.Bool.{Bool, true, false}
+use mathlib.Core.Bool.{true, false}
 use mathlib.Core.List.{List}
 use Prim.Native.Nat.{ℕ}
 use lib.Dec.{eqb}

@@ -1,9 +1,8 @@
 -- CONDITIONS 9, 24, 18, 30 AND 31 of a file behind 2, 3, 4, 6, 29 and 7.
 use mathlib.Core.Path.{_≡_}
-use mathlib.Core.Bool.{Bool, true, false}
+use mathlib.Core.Bool.{true, false}
 use mathlib.Core.List.{List, [], _∷_}
 use Prim.Native.Nat.{ℕ}
-use lib.IntN.{ℤ}
 use Rattle.lists.specs.Refusals.{Refusal, _when_, first}
 use Rattle.grammar.specs.Document.{Element}
 use Rattle.nodes.specs.Places.{the}

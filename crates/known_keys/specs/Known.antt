@@ -1,6 +1,6 @@
 -- KEYS THAT STAND IN A TABLE OF LABELS, by their codes: how many of a list do, by turns; what a search tells.
 use mathlib.Core.Path.{_≡_}
-use mathlib.Core.Bool.{Bool, true, false}
+use mathlib.Core.Bool.{true, false}
 use mathlib.Core.List.{List, _++_}
 use Prim.Native.Nat.{ℕ, _≤_, _<_}
 use lib.ListN.{length, getD, take}

@@ -3,7 +3,6 @@ use super::order::arrange;
 use key_twice::codes::code_at;
 use label_table::labels::next_label;
 use nodes::Kid;
-ghost use mathlib.Core.Path.{_≡_};
 ghost use Rattle.known_keys.specs.Known.{Gathered, Taken};
 
 // So many keys, and the Label behind theirs.

@@ -3,9 +3,9 @@ use mathlib.Core.Path.{_≡_, refl, sym, ap, _∙_, subst}
 use mathlib.Core.Option.{Option, some}
 use mathlib.Core.Option
 use mathlib.Core.Bool.{Bool, true, false, cond}
-use mathlib.Core.List.{List, [], _∷_}
+use mathlib.Core.List.{List}
 use Prim.Native.String.{String}
-use Prim.Native.Nat.{ℕ, zero, suc, _+_, _*_, _≤_, _<_}
+use Prim.Native.Nat.{ℕ, _*_, _≤_}
 use native.Mathlib.Omega.{arith}
 use lib.Dec.{eqb, leb}
 use borrow.Author.Tests.{leb-true}
@@ -21,8 +21,8 @@ use Rattle.nodes.specs.Texts.{text-of, text-law}
 use Rattle.nodes.specs.declared.Found.{Found}
 use Rattle.nodes.specs.declared.Found.the-variants.{At, Nothing}
 use Rattle.ways.specs.Way.{nth}
-use Rattle.ways.specs.Walked.{childAt, child-same, child-agrees, Agrees, not-there, stands-there}
-use Rattle.ways.specs.Treads.{called, called-alike, childNamed}
+use Rattle.ways.specs.Walked.{child-same, child-agrees, Agrees, not-there, stands-there}
+use Rattle.ways.specs.Treads.{called-alike, childNamed}
 use Rattle.gifti.specs.Arrays.{isCoded, endianOf, dataOf, dim0, arrayKeys, fillsDim0}
 use Rattle.array_keys.specs.Ahead.{keysAhead, keysStart}
 use Rattle.array_keys.specs.declared.Encoding.{Encoding}
@@ -38,7 +38,7 @@ use Rattle.gifti.specs.Laws.Held.{data-of}
 use Rattle.gifti_arrays.specs.Ready.{ArrayHere}
 use Rattle.known_keys.specs.Known.{knownIn}
 use Rattle.gifti_arrays.specs.Tally.{codesOf, Tallied}
-use Rattle.gifti_arrays.specs.Arrays.{encodingOf, orStart, dataAt, FewSaid, Noted, fitsBy, noteFits, ToldArray}
+use Rattle.gifti_arrays.specs.Arrays.{encodingOf, orStart, dataAt, Noted, fitsBy, noteFits, ToldArray}
 use Rattle.gifti_arrays.specs.declared.array.ArrayNote.{ArrayNote}
 use Rattle.gifti_arrays.specs.declared.tally.Tally.{Tally}
 

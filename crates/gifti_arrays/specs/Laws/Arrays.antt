@@ -2,7 +2,7 @@
 use mathlib.Core.Path.{_≡_, refl, sym, ap, _∙_}
 use mathlib.Core.Bool.{Bool, true, false, _&&_, cond}
 use mathlib.Core.List.{List, [], _∷_, _++_}
-use Prim.Native.Nat.{ℕ, zero, suc, _+_, _*_, _^_, _≤_, _<_}
+use Prim.Native.Nat.{ℕ, suc, _+_, _*_, _^_, _≤_, _<_}
 use native.Mathlib.Omega.{arith}
 use lib.ListN.{length, length-append}
 use lib.IntN.{ℤ}
@@ -13,7 +13,7 @@ use Rattle.lists.specs.Laws.Booleans.{and-assoc, and-true}
 use Rattle.grammar.specs.Bytes.{ascii}
 use Rattle.grammar.specs.Document.{Element}
 use Rattle.grammar.specs.Look.{is, nameOf, contentsOf, elements, children}
-use Rattle.nodes.specs.Places.{Stands, the}
+use Rattle.nodes.specs.Places.{the}
 use Rattle.nodes.specs.Names.{named, name-is-law}
 use Rattle.nodes.specs.Children.{first, next, left}
 use Rattle.nodes.specs.Laws.Along.{Along, along-start, along-done, along-stands, along-here, along-less, along-next, children-few}
@@ -27,9 +27,8 @@ use Rattle.known_keys.specs.Known.{knownIn}
 use Rattle.known_keys.specs.Order.{inOrder}
 use Rattle.gifti.specs.Arrays.{arraysOf, arrayKeys, fillsDim0}
 use Rattle.gifti_arrays.specs.Tally.{codesOf}
-use Rattle.gifti.specs.Held.{GoodArray, GoodArrays, no-array, one-array}
-use Rattle.gifti_opening.specs.Passed.{ArraysHere}
-use Rattle.gifti_arrays.specs.Ready.{ArrayHere, ArrayAsked, ArraysAsked}
+use Rattle.gifti.specs.Held.{GoodArray, GoodArrays, one-array}
+use Rattle.gifti_arrays.specs.Ready.{ArrayAsked, ArraysAsked}
 use Rattle.gifti_arrays.specs.Arrays.{ToldArray, keysOfAll, ToldAll}
 use Rattle.gifti_arrays.specs.declared.array.ArrayTold.{ArrayTold}
 

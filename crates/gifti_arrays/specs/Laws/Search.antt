@@ -1,13 +1,13 @@
 -- The table in turns: what is found adds up.
-use mathlib.Core.Path.{_≡_, refl, sym, ap, _∙_}
-use mathlib.Core.Bool.{Bool, true, false}
-use mathlib.Core.List.{List, [], _∷_, _++_}
-use Prim.Native.Nat.{ℕ, zero, suc, _+_, _^_, _≤_, _<_}
+use mathlib.Core.Path.{_≡_, refl, ap, _∙_}
+use mathlib.Core.Bool.{false}
+use mathlib.Core.List.{List, _++_}
+use Prim.Native.Nat.{ℕ, _+_, _^_, _≤_, _<_}
 use native.Mathlib.Omega.{arith}
 use lib.Dec.{eqb}
 use lib.ListN.{length, take, length-append}
 use borrow.Author.Needs.{needs}
-use Rattle.lists.specs.Lists.{twoOf, each, count}
+use Rattle.lists.specs.Lists.{twoOf, each}
 use Rattle.lists.specs.Laws.Lists.{count-same}
 use Rattle.grammar.specs.Document.{Element}
 use Rattle.nodes.specs.Places.{the}
@@ -17,8 +17,6 @@ use Rattle.label_table.specs.Labels.{firstLabel}
 use Rattle.label_table.specs.Laws.Labels.{row}
 use Rattle.key_twice.specs.Codes.{codesAt}
 use Rattle.key_twice.specs.Laws.Walks.{toCome, come-first, come-done}
-use Rattle.comparison.specs.Matched.{member}
-use Rattle.known_keys.specs.Order.{inOrder}
 use Rattle.known_keys.specs.Known.{knownIn, Taken}
 use Rattle.known_keys.specs.Laws.Turns.{taken-less, known-parts, two-rest, known-none}
 use Rattle.gifti.specs.Arrays.{arraysOf}

@@ -1,11 +1,9 @@
 -- The keys of an array, one after the other.
 use mathlib.Core.Path.{_≡_, refl, sym, ap, _∙_, subst}
-use mathlib.Core.Bool.{Bool, true, false, _&&_, cond}
+use mathlib.Core.Bool.{true, false, cond}
 use mathlib.Core.List.{List, [], _∷_}
-use Prim.Native.Nat.{ℕ, zero, suc, _+_, _-_, _^_, _≤_, _<_}
+use Prim.Native.Nat.{ℕ, suc, _+_, _-_, _≤_, _<_}
 use native.Mathlib.Omega.{arith}
-use lib.Dec.{leb}
-use lib.Signed.{leZ}
 use lib.IntN.{ℤ, pos, negsuc}
 use lib.ListN.{length, set, length-set}
 use mir.Syntax.{w32}
@@ -15,12 +13,11 @@ use borrow.Author.Needs.{needs}
 use borrow.Author.Tests.{le-leb}
 use Rattle.lists.specs.Lists.{all, each, count}
 use Rattle.lists.specs.Laws.Booleans.{and-both}
-use Rattle.numbers.specs.Numbers.{inKeys, withSign, plus, minus}
+use Rattle.numbers.specs.Numbers.{inKeys, withSign}
 use Rattle.comparison.specs.Matched.{member}
 use Rattle.label_table.specs.Labels.{filledWith}
 use Rattle.label_table.specs.Laws.Labels.{filledFrom, from-none, from-full, from-more}
 use Rattle.key_twice.specs.Codes.{codeOf}
-use Rattle.known_keys.specs.Order.{inOrder}
 use Rattle.known_keys.specs.Known.{knownIn, Placed}
 use Rattle.array_keys.specs.Ahead.{keysAhead, keysLeft, keysStart, KeyTold, told-key, told-end}
 use Rattle.array_keys.specs.Laws.Ahead.{start-left}
@@ -29,7 +26,6 @@ use Rattle.array_keys.specs.declared.KeyPlace.{KeyPlace}
 use Rattle.array_keys.specs.declared.NextKey.{NextKey}
 use Rattle.array_keys.specs.declared.NextKey.the-variants.{Key, End}
 use Rattle.gifti_arrays.specs.Tally.{codesOf, Tallied}
-use Rattle.gifti_arrays.specs.declared.tally.Tally.{Tally}
 
 -- ---- What an answer tells.
 
@@ -92,12 +88,6 @@ module _ {e : Encoding} {text : List ℕ} {from : ℕ} {codes : List ℕ} {keys 
   module _ {k : ℤ} {q : KeyPlace} (h : r ≡ Key k q) where
     pub counting-less : keysLeft text q < keysLeft text place
     counting-less = key-split t h .less
-
-    pub counting-room : keys < suc (length text)
-    counting-room = let l = key-split t h .less in let f = go .few in omega arith
-
-    pub known-room : known < suc (length text)
-    known-room = let l = counting-room in let f = go .known-few in omega arith
 
     module _ (f : SFits w32 k) {c at : ℕ} (is-code : c ≡ codeOf (toZ w32 (ofZ w32 k))) (w : Placed codes c at) where
       code : c ≡ codeOf k

@@ -1,6 +1,6 @@
 -- What is promised of the keys of an array: refused, the list is as it was; accepted, it begins with the keys.
 use mathlib.Core.Path.{_≡_, refl, sym, ap, _∙_, subst}
-use mathlib.Core.Bool.{Bool, true, false, not}
+use mathlib.Core.Bool.{Bool, true}
 use mathlib.Core.List.{List, [], _∷_, _++_}
 use mathlib.Core.Option.{Option, some}
 use mathlib.Core.Option
@@ -13,13 +13,13 @@ use lib.ListN.{length, getD, drop}
 use borrow.Author.Needs.{needs}
 use borrow.Author.Tests.{lt-ltb, le-ltb, ltb-true, not-false}
 use Rattle.lists.specs.Lists.{all, each, there}
-use Rattle.lists.specs.Refusals.{Refusal, _when_, first, positive, NoneApplies}
+use Rattle.lists.specs.Refusals.{_when_, first, positive, NoneApplies}
 use Rattle.lists.specs.Laws.Booleans.{and-left, and-right}
 use Rattle.lists.specs.Laws.Refusals.{first-kept, first-none, given-none, row-fails, rows-past}
 use Rattle.grammar.specs.Bytes.{ascii}
 use Rattle.grammar.specs.Document.{Element}
 use Rattle.grammar.specs.Parser.{parse}
-use Rattle.nodes.specs.Places.{Stands, the}
+use Rattle.nodes.specs.Places.{the}
 use Rattle.nodes.specs.declared.Found.{Found}
 use Rattle.nodes.specs.declared.Found.the-variants.{At, Nothing}
 use Rattle.ways.specs.Way.{nth}
@@ -28,9 +28,9 @@ use Rattle.ways.specs.Treads.{childNamed}
 use Rattle.label_table.specs.Labels.{filledWith, Wrote}
 use Rattle.label_table.specs.Laws.Told.{filled-told}
 use Rattle.cifti.specs.Labels.{overwritten}
-use Rattle.gifti.specs.Arrays.{arraysOf, arrayKeys, dim0, fillsDim0, keysOfArrays}
-use Rattle.gifti.specs.Conditions.{noArray, lengthWrong, roomShort, keysAt, conditionsOfArrays, giftiRefusal}
-use Rattle.gifti.specs.Held.{GoodArray, GoodArrays, no-array, one-array}
+use Rattle.gifti.specs.Arrays.{arraysOf, arrayKeys, fillsDim0, keysOfArrays}
+use Rattle.gifti.specs.Conditions.{noArray, lengthWrong, roomShort, keysAt, conditionsOfArrays}
+use Rattle.gifti.specs.Held.{GoodArray, GoodArrays, one-array}
 use Rattle.gifti.specs.Keys.{keysBy, keysGiven, KeysOf}
 use Rattle.gifti.specs.Laws.Arrays.{filled-many}
 use Rattle.cifti.specs.Laws.Text.{answers-by, answers-unique}
@@ -40,7 +40,7 @@ use Rattle.gifti_opening.specs.Passed.{FileHere}
 use Rattle.gifti_opening.specs.Laws.Passed.{file-here, opens-refused, number-here}
 use Rattle.gifti_opening.specs.declared.GiftiOpening.{GiftiOpening}
 use Rattle.array_keys.specs.Ahead.{keysAhead, keysStart}
-use Rattle.gifti_arrays.specs.Ready.{ArrayHere, ArrayFull}
+use Rattle.gifti_arrays.specs.Ready.{ArrayFull}
 use Rattle.gifti_arrays.specs.Arrays.{Noted}
 use Rattle.gifti_reader.specs.Number.{rowsOfArrays}
 use Rattle.gifti_reader.specs.Keys.{Passed}

@@ -1,28 +1,26 @@
 -- The order of 9, 24, 18, 30 and 31; and every key has a Label exactly where as many are found as there are.
 use mathlib.Core.Path.{_≡_, refl, sym, ap, _∙_, subst}
-use mathlib.Core.Bool.{Bool, true, false, _&&_, _||_, not, cond}
-use mathlib.Core.List.{List, [], _∷_, _++_, append-nil}
+use mathlib.Core.Bool.{Bool, true, false, not}
+use mathlib.Core.List.{List, [], _∷_, append-nil}
 use mathlib.Core.Option.{Option, some}
 use mathlib.Core.Option
-use Prim.Native.Nat.{ℕ, zero, suc, _+_, _^_, _≤_, _<_}
-use Prim.Native.String.{String}
+use Prim.Native.Nat.{ℕ, _≤_, _<_}
 use native.Mathlib.Omega.{arith}
-use lib.Dec.{eqb, ltb}
 use lib.IntN.{ℤ}
 use lib.ListN.{length, take}
 use borrow.Author.Needs.{needs}
 use borrow.Author.Tests.{eq-eqb, ne-eqb, lt-ltb, le-ltb}
-use Rattle.lists.specs.Lists.{all, any, those, each, eachIn, count, twoOf}
-use Rattle.lists.specs.Laws.Lists.{all-append, all-each, length-each}
+use Rattle.lists.specs.Lists.{all, any, each, eachIn, count}
+use Rattle.lists.specs.Laws.Lists.{all-append, length-each}
 use Rattle.lists.specs.Laws.Booleans.{and-left, and-right, or-false, refute}
-use Rattle.lists.specs.Refusals.{Refusal, _when_, first}
+use Rattle.lists.specs.Refusals.{first}
 use Rattle.grammar.specs.Bytes.{ascii}
 use Rattle.grammar.specs.Document.{Element}
-use Rattle.grammar.specs.Look.{is, nameOf, attr, contentsOf, elements, children}
+use Rattle.grammar.specs.Look.{is, attr}
 use Rattle.nodes.specs.Places.{Stands, the}
 use Rattle.nodes.specs.declared.Found.{Found}
 use Rattle.nodes.specs.declared.Found.the-variants.{At, Nothing}
-use Rattle.numbers.specs.Numbers.{value, whole, inKeys, sameKey}
+use Rattle.numbers.specs.Numbers.{inKeys}
 use Rattle.ways.specs.Way.{nth}
 use Rattle.ways.specs.Walked.{Agrees}
 use Rattle.ways.specs.Treads.{childNamed}
@@ -37,7 +35,7 @@ use Rattle.known_keys.specs.Order.{orderedFrom, inOrder}
 use Rattle.known_keys.specs.Known.{knownIn}
 use Rattle.known_keys.specs.Laws.Order.{all-counted, counted-all}
 use Rattle.known_keys.specs.Laws.Turns.{member-key}
-use Rattle.gifti.specs.Arrays.{arraysOf, arraysSaid, arrayKeys, fillsDim0, labelTables, knownKeys, keysOfArrays}
+use Rattle.gifti.specs.Arrays.{arraysOf, arraysSaid, arrayKeys, labelTables, knownKeys, keysOfArrays}
 use Rattle.gifti.specs.Conditions.{arraysWrong, labelTwice, noArray, lengthWrong, isKnown, someUnknown, keyUnknown}
 use Rattle.gifti_opening.specs.Passed.{FileHere}
 use Rattle.gifti_arrays.specs.Tally.{codesOf}

@@ -1,12 +1,12 @@
 -- The keys of a table, so many at a time; those of a list that stand in it, counted over the turns.
 use mathlib.Core.Path.{_≡_, refl, sym, ap, _∙_}
-use mathlib.Core.Bool.{Bool, true, false, _&&_, _||_, cond, true≢false}
+use mathlib.Core.Bool.{Bool, true, false, _||_, cond}
 use mathlib.Core.List.{List, [], _∷_, _++_, append-assoc}
 use Prim.Native.Nat.{ℕ, zero, suc, _+_, _-_, _^_, _≤_, _<_}
 use native.Mathlib.Omega.{arith}
 use lib.Dec.{leb, eqb}
 use lib.IntN.{ℤ}
-use lib.ListN.{length, getD, set, take, drop, length-set, length-append}
+use lib.ListN.{length, set, take, drop, length-set, length-append}
 use lib.Seq.{length-take-le, take-suc-set, take-at, length-front}
 use borrow.Author.Needs.{needs}
 use borrow.Author.Tests.{le-leb, eqb-true, eqb-false, eq-eqb, ne-eqb}
@@ -22,8 +22,8 @@ use Rattle.label_table.specs.Labels.{labels, keyHere, keysAt, nextLabel}
 use Rattle.label_table.specs.Laws.Labels.{row}
 use Rattle.key_twice.specs.Codes.{codeOf, codeHere, codesAt}
 use Rattle.key_twice.specs.Laws.Codes.{code-small, code-same, here-in}
-use Rattle.key_twice.specs.Laws.Walks.{toCome, come-more, come-first, come-done, walk-less}
-use Rattle.known_keys.specs.Order.{inOrder, Arranged, Within}
+use Rattle.key_twice.specs.Laws.Walks.{toCome, come-more, walk-less}
+use Rattle.known_keys.specs.Order.{Arranged, Within}
 use Rattle.known_keys.specs.Known.{knownIn, Gathered, Taken}
 use Rattle.known_keys.specs.Laws.Order.{all-within, member-kept}
 

@@ -1,7 +1,5 @@
-use lib.ListN.{length}
-use native.Mathlib.Omega.{arith}
 use Rattle.array_keys.specs.Ahead.{keysLeft}
-use Rattle.gifti_arrays.specs.Laws.Tally.{counting, Counting, counting-room, known-room}
+use Rattle.gifti_arrays.specs.Laws.Tally.{counting, Counting}
 use Rattle.gifti_arrays.proofs.tally.count_keys.Statement.{statement}
 use Rattle.gifti_arrays.proofs.tally.count_keys.Tie as tie
 

@@ -1,4 +1,3 @@
-use lib.ListN.{length}
 use Rattle.array_keys.specs.Ahead.{keysLeft}
 use Rattle.gifti_arrays.specs.Laws.Tally.{writing, Writing}
 use Rattle.gifti_arrays.proofs.tally.fill.Statement.{statement}

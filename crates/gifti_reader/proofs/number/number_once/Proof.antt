@@ -1,6 +1,5 @@
 use borrow.Author.Needs.{needs}
 use borrow.Author.Tests.{not-true, not-false}
-use native.Mathlib.Omega.{arith}
 use Rattle.gifti_reader.specs.Laws.Number.{table-here, said-so, once-nine, once-eighteen, once-thirty, once-unknown, once-none}
 use Rattle.gifti_reader.proofs.number.number_once.Statement.{statement}
 use Rattle.gifti_reader.proofs.number.number_once.Tie as tie

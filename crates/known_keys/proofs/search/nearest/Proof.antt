@@ -1,5 +1,4 @@
 use Prim.Native.Nat.{_-_}
-use lib.ListN.{length}
 use native.Mathlib.Omega.{arith}
 use Rattle.known_keys.specs.Laws.Search.{halving, Halfway}
 use Rattle.known_keys.proofs.search.nearest.Statement.{statement}
