@@ -83,7 +83,10 @@ BAD_KEYS = ["", "-", "+1", "--1", "1-", "1.0", " 1", "1 ", "0x1", "00000000001",
 OTHER_WORDS = {"Encoding": ["GZipBase64Binary", "ExternalFileBinary", "ascii", "Base64", "ASCII ", ""],
                "Intent": ["NIFTI_INTENT_SHAPE", "NIFTI_INTENT_NONE", "NIFTI_INTENT_LABELS", ""],
                "DataType": ["NIFTI_TYPE_FLOAT32", "NIFTI_TYPE_UINT8", "INT32", ""]}
-WRONG_WORDS = {"ArrayIndexingOrder": ["RowMajor", "rowmajororder", "", "RowMajorOrder "], "Endian": ["Little", "bigendian", "", "BigEndian "]}
+WRONG_WORDS = {
+    "ArrayIndexingOrder": ["RowMajor", "rowmajororder", "", "RowMajorOrder "],
+    "Endian": ["Little", "bigendian", "", "BigEndian "],
+}
 
 
 def pick_array(rng, doc, encoding=None):

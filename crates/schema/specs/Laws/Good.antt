@@ -130,7 +130,8 @@ abbrev pub no-row : AttributeRow
 no-row = optional "" anyValue
 
 module _ {K : Type 0} {rows : K → Row K} {k : K} {e : Element} (g : Good rows k e) where
-  module _ (a : List AttributeRow) (o : Order) (r : List (ChildRow K)) (is-branch : rows k ≡ branch a o r) (i : ℕ) (here : i < length a) where
+  module _ (a : List AttributeRow) (o : Order) (r : List (ChildRow K)) (is-branch : rows k ≡ branch a o r) (i : ℕ)
+      (here : i < length a) where
     shape-at : attributeShaped (attributesOf e) (getD a i no-row) ≡ true
     shape-at = all-iff no-row (attributeShaped (attributesOf e)) a .0 (attributes-shape g a o r is-branch) i here
 
