@@ -6,7 +6,6 @@ use super::fours::top_of;
 use super::place;
 use base64_reader::Group;
 use base64_reader::any_group;
-use base64_reader::letter_values;
 use base64_reader::quick_bits;
 ghost use mathlib.Core.Path.{_≡_};
 ghost use Prim.Native.Nat.{_+_, _*_, _%_, _^_, _<_, _≤_};
@@ -73,11 +72,11 @@ fn gathered(text: &[u8], from: KeyPlace, values: &[u8]) -> KeyPlace
 }
 
 // The next key, its four bytes in either order.
-pub(crate) fn coded_next(text: &[u8], from: KeyPlace, little: bool) -> NextKey
+pub(crate) fn coded_next(text: &[u8], from: KeyPlace, values: &[u8], little: bool) -> NextKey
+    requires { ⌜ now values ≡ valuesLent ⌝ }
     ensures { λ r. ⌜ KeyTold (encodingIf little) (now (text .entry)) from r ⌝ }
 {
-    let values = letter_values();
-    let found = gathered(text, from, &values);
+    let found = gathered(text, from, values);
     if found.bytes < 4 {
         return NextKey::End;
     }

@@ -6,10 +6,12 @@ mod coded;
 mod fours;
 
 pub use base64_reader::byte_count;
+pub use base64_reader::letter_values;
 use coded::coded_next;
 use key_lists::ListedKey;
 use nodes::Found;
 ghost use mathlib.Core.Path.{_≡_};
+ghost use Rattle.base64_reader.specs.Groups.{valuesLent};
 ghost use Rattle.array_keys.specs.Ahead.{keysStart, KeyTold};
 ghost use Rattle.array_keys.specs.declared.Encoding.the-variants as encodings;
 
@@ -64,13 +66,14 @@ fn plain_next(text: &[u8], from: KeyPlace) -> NextKey
     }
 }
 
-// The next key from a place on.
-pub fn key_next(text: &[u8], encoding: Encoding, from: KeyPlace) -> NextKey
+// The next key from a place on. The values of letters are lent, so that they are laid out once for all keys.
+pub fn key_next(text: &[u8], encoding: Encoding, from: KeyPlace, values: &[u8]) -> NextKey
+    requires { ⌜ now values ≡ valuesLent ⌝ }
     ensures { λ r. ⌜ KeyTold encoding (now (text .entry)) from r ⌝ }
 {
     match encoding {
         Encoding::Plain => plain_next(text, from),
-        Encoding::Big => coded_next(text, from, false),
-        Encoding::Little => coded_next(text, from, true),
+        Encoding::Big => coded_next(text, from, values, false),
+        Encoding::Little => coded_next(text, from, values, true),
     }
 }

@@ -4,7 +4,7 @@ mod names;
 // Labels.
 mod labels;
 // GIFTI label files.
-mod gifti;
+mod label_files;
 
 use flat::tell_answer;
 use flat::tell_one;

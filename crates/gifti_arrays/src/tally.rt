@@ -3,6 +3,7 @@ use array_keys::Encoding;
 use array_keys::NextKey;
 use array_keys::key_next;
 use array_keys::keys_start;
+use array_keys::letter_values;
 use key_twice::codes::code_of;
 use known_keys::place_in;
 ghost use mathlib.Core.Path.{_≡_};
@@ -24,12 +25,13 @@ pub(crate) fn count_keys(text: &[u8], from: usize, encoding: Encoding, codes: &[
     ensures { λ r. ⌜ Tallied (now (text .entry)) (keysAhead encoding (now (text .entry)) (keysStart (now (text .entry)) from))
         (now (codes .entry)) r ⌝ }
 {
+    let values = letter_values();
     let mut keys = 0;
     let mut known = 0;
     let mut last = 0;
     let mut place = keys_start(text, from);
     loop {
-        match key_next(text, encoding, place) {
+        match key_next(text, encoding, place, &values) {
             NextKey::Key(key, next) => {
                 let at = place_in(codes, last, code_of(key));
                 keys += 1;
@@ -51,10 +53,11 @@ pub fn fill(text: &[u8], from: usize, encoding: Encoding, keys: &mut [i32])
     ensures { λ _. ⌜ now (keys .exit)
         ≡ filledWith (keysAhead encoding (now (text .entry)) (keysStart (now (text .entry)) from)) (now (keys .entry)) ⌝ }
 {
+    let values = letter_values();
     let mut n = 0;
     let mut place = keys_start(text, from);
     while n < keys.len() {
-        match key_next(text, encoding, place) {
+        match key_next(text, encoding, place, &values) {
             NextKey::Key(key, next) => {
                 keys[n] = key;
                 n += 1;

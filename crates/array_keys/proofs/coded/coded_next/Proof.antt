@@ -9,8 +9,6 @@ coded-next-spec =
     (λ c κs. search nexting)
     (λ c. search nexting)
     (λ c κs. search nexting)
-    (λ c. search nexting)
-    (λ c κs. search nexting)
     (λ c κs. search nexting)
     (λ c κs. search nexting)
     (λ c. search nexting))

@@ -4,10 +4,10 @@ use Rattle.gifti_arrays.proofs.tally.count_keys.Statement.{statement}
 use Rattle.gifti_arrays.proofs.tally.count_keys.Tie as tie
 
 abbrev Inv-loop : tie.InvT-loop
-Inv-loop text from encoding codes keys₀ known₀ last₀ place₀ keys known last place = Counting encoding text from codes keys known place
+Inv-loop text from encoding codes values keys₀ known₀ last₀ place₀ keys known last place = Counting encoding text from codes keys known place
 
 abbrev μ-loop : tie.MeasureT-loop
-μ-loop text from encoding codes keys₀ known₀ last₀ place₀ keys known last place = keysLeft text place
+μ-loop text from encoding codes values keys₀ known₀ last₀ place₀ keys known last place = keysLeft text place
 
 pub count-keys-spec : {M : Type 1} → statement M
 count-keys-spec =
@@ -16,6 +16,8 @@ count-keys-spec =
     Inv-loop
     μ-loop
     (λ c κs. search counting)
+    (λ c κs. search counting)
+    (λ c. search counting)
     (λ c. search counting)
     (λ c κs. search counting)
     (λ c. search counting)

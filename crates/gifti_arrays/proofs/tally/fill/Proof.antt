@@ -4,10 +4,10 @@ use Rattle.gifti_arrays.proofs.tally.fill.Statement.{statement}
 use Rattle.gifti_arrays.proofs.tally.fill.Tie as tie
 
 abbrev Inv-loop : tie.InvT-loop
-Inv-loop text from encoding keys₀ n₀ place₀ keys n place = Writing encoding text from keys₀ keys n place
+Inv-loop text from encoding keys₀ values n₀ place₀ keys n place = Writing encoding text from keys₀ keys n place
 
 abbrev μ-loop : tie.MeasureT-loop
-μ-loop text from encoding keys₀ n₀ place₀ keys n place = keysLeft text place
+μ-loop text from encoding keys₀ values n₀ place₀ keys n place = keysLeft text place
 
 pub fill-spec : {M : Type 1} → statement M
 fill-spec =
@@ -16,6 +16,8 @@ fill-spec =
     Inv-loop
     μ-loop
     (λ c κs. search writing)
+    (λ c κs. search writing)
+    (λ c. search writing)
     (λ c. search writing)
     (λ c κs. search writing)
     (λ c. search writing)
