@@ -24,7 +24,7 @@ pub record Nearest (keys : List ℕ) (code at : ℕ) : Type 0 where
 
 -- a place of the number, or one past the end where it stands nowhere
 pub record Placed (keys : List ℕ) (code at : ℕ) : Type 0 where
-  pub found : at < length keys → member code keys ≡ true
+  pub found : at < length keys → getD keys at 0 ≡ code
   pub missed : length keys ≤ at → member code keys ≡ false
 
 -- ---- A turn: the codes from a Label on, as many as there is room for, and the Label behind.

@@ -19,6 +19,7 @@ use Rattle.label_table.specs.Labels.{filledWith}
 use Rattle.label_table.specs.Laws.Labels.{filledFrom, from-none, from-full, from-more}
 use Rattle.key_twice.specs.Codes.{codeOf}
 use Rattle.known_keys.specs.Known.{knownIn, Placed}
+use Rattle.known_keys.specs.Laws.Search.{placed-member}
 use Rattle.array_keys.specs.Ahead.{keysAhead, keysLeft, keysStart, KeyTold, told-key, told-end}
 use Rattle.array_keys.specs.Laws.Ahead.{start-left}
 use Rattle.array_keys.specs.declared.Encoding.{Encoding}
@@ -105,16 +106,15 @@ module _ {e : Encoding} {text : List ℕ} {from : ℕ} {codes : List ℕ} {keys 
       unfolding all
       range-so = ap (all inKeys) parts ∙ rw (fits-in k f) refl
 
-      pub counting-known : at < length codes → Counting e text from codes (keys + 1) (known + 1) q
-      counting-known u =
+      counting-more : {x : ℕ} → x ≤ 1 → cond (member (codeOf k) codes) 1 0 ≡ x → Counting e text from codes (keys + 1) (known + x) q
+      counting-more {x} u m =
           let n : length (keysAhead e text place) ≡ suc (length (keysAhead e text q)) = ap length parts in
           let c = go .counted in
-          let m : member (codeOf k) codes ≡ true = rw code at (w .found u) in
-          let o : knownIn codes (codesOf (keysAhead e text place)) ≡ 1 + knownIn codes (codesOf (keysAhead e text q))
-          = one-more ∙ rw m refl in
+          let o : knownIn codes (codesOf (keysAhead e text place)) ≡ x + knownIn codes (codesOf (keysAhead e text q))
+          = one-more ∙ ap (λ y. y + knownIn codes (codesOf (keysAhead e text q))) m in
           let d = go .found in
           let l = key-split t h .less in
-          let x = go .few in
+          let z = go .few in
           let y = go .known-few in
           record {
             counted = omega arith;
@@ -124,24 +124,16 @@ module _ {e : Encoding} {text : List ℕ} {from : ℕ} {codes : List ℕ} {keys 
             known-few = omega arith;
           }
 
+      pub counting-known : at < length codes → Counting e text from codes (keys + 1) (known + 1) q
+      counting-known u =
+          let m : member (codeOf k) codes ≡ true = rw code at (placed-member w u) in
+          counting-more (omega arith) (rw m refl)
+
       pub counting-unknown : length codes ≤ at → Counting e text from codes (keys + 1) known q
       counting-unknown u =
-          let n : length (keysAhead e text place) ≡ suc (length (keysAhead e text q)) = ap length parts in
-          let c = go .counted in
           let m : member (codeOf k) codes ≡ false = rw code at (w .missed u) in
-          let o : knownIn codes (codesOf (keysAhead e text place)) ≡ 0 + knownIn codes (codesOf (keysAhead e text q))
-          = one-more ∙ rw m refl in
-          let d = go .found in
-          let l = key-split t h .less in
-          let x = go .few in
-          let y = go .known-few in
-          record {
-            counted = omega arith;
-            found = omega arith;
-            in-range = go .in-range ∙ range-so;
-            few = omega arith;
-            known-few = omega arith;
-          }
+          let z : known + 0 ≡ known = omega arith in
+          rw z at (counting-more {x = 0} (omega arith) (rw m refl))
 
 pub ruleset counting = (counting-start, counting-done, counting-less, counting-known, counting-unknown, needs)
 

@@ -151,7 +151,7 @@ pub ruleset halving = (halfway-start, halfway-up, halfway-down, halfway-done, ne
 -- ---- A place of the number.
 
 pub placed-at : {keys : List ℕ} {code at : ℕ} → at < length keys → getD keys at 0 ≡ code → Placed keys code at
-placed-at {keys} {code} {at} h e = record { found = λ u. held code keys at h e; missed = λ u. absurd (omega arith) }
+placed-at h e = record { found = λ u. e; missed = λ u. absurd (omega arith) }
 
 pub placed-nowhere : {keys : List ℕ} {code at : ℕ} → Nearest keys code at → (getD keys at 0 ≡ code → ⊥) → Placed keys code (length keys)
 placed-nowhere {keys} {code} n h = record {
@@ -164,5 +164,9 @@ unfolding member
 placed-none {keys} {code} h =
     let z : count (λ y. eqb y code) keys ≡ 0 = absent code keys (λ k u. absurd (omega arith)) in
     record { found = λ u. absurd (omega arith); missed = λ u. rw z refl }
+
+-- what stands there is a member
+pub placed-member : {keys : List ℕ} {code at : ℕ} → Placed keys code at → at < length keys → member code keys ≡ true
+placed-member {keys} {code} {at} p h = held code keys at h (p .found h)
 
 pub ruleset placing = (placed-at, placed-nowhere, placed-none, needs)
