@@ -3,7 +3,7 @@
 use mathlib.Core.Path.{_≡_}
 use mathlib.Core.List.{List, [], _∷_, _++_}
 use mathlib.Core.Bool.{Bool, true, false, cond}
-use Prim.Native.Nat.{ℕ, _<_}
+use Prim.Native.Nat.{ℕ, _%_, _<_}
 use lib.Dec.{ltb}
 use lib.IntN.{ℤ}
 use lib.ListN.{length}
@@ -29,14 +29,24 @@ keysBefore (w ∷ l) = cond (key w) (keyValue w ∷ keysBefore l) []
 unfoldable pub heldBytes : KeyPlace → List ℕ
 heldBytes p = cond (ltb (p .bytes) 4) (lowBytes (p .bytes) (p .held)) []
 
+-- the bytes from a place on: those held, and those ahead
+unfoldable pub bytesFrom : List ℕ → KeyPlace → List ℕ
+bytesFrom text p = heldBytes p ++ bytesAhead (lettersAt text (p .at))
+
 unfoldable pub codedAhead : Endian → List ℕ → KeyPlace → List ℤ
-codedAhead e text p = keysIn e (heldBytes p ++ bytesAhead (lettersAt text (p .at)))
+codedAhead e text p = keysIn e (bytesFrom text p)
 
 -- THE KEYS AHEAD of a place
 unfoldable pub keysAhead : Encoding → List ℕ → KeyPlace → List ℤ
 keysAhead Plain text p = keysBefore (words (saysAt text (p .at)))
 keysAhead Big text p = codedAhead big text p
 keysAhead Little text p = codedAhead little text p
+
+-- how many bytes are left over behind the last key: fewer than four, and none behind words
+unfoldable pub spareBytes : Encoding → List ℕ → KeyPlace → ℕ
+spareBytes Plain text p = 0
+spareBytes Big text p = length (bytesFrom text p) % 4
+spareBytes Little text p = length (bytesFrom text p) % 4
 
 -- the order of bytes that a program keeps as a test, and the encoding with it
 unfoldable pub endianIf : Bool → Endian
@@ -59,8 +69,9 @@ startIn text (At i) = record { at = i; held = 0; bytes = 0 }
 unfoldable pub keysStart : List ℕ → ℕ → KeyPlace
 keysStart text at = startIn text (inside text at)
 
--- WHAT `key_next` PROMISES: the next key, the others being ahead of the place behind it, or that there is none.
+-- What `key_next` promises: the next key, the others being ahead of the place behind it, or that there is none, and how many bytes are
+-- left over.
 pub data KeyTold (encoding : Encoding) (text : List ℕ) (p : KeyPlace) : NextKey → Type 0 where
-  told-key : {z : ℤ} {q : KeyPlace} → keysAhead encoding text p ≡ z ∷ keysAhead encoding text q → keysLeft text q < keysLeft text p
-      → KeyTold encoding text p (Key z q)
-  told-end : keysAhead encoding text p ≡ [] → KeyTold encoding text p End
+  told-key : {z : ℤ} {q : KeyPlace} → keysAhead encoding text p ≡ z ∷ keysAhead encoding text q
+      → spareBytes encoding text p ≡ spareBytes encoding text q → keysLeft text q < keysLeft text p → KeyTold encoding text p (Key z q)
+  told-end : {n : ℕ} → keysAhead encoding text p ≡ [] → n ≡ spareBytes encoding text p → KeyTold encoding text p (End n)

@@ -8,7 +8,7 @@ use lib.IntN.{ℤ}
 use Rattle.nodes.specs.Texts.{left}
 use Rattle.base64.specs.Fours.{inEndian, bits32, twos}
 use Rattle.base64_reader.specs.Groups.{lettersAt, lowBytes, bytesAhead}
-use Rattle.array_keys.specs.Ahead.{heldBytes, endianIf}
+use Rattle.array_keys.specs.Ahead.{bytesFrom, endianIf}
 use Rattle.array_keys.specs.declared.KeyPlace.{KeyPlace}
 
 unfoldable pub keptBytes : ℕ → ℕ
@@ -22,8 +22,7 @@ pub record BytesRead (more count : ℕ) : Type 0 where
 
 -- The bytes held and ahead of a place are those held and ahead of another; four and more are held there, or no more are ahead.
 pub record Gathered (text : List ℕ) (from to : KeyPlace) : Type 0 where
-  pub same : heldBytes from ++ bytesAhead (lettersAt text (from .at)) ≡ lowBytes (to .bytes) (to .held)
-      ++ bytesAhead (lettersAt text (to .at))
+  pub same : bytesFrom text from ≡ lowBytes (to .bytes) (to .held) ++ bytesAhead (lettersAt text (to .at))
   pub few : to .bytes ≤ 6
   pub ended : to .bytes < 4 → bytesAhead (lettersAt text (to .at)) ≡ []
   pub fallen : 4 ≤ to .bytes → left text (to .at) < left text (from .at)

@@ -78,7 +78,7 @@ pub(crate) fn coded_next(text: &[u8], from: KeyPlace, values: &[u8], little: boo
 {
     let found = gathered(text, from, values);
     if found.bytes < 4 {
-        return NextKey::End;
+        return NextKey::End(found.bytes);
     }
     let rest = found.bytes - 4;
     NextKey::Key(

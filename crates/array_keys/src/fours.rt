@@ -38,7 +38,7 @@ fn twos_of(n: u64) -> i32
 }
 
 // The key of four bytes, as one number with the first the greatest.
-pub(crate) fn key_of(n: u64, little: bool) -> i32
+pub fn key_of(n: u64, little: bool) -> i32
     requires { ⌜ n < 4294967296 ⌝ }
     ensures { λ r. ⌜ r ≡ keyBy little n ⌝ }
 {

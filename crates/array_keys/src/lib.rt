@@ -5,9 +5,9 @@ mod coded;
 // The key of four bytes.
 mod fours;
 
-pub use base64_reader::byte_count;
 pub use base64_reader::letter_values;
 use coded::coded_next;
+pub use fours::key_of;
 use key_lists::ListedKey;
 use nodes::Found;
 ghost use mathlib.Core.Path.{_≡_};
@@ -29,13 +29,13 @@ pub struct KeyPlace {
     pub bytes: usize,
 }
 
-// The next key, and the place behind it.
+// The next key, and the place behind it; or how many bytes are left over.
 pub enum NextKey {
     Key(i32, KeyPlace),
-    End,
+    End(usize),
 }
 
-pub(crate) fn place(at: usize, held: u64, bytes: usize) -> KeyPlace
+pub fn place(at: usize, held: u64, bytes: usize) -> KeyPlace
     ensures { λ r. ⌜ r ≡ record { at = at; held = held; bytes = bytes } ⌝ }
 {
     KeyPlace {
@@ -61,8 +61,8 @@ fn plain_next(text: &[u8], from: KeyPlace) -> NextKey
 {
     match key_lists::next_key(text, from.at) {
         ListedKey::Key(k, j) => NextKey::Key(k, place(j, 0, 0)),
-        ListedKey::End => NextKey::End,
-        ListedKey::Bad => NextKey::End,
+        ListedKey::End => NextKey::End(0),
+        ListedKey::Bad => NextKey::End(0),
     }
 }
 

@@ -6,23 +6,20 @@ use mathlib.Core.Option
 use mathlib.Core.Bool.{Bool, true, false, cond}
 use Prim.Native.Nat.{ℕ, zero, suc, _+_, _*_, _/_, _%_, _^_, _<_, _≤_}
 use lib.Dec.{eqb}
-use lib.ListN.{length}
-use Rattle.lists.specs.Lists.{table}
+use lib.ListN.{length, getD}
+use Rattle.lists.specs.Lists.{table, allBelow}
 use Rattle.grammar.specs.Look.{Word}
 use Rattle.nodes.specs.Texts.{saysAt, left}
 use Rattle.nodes.specs.declared.Char.{Char}
 use Rattle.nodes.specs.declared.Char.the-variants as chars
-use Rattle.base64.specs.Base64.{unblanked, worth, sixes, three, threeMore, ending, fourValues, decode}
+use Rattle.base64.specs.Base64.{unblanked, worth, isValue, sixes, three, threeMore, ending, fourValues, decode}
 use Rattle.base64.specs.Fours.{bytesOr}
 use Rattle.base64_reader.specs.declared.Group.{Group}
 use Rattle.base64_reader.specs.declared.Group.the-variants.{Bytes, End, Bad}
 
--- the values of the bytes from `+` to `z`, each 35 greater, as they are lent
-unfoldable pub shifted : ℕ → ℕ
-shifted k = worth (k + 43) + 35
-
+-- the value of each byte, as it is lent
 unfoldable pub valuesLent : List ℕ
-valuesLent = table 80 shifted
+valuesLent = table 256 worth
 
 -- what is ahead of a place, without its blanks
 unfoldable pub lettersAt : List ℕ → ℕ → Word
@@ -105,3 +102,10 @@ pub record LastTold (whole : Option (List ℕ)) (at : ℕ) (r : Group) : Type 0 
 pub record Quick (text : List ℕ) (at n : ℕ) : Type 0 where
   pub told : n < 16777216 → GroupTold text at (Bytes n 3 (at + 4))
   pub inside : n < 16777216 → at + 4 ≤ length text
+
+-- whether a letter stands k behind a place, as it is; where the text is over, none does
+unfoldable pub letterBehind : List ℕ → ℕ → ℕ → Bool
+letterBehind text at k = isValue (worth (getD text (at + k) 0))
+
+unfoldable pub sixteenAt : List ℕ → ℕ → Bool
+sixteenAt text at = allBelow 16 (letterBehind text at)

@@ -26,12 +26,14 @@ pub(crate) fn next_letter(text: &[u8], at: usize) -> Char
     }
 }
 
-// The values of the bytes from `+` to `z` as letters, each 35 greater: lent to whoever reads letters, since a table is laid out at each
-// use.
-pub fn letter_values() -> [u8; 80]
+// The value of each byte as a letter, 64 being `@` and 65 `A`: lent to whoever reads letters, since a table is laid out at each use.
+pub fn letter_values() -> [u8; 256]
     ensures { λ r. ⌜ r ≡ valuesLent ⌝ }
 {
-    *b"acccbWXYZ[\\]^_`cccdccc#$%&'()*+,-./0123456789:;<cccccc=>?@ABCDEFGHIJKLMNOPQRSTUV"
+    *b"@@@@@@@@@@@@@@@@@@@@@@@@@@@@@@@@@@@@@@@@@@@>@@@?456789:;<=@@@A@@@\
+      \x00\x01\x02\x03\x04\x05\x06\x07\x08\x09\x0a\x0b\x0c\x0d\x0e\x0f\x10\x11\x12\x13\x14\x15\x16\x17\x18\x19\
+      @@@@@@\x1a\x1b\x1c\x1d\x1e\x1f !\"#$%&'()*+,-./0123@@@@@\
+      @@@@@@@@@@@@@@@@@@@@@@@@@@@@@@@@@@@@@@@@@@@@@@@@@@@@@@@@@@@@@@@@@@@@@@@@@@@@@@@@@@@@@@@@@@@@@@@@@@@@@@@@@@@@@@@@@@@@@@@@@@@@@@@@"
 }
 
 // The value of a letter; 65 for `=`, 64 for what is no letter.
@@ -39,11 +41,5 @@ pub(crate) fn value_of(b: u8, values: &[u8]) -> u64
     requires { ⌜ now values ≡ valuesLent ⌝ }
     ensures { λ r. ⌜ r ≡ worth b ⌝ }
 {
-    if b < b'+' {
-        return 64;
-    }
-    if b'z' < b {
-        return 64;
-    }
-    (values[(b - b'+') as usize] - 35) as u64
+    values[b as usize] as u64
 }

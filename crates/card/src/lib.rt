@@ -1,7 +1,4 @@
-// The morning card: which lines are printed, and how many.
-mod count;
+// The morning card: which lines are printed, and how many. Definitions, laws and types; no functions.
 mod line;
 
-pub use count::line_count;
 pub use line::Line;
-pub use line::line_at;

@@ -1,4 +1,5 @@
 // Passing over what is known to be well formed: only tags matter.
+use blocks::block_lacks;
 use heads::comments::comment_end;
 use heads::data::data_end;
 use letters::classes::is_quote;
@@ -10,27 +11,16 @@ use steps::pieces::Front;
 ghost use mathlib.Core.Path.{_≡_};
 ghost use Prim.Native.Nat.{_+_, _-_, _<_, _≤_};
 ghost use lib.ListN.{length, drop, getD};
+ghost use Rattle.grammar.specs.Parser.{closing};
 ghost use Rattle.steps.specs.Step.{stepped};
-ghost use Rattle.nodes.specs.Scan.{to-tag, lacks, Lacking, Quoted, past-tag, quoting, finishes, finish, tag-at, scan, leave-at, skip-at};
+ghost use Rattle.steps.specs.Blocks.{Through, other};
+ghost use Rattle.nodes.specs.Scan.{to-tag, past-tag, finish, tag-at, scan, leave-at, skip-at};
 ghost use Rattle.nodes.specs.ScanSteps.{tagged, signed, sign};
-
-// Whether the byte is none of the sixteen from `at` on. All sixteen are looked at, so that one instruction can do it.
-fn block_lacks(text: &[u8], at: usize, sign: u8) -> bool
-    requires { ⌜ at + 16 ≤ length (now text) ⌝ }
-    ensures { λ r. ⌜ r ≡ lacks sign 16 (drop at (now (text .entry))) ⌝ }
-{
-    let mut free = true;
-    let mut k = 0;
-    while k < 16 {
-        free = free & (text[at + k] != sign);
-        k += 1;
-    }
-    free
-}
+ghost use Rattle.elements.specs.Tags.{turns, Turning, Nearby};
 
 // A place up to which the byte does not stand, reached by blocks.
 fn past_blocks(text: &[u8], at: usize, sign: u8) -> usize
-    ensures { λ r. ⌜ Lacking (now (text .entry)) sign at r ⌝ }
+    ensures { λ r. ⌜ Through (other sign) (now (text .entry)) at r ⌝ }
 {
     let mut i = at;
     while i < text.len() {
@@ -73,26 +63,17 @@ pub fn past_tag(text: &[u8], at: usize) -> Step
     Step::No
 }
 
-// The quote in which what follows the byte stands; 0 is none.
-fn quoted(q: u8, b: u8) -> u8
-    ensures { λ r. ⌜ r ≡ quoting q b ⌝ }
+fn ends_tag(b: u8) -> bool
+    ensures { λ r. ⌜ r ≡ closing b ⌝ }
 {
-    if q == 0 {
-        if is_quote(b) {
-            return b;
-        }
-        return 0;
-    }
-    if b == q {
-        return 0;
-    }
-    q
+    (b == b'>') | (b == b'/')
 }
 
-fn ends_tag(q: u8, b: u8) -> bool
-    ensures { λ r. ⌜ r ≡ finishes q b ⌝ }
+// Whether a tag turns at the byte, outside of quotes.
+fn turns_tag(b: u8) -> bool
+    ensures { λ r. ⌜ r ≡ turns 0 b ⌝ }
 {
-    (q == 0) & ((b == b'>') | (b == b'/'))
+    ends_tag(b) | is_quote(b)
 }
 
 // Behind a tag that ends with the byte at `at`.
@@ -113,10 +94,78 @@ fn finish_at(text: &[u8], at: usize) -> Tag
     Tag::No
 }
 
-// Where the quote stands that ends the value at `at`, or the end of the text.
-fn to_quote(text: &[u8], at: usize, q: u8) -> usize
+// From here on fewer than sixteen bytes are left.
+fn near_limit(text: &[u8]) -> usize
+    ensures { λ r. ⌜ r ≡ length (now (text .entry)) - 15 ⌝ }
+{
+    if text.len() < 15 {
+        return 0;
+    }
+    text.len() - 15
+}
+
+// How many of sixteen bytes pass, outside of quotes. Their count is fixed, so that the loop is unrolled.
+fn near_sign(text: &[u8], at: usize) -> usize
+    requires { ⌜ at + 16 ≤ length (now text) ⌝ }
+    ensures { λ r. ⌜ Nearby (now (text .entry)) 0 at r ⌝ }
+{
+    let mut k = 0;
+    while k < 16 {
+        if turns_tag(text[at + k]) {
+            return k;
+        }
+        k += 1;
+    }
+    k
+}
+
+// Where the tag turns that goes on at `at` outside of quotes, or the end of the text: by bytes.
+fn far_sign(text: &[u8], at: usize) -> usize
+    ensures { λ r. ⌜ Turning (now (text .entry)) 0 at r ⌝ }
+{
+    let mut i = at;
+    while i < text.len() {
+        if turns_tag(text[i]) {
+            return i;
+        }
+        i += 1;
+    }
+    i
+}
+
+// The same, quick where it turns within sixteen bytes.
+fn to_sign(text: &[u8], at: usize) -> usize
+    ensures { λ r. ⌜ Turning (now (text .entry)) 0 at r ⌝ }
+{
+    if near_limit(text) <= at {
+        return far_sign(text, at);
+    }
+    let k = near_sign(text, at);
+    if k < 16 {
+        return at + k;
+    }
+    far_sign(text, at + 16)
+}
+
+// How many of sixteen bytes pass, in a value: most values end within them.
+fn near_quote(text: &[u8], at: usize, q: u8) -> usize
+    requires { ⌜ (q ≡ 0 → ⊥) × (at + 16 ≤ length (now text)) ⌝ }
+    ensures { λ r. ⌜ Nearby (now (text .entry)) q at r ⌝ }
+{
+    let mut k = 0;
+    while k < 16 {
+        if text[at + k] == q {
+            return k;
+        }
+        k += 1;
+    }
+    k
+}
+
+// Where the quote stands that ends the value at `at`, or the end of the text: by blocks, then by bytes.
+fn far_quote(text: &[u8], at: usize, q: u8) -> usize
     requires { ⌜ (q ≡ 0 → ⊥) ⌝ }
-    ensures { λ r. ⌜ Quoted (now (text .entry)) q at r ⌝ }
+    ensures { λ r. ⌜ Turning (now (text .entry)) q at r ⌝ }
 {
     let mut i = past_blocks(text, at, q);
     while i < text.len() {
@@ -128,34 +177,44 @@ fn to_quote(text: &[u8], at: usize, q: u8) -> usize
     i
 }
 
-// A value is passed over; outside of quotes, nothing.
-fn past_value(text: &[u8], at: usize, q: u8) -> usize
-    ensures { λ r. ⌜ Quoted (now (text .entry)) q at r ⌝ }
+// The same, quick where the value ends within sixteen bytes.
+fn to_quote(text: &[u8], at: usize, q: u8) -> usize
+    requires { ⌜ (q ≡ 0 → ⊥) ⌝ }
+    ensures { λ r. ⌜ Turning (now (text .entry)) q at r ⌝ }
 {
-    if q == 0 {
-        return at;
+    if near_limit(text) <= at {
+        return far_quote(text, at, q);
     }
-    to_quote(text, at, q)
+    let k = near_quote(text, at, q);
+    if k < 16 {
+        return at + k;
+    }
+    far_quote(text, at + 16, q)
 }
 
-// The start tag at `at`.
+// The start tag at `at`: signs outside of quotes and values by turns.
 pub fn tag_end(text: &[u8], at: usize) -> Tag
     ensures { λ r. ⌜ r ≡ tagged (length (now (text .entry))) (tag-at (drop at (now (text .entry)))) ⌝ }
 {
     if text.len() <= at {
         return Tag::No;
     }
-    let mut q = 0;
     let mut i = at + 1;
-    while i < text.len() {
-        let b = text[i];
-        if ends_tag(q, b) {
-            return finish_at(text, i);
+    loop {
+        let j = to_sign(text, i);
+        if text.len() <= j {
+            return Tag::No;
         }
-        q = quoted(q, b);
-        i = past_value(text, i + 1, q);
+        let b = text[j];
+        if ends_tag(b) {
+            return finish_at(text, j);
+        }
+        let k = to_quote(text, j + 1, b);
+        if text.len() <= k {
+            return Tag::No;
+        }
+        i = k + 1;
     }
-    Tag::No
 }
 
 // What stands at a place where contents go on with a tag.

@@ -1,9 +1,8 @@
 -- WHAT IS TOLD OF ARRAYS: how an array writes its keys; how many they are, and how many stand in a part of the table.
 use mathlib.Core.Path.{_≡_}
-use mathlib.Core.Bool.{Bool, true, cond}
+use mathlib.Core.Bool.{true, cond}
 use mathlib.Core.List.{List}
-use Prim.Native.Nat.{ℕ, suc, _*_, _^_, _≤_, _<_}
-use lib.Dec.{eqb}
+use Prim.Native.Nat.{ℕ, suc, _%_, _^_, _≤_, _<_}
 use lib.IntN.{ℤ}
 use lib.ListN.{length}
 use Rattle.lists.specs.Lists.{all, eachIn}
@@ -17,11 +16,10 @@ use Rattle.numbers.specs.Numbers.{inKeys}
 use Rattle.base64.specs.Fours.{codedBytes}
 use Rattle.known_keys.specs.Known.{knownIn}
 use Rattle.gifti.specs.Arrays.{arraysOf, isCoded, dataOf, dim0, arrayKeys, fillsDim0}
-use Rattle.nodes.specs.Texts.{text-of}
-use Rattle.array_keys.specs.Ahead.{keysAhead, keysStart}
+use Rattle.array_keys.specs.Ahead.{keysAhead, spareBytes, keysStart}
 use Rattle.array_keys.specs.declared.Encoding.{Encoding}
 use Rattle.array_keys.specs.declared.Encoding.the-variants.{Plain, Big, Little}
-use Rattle.gifti_arrays.specs.Tally.{codesOf}
+use Rattle.known_keys.specs.Known.{codesOf}
 use Rattle.gifti_arrays.specs.declared.array.ArrayNote.{ArrayNote}
 use Rattle.gifti_arrays.specs.declared.array.ArrayTold.{ArrayTold}
 use Rattle.gifti_arrays.specs.declared.arrays.Told.{Told}
@@ -39,24 +37,14 @@ orStart (At k) = k
 unfoldable pub dataAt : List ℕ → ℕ → ℕ
 dataAt text at = orStart (childNamed (ascii "Data") 0 text at)
 
--- few keys are said to be there
-pub record FewSaid (n : ArrayNote) : Type 0 where
-  pub said : n .count ≤ 1048576
+-- how many bytes are left over behind its last key
+unfoldable pub spareOf : Element → ℕ
+spareOf a = cond (isCoded a) (codedBytes (dataOf a) % 4) 0
 
 pub record Noted (text : List ℕ) (a : Element) (n : ArrayNote) : Type 0 where
   pub keys-are : keysAhead (n .encoding) text (keysStart text (n .from)) ≡ arrayKeys a
-  pub encoding-is : n .encoding ≡ encodingOf a
+  pub spare-is : spareBytes (n .encoding) text (keysStart text (n .from)) ≡ spareOf a
   pub count-is : n .count ≡ dim0 a
-  pub few-said : FewSaid n
-  pub bytes-are : isCoded a ≡ true → codedBytes (text-of text (n .from)) ≡ codedBytes (dataOf a)
-
-unfoldable pub fitsBy : Encoding → (keys bytes count : ℕ) → Bool
-fitsBy Plain keys bytes count = eqb keys count
-fitsBy Big keys bytes count = eqb bytes (4 * count)
-fitsBy Little keys bytes count = eqb bytes (4 * count)
-
-unfoldable pub noteFits : List ℕ → ArrayNote → ℕ → Bool
-noteFits text n keys = fitsBy (n .encoding) keys (codedBytes (text-of text (n .from))) (n .count)
 
 pub record ToldArray (text : List ℕ) (a : Element) (codes : List ℕ) (r : ArrayTold) : Type 0 where
   pub fitting : r .fits ≡ fillsDim0 a

@@ -1,7 +1,6 @@
 // One array: what it says of its keys, and its keys against a part of the table.
 use super::tally::count_keys;
 use array_keys::Encoding;
-use array_keys::byte_count;
 use inside::values::attribute_is;
 use maps::fields::attribute_number;
 use nodes::Found;
@@ -9,7 +8,7 @@ use ways::child_named;
 ghost use mathlib.Core.Path.{_≡_};
 ghost use Rattle.nodes.specs.Places.{Stands, the};
 ghost use Rattle.gifti_arrays.specs.Ready.{ArrayHere, ArrayAsked};
-ghost use Rattle.gifti_arrays.specs.Arrays.{encodingOf, dataAt, Noted, FewSaid, noteFits, ToldArray};
+ghost use Rattle.gifti_arrays.specs.Arrays.{encodingOf, dataAt, Noted, ToldArray};
 
 // Where the Data of an array stands, how it writes the keys, and how many they are to be.
 pub struct ArrayNote {
@@ -18,7 +17,8 @@ pub struct ArrayNote {
     pub count: u64,
 }
 
-// Whether an array has as many keys as it is to have; how many, and how many of them stand in the part of the table.
+// Whether an array has as many keys as it is to have, and no bytes left over; how many, and how many of them stand in the part of the
+// table.
 pub struct ArrayTold {
     pub fits: bool,
     pub keys: usize,
@@ -59,19 +59,6 @@ pub fn noted(text: &[u8], at: usize) -> ArrayNote
     }
 }
 
-// So many numbers, or four times as many bytes, as there are to be.
-fn note_fits(text: &[u8], note: ArrayNote, keys: usize) -> bool
-    requires { ⌜ FewSaid note ⌝ }
-    ensures { λ r. ⌜ r ≡ noteFits (now (text .entry)) note keys ⌝ }
-{
-    let encoding = note.encoding;
-    match encoding {
-        Encoding::Plain => keys as u64 == note.count,
-        Encoding::Big => byte_count(text, note.from) as u64 == 4 * note.count,
-        Encoding::Little => byte_count(text, note.from) as u64 == 4 * note.count,
-    }
-}
-
 pub(crate) fn array_told(text: &[u8], at: usize, codes: &[u64]) -> ArrayTold
     requires { ⌜ ArrayAsked (now text) at (now codes) ⌝ }
     ensures { λ r. ⌜ ToldArray (now (text .entry)) (the (now (text .entry)) at) (now (codes .entry)) r ⌝ }
@@ -80,7 +67,7 @@ pub(crate) fn array_told(text: &[u8], at: usize, codes: &[u64]) -> ArrayTold
     let encoding = note.encoding;
     let counted = count_keys(text, note.from, encoding, codes);
     ArrayTold {
-        fits: note_fits(text, note, counted.keys),
+        fits: (counted.keys as u64 == note.count) & (counted.spare == 0),
         keys: counted.keys,
         known: counted.known,
     }

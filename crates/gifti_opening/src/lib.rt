@@ -3,7 +3,7 @@ use arrays::array_not_read;
 use maps::limits::MOST_BYTES;
 use root::root_wrong;
 ghost use mathlib.Core.Path.{_≡_};
-ghost use Rattle.vocabulary.specs.Checks.{JudgedGifti};
+ghost use Rattle.numbered_rows.specs.Checks.{JudgedGifti};
 ghost use Rattle.gifti_opening.specs.Opening.{OpensGifti, OpensRoot};
 
 // 4.

@@ -1,4 +1,2 @@
-pub mod Codes
-pub mod Windows
-pub mod Walks
-pub mod Turns
+pub mod Rising
+pub mod Parts

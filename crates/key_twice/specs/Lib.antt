@@ -1,3 +1,3 @@
-pub mod Codes
-pub mod Windows
+pub mod Rising
+pub mod Parts
 pub mod Laws

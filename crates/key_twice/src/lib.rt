@@ -1,48 +1,40 @@
 // Whether a key stands twice in the table of labels at a place, with no memory lent: a table whose keys rise, or fall, is told in one walk,
-// any other in an array of the function's own, by ranges of keys that it has room for.
+// any other by parts, each as long as there is room for.
 
-// A key as a number that is not below 0, in the order of the keys.
-pub mod codes;
 // Keys that rise, or fall.
 mod rising;
-// The keys of a range, and whether one of them stands twice.
-mod windows;
-// Ranges that are not too wide.
-mod ranges;
+// A part of the keys in their order, and what comes behind it.
+mod parts;
 
-use ranges::narrowed;
-use ranges::next_high;
+use known_keys::taken;
+use label_table::labels::first_label;
+use nodes::Kid;
+use parts::part_twice;
 use rising::falls;
 use rising::rises;
-use windows::Turn;
-use windows::range_told;
 ghost use mathlib.Core.Path.{_≡_};
-ghost use Prim.Native.Nat.{_≤_};
+ghost use Prim.Native.Nat.{_<_};
 ghost use lib.ListN.{length};
 ghost use Rattle.label_table.specs.Labels.{twiceAt};
 
-// The keys, range by range.
+// The keys, part by part in the order of the text.
 fn search_in(text: &[u8], at: usize, work: &mut [u64]) -> bool
-    requires { ⌜ 2 ≤ length (now work) ⌝ }
+    requires { ⌜ 0 < length (now work) ⌝ }
     ensures { λ r. ⌜ r ≡ twiceAt (now (text .entry)) at ⌝ }
 {
-    let mut low = 0;
-    let mut high = 4294967295;
+    let mut kid = first_label(text, at);
     loop {
-        match range_told(text, at, low, high, work) {
-            Turn::Twice => {
-                return true;
-            }
-            Turn::Clear(n) => {
-                if 4294967295 <= high {
-                    return false;
+        match kid {
+            Kid::Child(_) => {
+                let turn = taken(text, kid, work);
+                let n = turn.n;
+                kid = turn.next;
+                if part_twice(text, kid, &work[..n]) {
+                    return true;
                 }
-                let next = next_high(low, high, n);
-                low = high + 1;
-                high = next;
             }
-            Turn::Over => {
-                high = narrowed(text, at, low, high, work);
+            Kid::Done => {
+                return false;
             }
         }
     }

@@ -1,11 +1,11 @@
 // Keys that rise, or fall.
-use super::codes::code_at;
+use key_codes::codes::code_at;
 use label_table::labels::first_label;
 use label_table::labels::next_label;
 use nodes::Kid;
 ghost use mathlib.Core.Path.{_≡_};
-ghost use Rattle.key_twice.specs.Codes.{codesAt};
-ghost use Rattle.key_twice.specs.Windows.{risesFrom, fallsFrom};
+ghost use Rattle.key_codes.specs.Codes.{codesAt};
+ghost use Rattle.key_twice.specs.Rising.{risesFrom, fallsFrom};
 
 // Each key of the table at `at` is above the one before it.
 pub(crate) fn rises(text: &[u8], at: usize) -> bool

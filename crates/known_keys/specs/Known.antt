@@ -3,17 +3,29 @@ use mathlib.Core.Path.{_≡_}
 use mathlib.Core.Bool.{true, false}
 use mathlib.Core.List.{List, _++_}
 use Prim.Native.Nat.{ℕ, _≤_, _<_}
+use lib.IntN.{ℤ}
 use lib.ListN.{length, getD, take}
-use Rattle.lists.specs.Lists.{count}
+use Rattle.lists.specs.Lists.{all, count, each}
+use Rattle.numbers.specs.Numbers.{inKeys}
 use Rattle.nodes.specs.declared.Kid.{Kid}
 use Rattle.nodes.specs.declared.Kid.the-variants.{Child}
-use Rattle.comparison.specs.Matched.{member}
-use Rattle.key_twice.specs.Laws.Walks.{toCome}
+use Rattle.comparison.specs.Matched.{member, Reordered}
+use Rattle.key_codes.specs.Laws.Walks.{toCome}
+use Rattle.key_codes.specs.Codes.{codeOf}
 use Rattle.known_keys.specs.Order.{inOrder}
 
 -- how many numbers of the list stand in the table
 unfoldable pub knownIn : (table : List ℕ) → List ℕ → ℕ
 knownIn table l = count (λ c. member c table) l
+
+-- the codes of keys
+unfoldable pub codesOf : List ℤ → List ℕ
+codesOf l = each codeOf l
+
+-- so many keys of a row stand in the table; all are in the range of keys
+pub record KnownAmong (keys : List ℤ) (table : List ℕ) (known : ℕ) : Type 0 where
+  pub found : known ≡ knownIn table (codesOf keys)
+  pub in-range : all inKeys keys ≡ true
 
 -- ---- A search.
 
@@ -43,4 +55,5 @@ pub record Taken (text : List ℕ) (from : Kid) (work : List ℕ) (n : ℕ) (nex
   pub parts : codes ++ toCome text next ≡ toCome text from
   pub moves : {k : ℕ} → from ≡ Child k → 0 < length work → 0 < n
   pub ordered : inOrder (take n work) ≡ true
+  pub reordered : Reordered codes (take n work)
   pub same : (c : ℕ) → member c (take n work) ≡ member c codes

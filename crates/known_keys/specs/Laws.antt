@@ -1,3 +1,5 @@
 pub mod Order
 pub mod Search
+pub mod Sieve
+pub mod Among
 pub mod Turns

@@ -1,3 +1,4 @@
 pub mod Order
 pub mod Known
+pub mod Sieve
 pub mod Laws

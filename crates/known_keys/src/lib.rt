@@ -5,9 +5,14 @@
 mod order;
 // A number searched among numbers in order.
 mod search;
+// Marks by which most numbers that do not stand there are told.
+mod sieve;
+// A row of keys, counted.
+mod among;
 // The keys of a table, so many at a time.
 mod turns;
 
+pub use among::known_among;
 pub use search::place_in;
 pub use turns::Turn;
 pub use turns::taken;

@@ -16,11 +16,12 @@ pub record Stay (before after : List ℕ) : Type 0 where
   pub long : length after ≡ length before
   pub stays : (q : ℕ) → marked before q ≡ 1 → marked after q ≡ 1
 
--- Every mark stays; and where the answer is yes, the place was not marked, and is.
+-- Every mark stays; where the answer is yes, the place was not marked; and it is marked, where there is room.
 pub record Marked (before : List ℕ) (place : ℕ) (new : Bool) (after : List ℕ) : Type 0 where
   pub kept : Stay before after
   pub unmarked : new ≡ true → marked before place ≡ 0
   pub now-marked : new ≡ true → marked after place ≡ 1
+  pub with-room : place / 64 < length before → marked after place ≡ 1
 
 -- a bit that is not set, of 64
 pub record Unset (word shift : ℕ) : Type 0 where

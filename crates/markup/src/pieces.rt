@@ -1,4 +1,5 @@
 // What stands between the tags in contents: characters, comments and CDATA.
+use blocks::past_quick;
 use heads::characters::character_end;
 use heads::characters::reference_end;
 use heads::comments::comment_end;
@@ -122,11 +123,11 @@ pub fn is_plain(b: u8) -> bool
         & (!((b == b'<') | (b == b'&')) & !(b == b']'))
 }
 
-// Where plain bytes end.
-pub fn plain_end(text: &[u8], at: usize) -> usize
+// Where plain bytes end: by blocks, and one by one behind the last block.
+fn far_plain_end(text: &[u8], at: usize) -> usize
     ensures { λ r. ⌜ Step.To r ≡ stepped (length (now (text .entry))) (span plain (drop at (now (text .entry)))) ⌝ }
 {
-    let mut i = at;
+    let mut i = past_quick(text, at);
     while i < text.len() {
         if !is_plain(text[i]) {
             return i;
@@ -134,6 +135,25 @@ pub fn plain_end(text: &[u8], at: usize) -> usize
         i += 1;
     }
     text.len()
+}
+
+// Where plain bytes end. The first sixteen are read one by one: most texts are short, and blocks would cost more.
+pub fn plain_end(text: &[u8], at: usize) -> usize
+    ensures { λ r. ⌜ Step.To r ≡ stepped (length (now (text .entry))) (span plain (drop at (now (text .entry)))) ⌝ }
+{
+    let mut i = at;
+    let mut k: usize = 0;
+    while k < 16 {
+        if text.len() <= i {
+            return text.len();
+        }
+        if !is_plain(text[i]) {
+            return i;
+        }
+        i += 1;
+        k += 1;
+    }
+    far_plain_end(text, i)
 }
 
 // What stands at `at`, where no piece does.

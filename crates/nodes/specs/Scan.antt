@@ -1,9 +1,9 @@
 -- Passing over what is known to be well formed: only tags matter. Total on any bytes.
 use mathlib.Core.Path.{_≡_, refl, ap, sym, _∙_}
 use mathlib.Core.List.{List, [], _∷_, _++_, append-assoc}
-use Prim.Native.Nat.{ℕ, zero, suc, _+_, _-_, _≤_, _<_}
+use Prim.Native.Nat.{ℕ, zero, suc, _+_, _≤_, _<_}
 use native.Mathlib.Omega.{arith}
-use mathlib.Core.Bool.{Bool, true, false, not, _&&_}
+use mathlib.Core.Bool.{Bool, true, false, _&&_}
 use lib.Dec.{eqb}
 use lib.ListN.{length, drop, length-append}
 use Rattle.grammar.specs.Bytes.{ascii, quote}
@@ -19,17 +19,6 @@ use Rattle.nodes.specs.Laws.Depth.{comment-eats, data-eats}
 unfoldable pub to-tag : List ℕ → List ℕ
 to-tag [] = []
 to-tag (a ∷ s) = pick (eqb a 60) (a ∷ s) (to-tag s)
-
--- the byte is none of the first, so many
-unfoldable pub lacks : (b n : ℕ) → List ℕ → Bool
-lacks b zero s = true
-lacks b (suc n) [] = true
-lacks b (suc n) (a ∷ s) = not (eqb a b) && lacks b n s
-
-pub record Lacking (text : List ℕ) (b at i : ℕ) : Type 0 where
-  pub ahead : at ≤ i
-  pub inside : at < i → i ≤ length text
-  pub free : lacks b (i - at) (drop at text) ≡ true
 
 -- up to the first `>`, and it
 unfoldable pub past-tag : Reader (Unit {0})

@@ -10,9 +10,17 @@ ghost use Rattle.numbers.specs.Numbers.{withSign};
 ghost use Rattle.numbers.specs.Stream.{letterAt, charAt, stream, wordEnds, digitsAt, behind, leading};
 ghost use Rattle.numbers.specs.Answers.{signIf};
 ghost use Rattle.numbers.specs.declared.Source.the-variants.{Contents};
+ghost use Rattle.number_lists.specs.Letters.{odd};
+
+// A byte that may read as something else than itself.
+fn is_odd(b: u8) -> bool
+    ensures { λ r. ⌜ r ≡ odd b ⌝ }
+{
+    ((b == b'<') | (b == b'&')) | (b == b'\r')
+}
 
 // The next decoded byte of a text: comments and children are passed over.
-pub fn letter(text: &[u8], at: usize) -> Char
+fn any_letter(text: &[u8], at: usize) -> Char
     ensures { λ r. ⌜ r ≡ letterAt (now (text .entry)) at ⌝ }
 {
     let mut i = at;
@@ -29,6 +37,20 @@ pub fn letter(text: &[u8], at: usize) -> Char
             }
         }
     }
+}
+
+// The same, quick where the byte reads as itself.
+pub fn letter(text: &[u8], at: usize) -> Char
+    ensures { λ r. ⌜ r ≡ letterAt (now (text .entry)) at ⌝ }
+{
+    if text.len() <= at {
+        return any_letter(text, at);
+    }
+    let b = text[at];
+    if is_odd(b) {
+        return any_letter(text, at);
+    }
+    Char::Byte(b, at + 1)
 }
 
 // The next decoded byte.

@@ -6,6 +6,8 @@ pub mod chars;
 mod listed;
 // The next number of a list where plain bytes write it.
 mod quick;
+// The next number of a list inside CDATA.
+mod within;
 
 pub use listed::any_number;
 pub use quick::next_number;

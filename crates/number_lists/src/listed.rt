@@ -4,6 +4,7 @@ use super::chars::digits;
 use super::chars::letter;
 use super::chars::wide;
 use super::chars::word_ends;
+use super::within::late_number;
 use nodes::Char;
 use numbers::Next;
 use numbers::Run;
@@ -12,9 +13,10 @@ ghost use mathlib.Core.Path.{_≡_};
 ghost use Prim.Native.Nat.{_-_, _<_, _≤_};
 ghost use lib.ListN.{length, getD};
 ghost use Rattle.grammar.specs.Bytes.{blank};
-ghost use Rattle.numbers.specs.Stream.{digitsAt, Few, Plain, Stops, Begun, EightLeft, runOf};
+ghost use Rattle.numbers.specs.Stream.{digitsAt, Few, Stops, Begun, EightLeft, runOf};
 ghost use Rattle.numbers.specs.declared.Source.the-variants.{Contents};
 ghost use Rattle.numbers.specs.Answers.{nextNumber};
+ghost use Rattle.number_lists.specs.Within.{Digits};
 
 // The place behind the plain blanks at `at`, those that stand in the text as they are; none from `last` on is looked at.
 fn plain_blanks(text: &[u8], at: usize, last: usize) -> usize
@@ -32,7 +34,7 @@ fn plain_blanks(text: &[u8], at: usize, last: usize) -> usize
 }
 
 // The place behind seven bytes from `at` on, nearer where the text ends.
-fn seven_on(text: &[u8], at: usize) -> usize
+pub(crate) fn seven_on(text: &[u8], at: usize) -> usize
     ensures { λ r. ⌜ Stops (now (text .entry)) at r ⌝ }
 {
     if text.len() <= at {
@@ -45,9 +47,9 @@ fn seven_on(text: &[u8], at: usize) -> usize
 }
 
 // The plain digits at `at`, up to `stop`.
-fn plain_digits(text: &[u8], at: usize, stop: usize) -> Run
+pub(crate) fn plain_digits(text: &[u8], at: usize, stop: usize) -> Run
     requires { ⌜ Stops (now text) at stop ⌝ }
-    ensures { λ r. ⌜ Plain (now (text .entry)) at stop r ⌝ }
+    ensures { λ r. ⌜ Digits (now (text .entry)) at stop r ⌝ }
 {
     let mut n: u64 = 0;
     let mut i = at;
@@ -121,7 +123,7 @@ fn number_from(text: &[u8], at: usize, value: u64, next: usize) -> Next
 }
 
 // The next number, whatever stands before it.
-fn number_at(text: &[u8], at: usize) -> Next
+pub(crate) fn number_at(text: &[u8], at: usize) -> Next
     ensures { λ r. ⌜ r ≡ nextNumber (now (text .entry)) at ⌝ }
 {
     let i = blanks(text, at);
@@ -146,7 +148,7 @@ pub fn any_number(text: &[u8], at: usize) -> Next
     let last = eight_left(text);
     let i = plain_blanks(text, at, last);
     if last <= i {
-        return number_at(text, i);
+        return late_number(text, i);
     }
     let run = plain_digits(text, i, i + 7);
     if run.count == 0 {

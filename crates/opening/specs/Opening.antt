@@ -29,7 +29,7 @@ use Rattle.cifti.specs.Maps.{Map, mapOf, mapElements, mapsOf}
 use Rattle.cifti.specs.Conditions as C
 use Rattle.cifti.specs.Conditions.{_when_, lengthsWrong, textTooLong, noDocument, rootWrong, kindNotRead, shapeWrong, numberWrong}
 use Rattle.cifti.specs.Conditions.{conditionsOfHeader}
-use Rattle.vocabulary.specs.Checks.{rootFault, Judged, ChecksCifti}
+use Rattle.numbered_rows.specs.Checks.{rootFault, Judged, ChecksCifti}
 use Rattle.shape.specs.declared.Checked.{Checked}
 use Rattle.lists.specs.Laws.Booleans.{never-some}
 use Rattle.maps.specs.Laws.Good.{Good}

@@ -7,7 +7,7 @@ use maps::limits::MOST_RECORDS;
 use nodes::Kid;
 ghost use mathlib.Core.Path.{_≡_};
 ghost use Rattle.cifti.specs.Conditions.{lengthsWrong};
-ghost use Rattle.vocabulary.specs.Checks.{Judged};
+ghost use Rattle.numbered_rows.specs.Checks.{Judged};
 ghost use Rattle.opening.specs.Opening.{Opens, Found};
 
 // The number of the first that applies; where it is 0, the matrix begins at `matrix`.

@@ -1,7 +1,5 @@
-// Whether two records name the same place.
+// Whether a number stands twice in a work space.
 
 mod repeat;
 
-pub use repeat::clear;
 pub use repeat::repeats_in;
-pub use repeat::twice;

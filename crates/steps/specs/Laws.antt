@@ -12,6 +12,7 @@ pub mod Noted
 pub mod Attributes
 pub mod Parsing
 pub mod Pieces
+pub mod Blocks
 pub mod Between
 pub mod Tags
 pub mod Prologue

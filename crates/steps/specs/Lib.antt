@@ -6,5 +6,6 @@ pub mod Row
 pub mod Prologue
 pub mod Tags
 pub mod Pieces
+pub mod Blocks
 pub mod WellFormed
 pub mod Laws

@@ -7,8 +7,8 @@ ghost use Rattle.nodes.specs.Values.{value-there};
 ghost use Rattle.cifti.specs.Words.{structures, units, numberIn};
 ghost use Rattle.cifti.specs.Maps.{wordsOfKinds};
 ghost use Rattle.shape.specs.Table.{wordsAt};
-ghost use Rattle.vocabulary.specs.Table.{table, letters};
-ghost use Rattle.vocabulary.specs.Checks.{ChecksCifti, ChecksGifti, Answers};
+ghost use Rattle.numbered_rows.specs.Table.{table, letters};
+ghost use Rattle.numbered_rows.specs.Checks.{ChecksCifti, ChecksGifti, Answers};
 
 // The numbers and letters.
 mod table;

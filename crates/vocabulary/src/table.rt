@@ -1,7 +1,7 @@
 // The table of CIFTI and GIFTI: all their rows, words and limits, as tools/cifti_table writes them from specs/Table.antt. A
 // constant costs code wherever it is laid out, so each is laid out by one function.
 ghost use mathlib.Core.Path.{_≡_};
-ghost use Rattle.vocabulary.specs.Table.{table, letters as lettersOf};
+ghost use Rattle.numbered_rows.specs.Table.{table, letters as lettersOf};
 
 // Where each part begins and the watched word; kinds; attributes; children; choices; cases; words; forms.
 const TABLE: [u32; 581] = [

@@ -1,14 +1,14 @@
 -- Where a text is in form, its keys are those ahead of its start.
 use mathlib.Core.Path.{_≡_, refl, sym, ap, subst, _∙_}
-use mathlib.Core.List.{List, [], _∷_, _++_}
+use mathlib.Core.List.{List, [], _∷_}
 use mathlib.Core.Option.{Option, some}
 use mathlib.Core.Option
-use mathlib.Core.Bool.{Bool, true, false, _&&_, cond}
-use Prim.Native.Nat.{ℕ, zero, suc, _+_, _-_, _<_, _≤_}
+use mathlib.Core.Bool.{Bool, true, false, cond}
+use Prim.Native.Nat.{ℕ, _+_, _*_, _%_, _<_, _≤_}
 use native.Mathlib.Omega.{arith}
-use lib.Dec.{eqb, ltb}
+use lib.Dec.{eqb}
 use lib.IntN.{ℤ}
-use lib.ListN.{length, drop}
+use lib.ListN.{length}
 use lib.Seq.{drop-length}
 use borrow.Author.Needs.{needs}
 use Rattle.lists.specs.Lists.{all, each, isSome, those}
@@ -21,13 +21,13 @@ use Rattle.nodes.specs.declared.Found.{Found}
 use Rattle.nodes.specs.declared.Found.the-variants.{At, Nothing}
 use Rattle.numbers.specs.Numbers.{words, key, keyValue, keyList, listedKeys}
 use Rattle.base64.specs.Base64.{unblanked, worth, sixes, three, threeMore, ending, fourValues, decode, bytesIn, coded}
-use Rattle.base64.specs.Fours.{Endian, big, little, keysIn, bytesOr, codedKeys}
+use Rattle.base64.specs.Fours.{Endian, big, little, keysIn, bytesOr, codedKeys, codedBytes}
 use Rattle.base64_reader.specs.Groups.{lettersAt, lowBytes, fourRead, fourAhead, bytesAhead}
 use Rattle.key_lists.specs.KeyLists as lists
 use Rattle.key_lists.specs.declared.ListedKey.{ListedKey}
 use Rattle.key_lists.specs.declared.ListedKey.the-variants as listed
-use Rattle.array_keys.specs.Ahead.{keysBefore, heldBytes, codedAhead, keysAhead, keysLeft, startIn, keysStart, KeyTold, told-key}
-use Rattle.array_keys.specs.Ahead.{told-end, encodingIf}
+use Rattle.array_keys.specs.Ahead.{keysBefore, heldBytes, bytesFrom, codedAhead, keysAhead, spareBytes, keysLeft, startIn}
+use Rattle.array_keys.specs.Ahead.{keysStart, KeyTold, told-key, told-end, encodingIf}
 use Rattle.array_keys.specs.declared.Encoding.{Encoding}
 use Rattle.array_keys.specs.declared.Encoding.the-variants.{Plain, Big, Little}
 use Rattle.array_keys.specs.declared.KeyPlace.{KeyPlace}
@@ -86,19 +86,19 @@ plain-keys text at h = ap (λ w. keysBefore (words w)) (start-says text at) ∙ 
 module _ {text : List ℕ} {from : KeyPlace} {r : ListedKey} (t : lists.KeyTold text (from .at) r) where
   pub plain-key : {z : ℤ} {j : ℕ} → r ≡ listed.Key z j → {p : KeyPlace} → p ≡ record { at = j; held = 0; bytes = 0 }
       → KeyTold Plain text from (Key z p)
-  unfolding keysAhead keysBefore keysLeft
+  unfolding keysAhead keysBefore keysLeft spareBytes
   plain-key {z} {j} e {p} q =
       let f = t .on-key e in
       told-key {z = z} {q = p} (rw (f .splits, f .in-form, q) (ap (λ x. x ∷ keysBefore (words (saysAt text j))) (sym (f .valued))))
-      (rw q (f .less))
+      refl (rw q (f .less))
 
-  pub plain-end : r ≡ listed.End → KeyTold Plain text from End
-  unfolding keysAhead keysBefore
-  plain-end e = told-end (rw (t .on-end e) refl)
+  pub plain-end : r ≡ listed.End → KeyTold Plain text from (End 0)
+  unfolding keysAhead keysBefore spareBytes
+  plain-end e = told-end (rw (t .on-end e) refl) refl
 
-  pub plain-bad : r ≡ listed.Bad → KeyTold Plain text from End
-  unfolding keysAhead keysBefore
-  plain-bad e = let f = t .on-bad e in told-end (rw (f .splits, f .out-of-form) refl)
+  pub plain-bad : r ≡ listed.Bad → KeyTold Plain text from (End 0)
+  unfolding keysAhead keysBefore spareBytes
+  plain-bad e = let f = t .on-bad e in told-end (rw (f .splits, f .out-of-form) refl) refl
 
 pub ruleset plainly = (plain-key, plain-end, plain-bad, needs)
 
@@ -134,26 +134,42 @@ all-bytes (a ∷ b ∷ c ∷ []) l e = never-some e
 all-bytes (a ∷ b ∷ c ∷ d ∷ w) l e =
     four-all (worth a) (worth b) (worth c) (worth d) w (decode w) (bytesAhead w) l (λ x q. all-bytes w x q) e
 
--- The keys in Base64 are ahead of its start.
-coded-all : (e : Endian) (text : List ℕ) (at : ℕ) → coded (text-of text at) ≡ true
-    → codedAhead e text (keysStart text at) ≡ codedKeys e (text-of text at)
-unfolding codedAhead codedKeys coded bytesIn lettersAt bytesOr isSome
-coded-all e text at h = rw (start-held text at, start-says text at) (go (decode (unblanked (text-of text at))) refl h)
+-- The bytes of Base64 are those from its start on.
+bytes-all : (text : List ℕ) (at : ℕ) → coded (text-of text at) ≡ true
+    → bytesFrom text (keysStart text at) ≡ bytesOr (bytesIn (text-of text at))
+unfolding bytesFrom coded bytesIn lettersAt bytesOr isSome
+bytes-all text at h = rw (start-held text at, start-says text at) (go (decode (unblanked (text-of text at))) refl h)
   where
     go : (m : Option (List ℕ)) → decode (unblanked (text-of text at)) ≡ m → isSome m ≡ true
-        → keysIn e (bytesAhead (unblanked (text-of text at))) ≡ keysIn e (bytesOr m)
+        → bytesAhead (unblanked (text-of text at)) ≡ bytesOr m
     go Option.none q s = both-ways s refl
-    go (some l) q s = ap (keysIn e) (all-bytes (unblanked (text-of text at)) l q)
+    go (some l) q s = all-bytes (unblanked (text-of text at)) l q
 
-pub big-keys : (text : List ℕ) (at : ℕ) → coded (text-of text at) ≡ true
-    → keysAhead Big text (keysStart text at) ≡ codedKeys big (text-of text at)
-unfolding keysAhead
-big-keys text at h = coded-all big text at h
+module _ (text : List ℕ) (at : ℕ) (h : coded (text-of text at) ≡ true) where
+  pub big-keys : keysAhead Big text (keysStart text at) ≡ codedKeys big (text-of text at)
+  unfolding keysAhead codedAhead codedKeys
+  big-keys = ap (keysIn big) (bytes-all text at h)
 
-pub little-keys : (text : List ℕ) (at : ℕ) → coded (text-of text at) ≡ true
-    → keysAhead Little text (keysStart text at) ≡ codedKeys little (text-of text at)
-unfolding keysAhead
-little-keys text at h = coded-all little text at h
+  pub little-keys : keysAhead Little text (keysStart text at) ≡ codedKeys little (text-of text at)
+  unfolding keysAhead codedAhead codedKeys
+  little-keys = ap (keysIn little) (bytes-all text at h)
+
+  pub big-spare : spareBytes Big text (keysStart text at) ≡ codedBytes (text-of text at) % 4
+  unfolding spareBytes codedBytes
+  big-spare = ap (λ l. length l % 4) (bytes-all text at h)
+
+  pub little-spare : spareBytes Little text (keysStart text at) ≡ codedBytes (text-of text at) % 4
+  unfolding spareBytes codedBytes
+  little-spare = ap (λ l. length l % 4) (bytes-all text at h)
+
+-- four bytes a key, and those left over
+pub key-bytes : (e : Endian) (l : List ℕ) → length l ≡ 4 * length (keysIn e l) + length l % 4
+unfolding keysIn
+key-bytes e [] = refl
+key-bytes e (a ∷ []) = refl
+key-bytes e (a ∷ b ∷ []) = refl
+key-bytes e (a ∷ b ∷ c ∷ []) = refl
+key-bytes e (a ∷ b ∷ c ∷ d ∷ l) = let k = key-bytes e l in omega arith
 
 -- ---- In whatever encoding.
 
@@ -179,6 +195,7 @@ pub ruleset choosing = (next-plain, next-big, next-little, needs)
 
 pub record Handed (encoding : Encoding) (text : List ℕ) (p : KeyPlace) (z : ℤ) (q : KeyPlace) : Type 0 where
   pub splits : keysAhead encoding text p ≡ z ∷ keysAhead encoding text q
+  pub spare : spareBytes encoding text p ≡ spareBytes encoding text q
   pub less : keysLeft text q < keysLeft text p
 
 module _ {encoding : Encoding} {text : List ℕ} {p : KeyPlace} {r : NextKey} (t : KeyTold encoding text p r) where
@@ -186,10 +203,10 @@ module _ {encoding : Encoding} {text : List ℕ} {p : KeyPlace} {r : NextKey} (t
   key-law {z} {q} e = by (subst (λ (x : NextKey). KeyTold encoding text p x) e t)
     where
       by : KeyTold encoding text p (Key z q) → Handed encoding text p z q
-      by (told-key h k) = record { splits = h; less = k }
+      by (told-key h s k) = record { splits = h; spare = s; less = k }
 
-  pub end-law : r ≡ End → keysAhead encoding text p ≡ []
-  end-law e = by (subst (λ (x : NextKey). KeyTold encoding text p x) e t)
+  pub end-law : {n : ℕ} → r ≡ End n → (keysAhead encoding text p ≡ []) × (n ≡ spareBytes encoding text p)
+  end-law {n} e = by (subst (λ (x : NextKey). KeyTold encoding text p x) e t)
     where
-      by : KeyTold encoding text p End → keysAhead encoding text p ≡ []
-      by (told-end h) = h
+      by : KeyTold encoding text p (End n) → (keysAhead encoding text p ≡ []) × (n ≡ spareBytes encoding text p)
+      by (told-end h s) = (h, s)

@@ -6,6 +6,7 @@ use Prim.Native.Nat.{ℕ, zero, suc, _+_, _*_, _-_, _/_, _%_, _^_, _<_, _≤_}
 use native.Mathlib.Omega.{arith}
 use lib.Dec.{ltb}
 use lib.IntN.{ℤ, pos, negsuc, _-ℤ_}
+use lib.ListN.{length}
 use mir.Syntax.{w32}
 use mir.Val.{SFits, toZ, ofZ}
 use mir.ValLaws.{toZ-ofZ, toZ-pos}
@@ -18,7 +19,8 @@ use Rattle.base64.specs.Laws.Fours.{whole-back}
 use Rattle.base64_reader.specs.Groups.{lettersAt, lowBytes, bytesAhead, Taken, Told, GroupTold, Quick}
 use Rattle.base64_reader.specs.declared.Group.{Group}
 use Rattle.base64_reader.specs.declared.Group.the-variants as groups
-use Rattle.array_keys.specs.Ahead.{heldBytes, codedAhead, keysAhead, keysLeft, endianIf, encodingIf, KeyTold, told-key, told-end}
+use Rattle.array_keys.specs.Ahead.{heldBytes, bytesFrom, codedAhead, keysAhead, spareBytes, keysLeft, endianIf, encodingIf}
+use Rattle.array_keys.specs.Ahead.{KeyTold, told-key, told-end}
 use Rattle.array_keys.specs.Gathered.{keptBytes, BytesRead, Gathered, keyBy}
 use Rattle.array_keys.specs.Laws.Low.{low-behind, topOf, top-low}
 use Rattle.array_keys.specs.declared.Encoding.the-variants.{Big, Little}
@@ -95,7 +97,8 @@ gather-start {text} from {at} {held} {n} e =
 
 module _ {text : List ℕ} {at₀ held₀ bytes₀ at held bytes : ℕ} (go : Gathering text at₀ held₀ bytes₀ at held bytes) where
   module _ (from : KeyPlace) (ea : at₀ ≡ from .at) (eh : held₀ ≡ from .held) (eb : bytes₀ ≡ keptBytes (from .bytes)) where
-    began : heldBytes from ++ bytesAhead (lettersAt text (from .at)) ≡ lowBytes bytes₀ held₀ ++ bytesAhead (lettersAt text at₀)
+    began : bytesFrom text from ≡ lowBytes bytes₀ held₀ ++ bytesAhead (lettersAt text at₀)
+    unfolding bytesFrom
     began = rw (ea, eh, eb) (ap (λ l. l ++ bytesAhead (lettersAt text (from .at))) (kept-bytes from))
 
     pub gather-done : 4 ≤ bytes → {p : KeyPlace} → p ≡ record { at = at; held = held; bytes = bytes } → Gathered text from p
@@ -261,13 +264,31 @@ one-key : (t : Bool) (n : ℕ) (l : List ℕ)
 unfolding keysIn keyBy
 one-key t n l = refl
 
+in-spare : (t : Bool) (text : List ℕ) (p : KeyPlace) → spareBytes (encodingIf t) text p ≡ length (bytesFrom text p) % 4
+unfolding spareBytes encodingIf
+in-spare true text p = refl
+in-spare false text p = refl
+
+low-many : (n h : ℕ) → length (lowBytes n h) ≡ n
+unfolding lowBytes
+low-many zero h = refl
+low-many (suc n) h = let k = low-many n h in omega arith
+
 module _ {text : List ℕ} {from found : KeyPlace} (g : Gathered text from found) where
-  pub next-none : (t : Bool) → found .bytes < 4 → KeyTold (encodingIf t) text from End
-  unfolding codedAhead
-  next-none t h =
-      let none = g .same ∙ ap (λ l. lowBytes (found .bytes) (found .held) ++ l) (g .ended h)
-      ∙ append-nil (lowBytes (found .bytes) (found .held)) in
-      told-end (in-coded t text from ∙ ap (keysIn (endianIf t)) none ∙ few-keys (endianIf t) (found .bytes) (found .held) h)
+  module _ (h : found .bytes < 4) where
+    none : bytesFrom text from ≡ lowBytes (found .bytes) (found .held)
+    none =
+        g .same ∙ ap (λ l. lowBytes (found .bytes) (found .held) ++ l) (g .ended h)
+        ∙ append-nil (lowBytes (found .bytes) (found .held))
+
+    none-spare : found .bytes ≡ length (bytesFrom text from) % 4
+    none-spare = let n : length (bytesFrom text from) ≡ found .bytes = ap length none ∙ low-many (found .bytes) (found .held) in omega arith
+
+    pub next-none : (t : Bool) → KeyTold (encodingIf t) text from (End (found .bytes))
+    unfolding codedAhead
+    next-none t =
+        told-end (in-coded t text from ∙ ap (keysIn (endianIf t)) none ∙ few-keys (endianIf t) (found .bytes) (found .held) h)
+        (none-spare ∙ sym (in-spare t text from))
 
   module _ (h : 4 ≤ found .bytes) where
     pub next-rest : found .bytes - 4 ≤ 2
@@ -289,21 +310,30 @@ module _ {text : List ℕ} {from found : KeyPlace} (g : Gathered text from found
         rest : List ℕ
         rest = bytesAhead (lettersAt text (found .at))
 
-        there : keysAhead (encodingIf t) text p ≡ keysIn (endianIf t) (lowBytes m (found .held) ++ rest)
-        unfolding codedAhead rest m
+        there : bytesFrom text p ≡ lowBytes m (found .held) ++ rest
+        unfolding bytesFrom rest m
         there =
             let k : m < 4 = omega (arith, next-rest) in
-            rw (ep, in-coded t text (record { at = found .at; held = found .held; bytes = m }), held-is (found .at) (found .held) m k) refl
+            rw (ep, held-is (found .at) (found .held) m k) refl
+
+        here : bytesFrom text from ≡ (n / 16777216) ∷ (n / 65536 % 256) ∷ (n / 256 % 256) ∷ (n % 256) ∷ bytesFrom text p
+        unfolding rest
+        here =
+            g .same ∙ ap (λ l. l ++ rest) held
+            ∙ sym (ap (λ l. (n / 16777216) ∷ (n / 65536 % 256) ∷ (n / 256 % 256) ∷ (n % 256) ∷ l) there)
 
         splits : keysAhead (encodingIf t) text from ≡ z ∷ keysAhead (encodingIf t) text p
-        unfolding codedAhead rest
+        unfolding codedAhead
         splits =
-            in-coded t text from ∙ ap (keysIn (endianIf t)) (g .same) ∙ ap (λ l. keysIn (endianIf t) (l ++ rest)) held
-            ∙ one-key t n (lowBytes m (found .held) ++ rest) ∙ ap₂ (λ x l. x ∷ l) (sym ez) (sym there)
+            in-coded t text from ∙ ap (keysIn (endianIf t)) here ∙ one-key t n (bytesFrom text p)
+            ∙ ap₂ (λ x l. x ∷ l) (sym ez) (sym (in-coded t text p))
+
+        as-many : length (bytesFrom text from) % 4 ≡ length (bytesFrom text p) % 4
+        as-many = let l : length (bytesFrom text from) ≡ suc (suc (suc (suc (length (bytesFrom text p))))) = ap length here in omega arith
 
         pub next-key : KeyTold (encodingIf t) text from (Key z p)
         unfolding keysLeft
-        next-key = told-key splits (rw ep (g .fallen h))
+        next-key = told-key splits (in-spare t text from ∙ as-many ∙ sym (in-spare t text p)) (rw ep (g .fallen h))
 
 pub next-small : {n : ℕ} (held rest : ℕ) → n ≡ held / 256 ^ rest % 4294967296 → n < 4294967296
 next-small held rest e = rw e (omega arith)

@@ -1,5 +1,6 @@
 use native.Mathlib.Omega.{arith}
 use Rattle.base64_reader.specs.Laws.Quick.{quick-place}
+use Rattle.base64_reader.specs.Laws.Sixteen.{sixteen-place}
 use Rattle.base64_reader.specs.Laws.Texts.{Coding, coding}
 use Rattle.nodes.specs.Texts.{left}
 use Rattle.base64_reader.proofs.coded_from.Statement.{statement}
@@ -19,9 +20,13 @@ coded-from-spec =
     μ-loop
     (λ c κs. search coding)
     (λ c. search coding)
+    (λ c κs. search coding)
+    (λ c. omega (arith, sixteen-place _ _ (c .before .sixteen-letters .ensures) (c .if1 .taken)))
+    (λ c. search coding)
+    (λ c. search coding)
     (λ c. search coding)
     (λ c κs. search coding)
-    (λ c. omega (arith, quick-place (c .before .quick-bits .ensures) (c .if1 .taken)))
+    (λ c. omega (arith, quick-place (c .before .quick-bits .ensures) (c .if2 .taken)))
     (λ c. search coding)
     (λ c. search coding)
     (λ c. search coding)

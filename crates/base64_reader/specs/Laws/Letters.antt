@@ -1,12 +1,12 @@
 -- The next letter that is no blank, and the value of a letter.
 use mathlib.Core.Path.{_≡_, refl, sym, ap, _∙_}
-use mathlib.Core.List.{List, [], _∷_, _++_}
-use mathlib.Core.Bool.{Bool, true, false, _||_, not, cond}
-use Prim.Native.Nat.{ℕ, zero, suc, _+_, _-_, _^_, _<_, _≤_}
+use mathlib.Core.List.{List, [], _∷_}
+use mathlib.Core.Bool.{Bool, true, false, not}
+use Prim.Native.Nat.{ℕ, _^_, _<_, _≤_}
 use native.Mathlib.Omega.{arith}
 use borrow.Author.Needs.{needs}
-use borrow.Author.Tests.{not-true, not-false, eqb-true, leb-true, le-ltb}
-use lib.Dec.{eqb, ltb, leb}
+use borrow.Author.Tests.{not-true, not-false, leb-true}
+use lib.Dec.{leb}
 use lib.ListN.{length, getD}
 use Rattle.lists.specs.Lists.{those, allBelow}
 use Rattle.lists.specs.Quantifiers.{allBelow-iff}
@@ -21,7 +21,7 @@ use Rattle.numbers.specs.Stream.{charAt, letterAt, stream, leftIn}
 use Rattle.numbers.specs.Laws.Stream.{char-byte, char-end}
 use Rattle.numbers.specs.declared.Source.the-variants.{Contents}
 use Rattle.base64.specs.Base64.{unblanked, worth}
-use Rattle.base64_reader.specs.Groups.{shifted, valuesLent, lettersAt, Letter, LetterTold}
+use Rattle.base64_reader.specs.Groups.{valuesLent, lettersAt, Letter, LetterTold}
 
 pub letter-told : {text : List ℕ} {i b j : ℕ} → Letter text i b j → LetterTold text i (chars.Byte b j)
 letter-told {text} {i} {b} {j} h = record {
@@ -73,51 +73,23 @@ module _ {text : List ℕ} {at i : ℕ} (go : Passing text at i) {c : Char} (ec 
 
 pub ruleset passing = (passing-start, passing-end, passing-less, passing-on, passing-letter, needs)
 
--- THE VALUE OF EACH BYTE: 64 below `+` and above `z`; of those between, as it is lent
-none-below : allBelow 43 (λ b. eqb (worth b) 64) ≡ true
-unfolding allBelow worth
-none-below = refl
-
-none-above : allBelow 256 (λ b. ltb b 123 || eqb (worth b) 64) ≡ true
-unfolding allBelow worth
-none-above = refl
-
+-- THE VALUE OF EACH BYTE, as it is lent
 few : allBelow 256 (λ b. leb (worth b) 65) ≡ true
 unfolding allBelow worth
 few = refl
 
-pub value-low : (b : ℕ) → b < 43 → 64 ≡ worth b
-value-low b h = sym (eqb-true (worth b) 64 (allBelow-iff 43 (λ b. eqb (worth b) 64) .0 none-below b h))
-
-pub value-high : (b : ℕ) → b < 256 → 122 < b → 64 ≡ worth b
-value-high b h k =
-    let t = allBelow-iff 256 (λ b. ltb b 123 || eqb (worth b) 64) .0 none-above b h in
-    sym (eqb-true (worth b) 64 (rw (le-ltb b 123 k) at t))
-
-module _ {values : List ℕ} (lent : values ≡ valuesLent) where
-  pub value-long : length values ≡ 80
+module _ {values : List ℕ} (lent : values ≡ valuesLent) (b : ℕ) (byte : b < 256) where
+  pub value-is : getD values b 0 ≡ worth b
   unfolding valuesLent
-  value-long = ap length lent ∙ size-of-table shifted 80
+  value-is = ap (λ l. getD l b 0) lent ∙ entry-of-table worth 0 256 b byte
 
-  module _ (b : ℕ) (low : 43 ≤ b) (high : b ≤ 122) where
-    there : getD values (b - 43) 0 ≡ worth b + 35
-    unfolding shifted valuesLent
-    there =
-        let e : b - 43 + 43 ≡ b = omega arith in
-        ap (λ l. getD l (b - 43) 0) lent ∙ entry-of-table shifted 0 80 (b - 43) (omega arith) ∙ ap (λ n. worth n + 35) e
+  pub value-inside : b < length values
+  unfolding valuesLent
+  value-inside = omega (arith, ap length lent ∙ size-of-table worth 256)
 
-    pub value-inside : b - 43 < length values
-    value-inside = omega (arith, value-long)
+  pub value-fits : getD values b 0 < 2 ^ 64
+  value-fits =
+      let k : worth b ≤ 65 = leb-true (worth b) 65 (allBelow-iff 256 (λ b. leb (worth b) 65) .0 few b byte) in
+      rw value-is (omega arith)
 
-    pub value-big : 35 ≤ getD values (b - 43) 0
-    value-big = rw there (omega arith)
-
-    pub value-fits : getD values (b - 43) 0 - 35 < 2 ^ 64
-    value-fits =
-        let k : worth b ≤ 65 = leb-true (worth b) 65 (allBelow-iff 256 (λ b. leb (worth b) 65) .0 few b (omega arith)) in
-        rw there (omega arith)
-
-    pub value-is : getD values (b - 43) 0 - 35 ≡ worth b
-    value-is = rw there (omega arith)
-
-pub ruleset valuing = (value-low, value-high, value-inside, value-big, value-fits, value-is, needs)
+pub ruleset valuing = (value-inside, value-fits, value-is, needs)

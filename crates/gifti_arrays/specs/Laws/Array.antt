@@ -2,16 +2,16 @@
 use mathlib.Core.Path.{_≡_, refl, sym, ap, _∙_, subst}
 use mathlib.Core.Option.{Option, some}
 use mathlib.Core.Option
-use mathlib.Core.Bool.{Bool, true, false, cond}
+use mathlib.Core.Bool.{Bool, true, false, _&&_, cond}
 use mathlib.Core.List.{List}
 use Prim.Native.String.{String}
-use Prim.Native.Nat.{ℕ, _*_, _≤_}
+use Prim.Native.Nat.{ℕ, _+_, _*_, _%_}
 use native.Mathlib.Omega.{arith}
-use lib.Dec.{eqb, leb}
-use borrow.Author.Tests.{leb-true}
+use lib.Dec.{eqb}
+use borrow.Author.Tests.{eqb-true, eqb-false, eq-eqb, ne-eqb}
 use lib.ListN.{length}
 use borrow.Author.Needs.{needs}
-use Rattle.grammar.specs.Bytes.{ascii, between}
+use Rattle.grammar.specs.Bytes.{ascii}
 use Rattle.grammar.specs.Document.{Element}
 use Rattle.grammar.specs.Look.{is, nameOf, attr, has, contentsOf, elements, children, textOf}
 use Rattle.grammar.specs.Parser.{same}
@@ -24,21 +24,22 @@ use Rattle.ways.specs.Way.{nth}
 use Rattle.ways.specs.Walked.{child-same, child-agrees, Agrees, not-there, stands-there}
 use Rattle.ways.specs.Treads.{called-alike, childNamed}
 use Rattle.gifti.specs.Arrays.{isCoded, endianOf, dataOf, dim0, arrayKeys, fillsDim0}
-use Rattle.array_keys.specs.Ahead.{keysAhead, keysStart}
+use Rattle.array_keys.specs.Ahead.{keysAhead, spareBytes, keysStart}
 use Rattle.array_keys.specs.declared.Encoding.{Encoding}
 use Rattle.array_keys.specs.declared.Encoding.the-variants.{Plain, Big, Little}
 use Rattle.lists.specs.Lists.{all, those}
-use Rattle.lists.specs.Laws.Booleans.{never-some, and-right}
-use Rattle.numbers.specs.Numbers.{inKeys, listedKeys, value, keyList, whole, digits}
-use Rattle.base64.specs.Base64.{coded}
-use Rattle.base64.specs.Fours.{big, little, codedKeys, codedBytes}
+use Rattle.lists.specs.Laws.Booleans.{never-some, and-true}
+use Rattle.numbers.specs.Numbers.{inKeys, listedKeys, value, keyList}
+use Rattle.base64.specs.Base64.{bytesIn, coded}
+use Rattle.base64.specs.Fours.{big, little, bytesOr, codedKeys, codedBytes}
 use Rattle.maps.specs.Fields.{attributeWord, numberSeen, word-at, number-seen}
-use Rattle.array_keys.specs.Laws.Ahead.{plain-keys, big-keys, little-keys}
+use Rattle.array_keys.specs.Laws.Ahead.{plain-keys, big-keys, little-keys, big-spare, little-spare, key-bytes}
 use Rattle.gifti.specs.Laws.Held.{data-of}
 use Rattle.gifti_arrays.specs.Ready.{ArrayHere}
 use Rattle.known_keys.specs.Known.{knownIn}
-use Rattle.gifti_arrays.specs.Tally.{codesOf, Tallied}
-use Rattle.gifti_arrays.specs.Arrays.{encodingOf, orStart, dataAt, Noted, fitsBy, noteFits, ToldArray}
+use Rattle.known_keys.specs.Known.{codesOf}
+use Rattle.gifti_arrays.specs.Tally.{Tallied}
+use Rattle.gifti_arrays.specs.Arrays.{encodingOf, orStart, dataAt, spareOf, Noted, ToldArray}
 use Rattle.gifti_arrays.specs.declared.array.ArrayNote.{ArrayNote}
 use Rattle.gifti_arrays.specs.declared.tally.Tally.{Tally}
 
@@ -108,54 +109,44 @@ pub ruleset placing = (data-found, data-missing, needs)
 
 -- ---- As many keys as there are to be.
 
-module _ (text : List ℕ) (n : ArrayNote) (keys : ℕ) where
-  pub fits-plain : n .encoding ≡ Plain → eqb keys (n .count) ≡ noteFits text n keys
-  unfolding noteFits fitsBy
-  fits-plain h = sym (ap (λ e. fitsBy e keys (codedBytes (text-of text (n .from))) (n .count)) h)
+-- so many keys and no byte more, or four times as many bytes
+fours-fit : (keys bytes n : ℕ) → bytes ≡ 4 * keys + bytes % 4 → (eqb keys n && eqb (bytes % 4) 0) ≡ eqb bytes (4 * n)
+fours-fit keys bytes n e = go (eqb keys n) (eqb (bytes % 4) 0) refl refl
+  where
+    go : (t u : Bool) → eqb keys n ≡ t → eqb (bytes % 4) 0 ≡ u → (t && u) ≡ eqb bytes (4 * n)
+    go true true p q =
+        let h = eqb-true keys n p in
+        let k = eqb-true (bytes % 4) 0 q in
+        sym (eq-eqb bytes (4 * n) (omega arith))
+    go true false p q = sym (ne-eqb bytes (4 * n) (λ h. eqb-false (bytes % 4) 0 q (omega arith)))
+    go false u p q = sym (ne-eqb bytes (4 * n) (λ h. eqb-false keys n p (omega arith)))
 
-  module _ {b : ℕ} (q : b ≡ codedBytes (text-of text (n .from))) where
-    pub fits-big : n .encoding ≡ Big → eqb b (4 * n .count) ≡ noteFits text n keys
-    unfolding noteFits fitsBy
-    fits-big h = ap (λ x. eqb x (4 * n .count)) q ∙ sym (ap (λ e. fitsBy e keys (codedBytes (text-of text (n .from))) (n .count)) h)
-
-    pub fits-little : n .encoding ≡ Little → eqb b (4 * n .count) ≡ noteFits text n keys
-    unfolding noteFits fitsBy
-    fits-little h = ap (λ x. eqb x (4 * n .count)) q ∙ sym (ap (λ e. fitsBy e keys (codedBytes (text-of text (n .from))) (n .count)) h)
-
-pub ruleset fitting = (fits-plain, fits-big, fits-little, needs)
+fills-so : (a : Element) → (eqb (length (arrayKeys a)) (dim0 a) && eqb (spareOf a) 0) ≡ fillsDim0 a
+unfolding arrayKeys spareOf fillsDim0 codedKeys codedBytes
+fills-so a = go (isCoded a)
+  where
+    go : (b : Bool) → (eqb (length (cond b (codedKeys (endianOf a) (dataOf a)) (listedKeys (dataOf a)))) (dim0 a)
+        && eqb (cond b (codedBytes (dataOf a) % 4) 0) 0)
+        ≡ cond b (eqb (codedBytes (dataOf a)) (4 * dim0 a)) (eqb (length (listedKeys (dataOf a))) (dim0 a))
+    go true =
+        fours-fit (length (codedKeys (endianOf a) (dataOf a))) (codedBytes (dataOf a)) (dim0 a)
+        (key-bytes (endianOf a) (bytesOr (bytesIn (dataOf a))))
+    go false = and-true (eqb (length (listedKeys (dataOf a))) (dim0 a))
 
 -- ---- What is told of the array.
 
 module _ {text : List ℕ} {a : Element} {n : ArrayNote} (o : Noted text a n) {codes : List ℕ} {t : Tally}
-    (c : Tallied text (keysAhead (n .encoding) text (keysStart text (n .from))) codes t) where
+    (c : Tallied (n .encoding) text (keysStart text (n .from)) codes t) where
   keys-so : t .keys ≡ length (arrayKeys a)
   keys-so = c .counted ∙ ap length (o .keys-are)
 
-  as-listed : isCoded a ≡ false → fitsBy (encodingOf a) (t .keys) (codedBytes (text-of text (n .from))) (n .count) ≡ fillsDim0 a
-  unfolding encodingOf fitsBy fillsDim0 arrayKeys
-  as-listed f = let k = keys-so in rw (f, k, o .count-is, f) refl
+  spare-so : t .spare ≡ spareOf a
+  spare-so = c .left-over ∙ o .spare-is
 
-  in-bytes : (b : Bool) → fitsBy (cond b Big Little) (t .keys) (codedBytes (dataOf a)) (dim0 a) ≡ eqb (codedBytes (dataOf a)) (4 * dim0 a)
-  unfolding fitsBy
-  in-bytes true = refl
-  in-bytes false = refl
-
-  as-coded : isCoded a ≡ true → fitsBy (encodingOf a) (t .keys) (codedBytes (text-of text (n .from))) (n .count) ≡ fillsDim0 a
-  unfolding encodingOf fillsDim0
-  as-coded h = rw (h, o .bytes-are h, o .count-is) (in-bytes (has "Endian" "BigEndian" a))
-
-  fits-so : noteFits text n (t .keys) ≡ fillsDim0 a
-  unfolding noteFits
-  fits-so = ap (λ e. fitsBy e (t .keys) (codedBytes (text-of text (n .from))) (n .count)) (o .encoding-is) ∙ by (isCoded a) refl
-    where
-      by : (b : Bool) → isCoded a ≡ b → fitsBy (encodingOf a) (t .keys) (codedBytes (text-of text (n .from))) (n .count) ≡ fillsDim0 a
-      by false h = as-listed h
-      by true h = as-coded h
-
-  pub array-so : {b : Bool} → b ≡ noteFits text n (t .keys)
-      → ToldArray text a codes (record { fits = b; keys = t .keys; known = t .known })
-  array-so h = record {
-    fitting = h ∙ fits-so;
+  pub array-so : ToldArray text a codes
+      (record { fits = eqb (t .keys) (n .count) && eqb (t .spare) 0; keys = t .keys; known = t .known })
+  array-so = record {
+    fitting = rw (keys-so, spare-so, o .count-is) (fills-so a);
     counted = keys-so;
     found = c .found ∙ ap (λ l. knownIn codes (codesOf l)) (o .keys-are);
     in-range = ap (all inKeys) (sym (o .keys-are)) ∙ c .in-range;
@@ -205,12 +196,18 @@ module _ {text : List ℕ} {at : ℕ} (h : ArrayHere text at) where
   keys-here true t = bytes-so t
   keys-here false f = plain-so f
 
-  few-so : dim0 (the text at) ≤ 1048576
-  unfolding dim0 whole
-  few-so =
-      let n = value (attr "Dim0" (the text at)) in
-      leb-true n 1048576 (and-right (leb 1 n) (leb n 1048576) (and-right (digits 1 7 (attr "Dim0" (the text at))) (between 1 1048576 n)
-      (h .good .length-said)))
+  spare-by : isCoded (the text at) ≡ true → (b : Bool)
+      → spareBytes (cond b Big Little) text (keysStart text (dataAt text at)) ≡ codedBytes (dataOf (the text at)) % 4
+  spare-by t true =
+      big-spare text (dataAt text at) (ap coded text-so ∙ h .good .bytes t) ∙ ap (λ w. codedBytes w % 4) data-so
+  spare-by t false =
+      little-spare text (dataAt text at) (ap coded text-so ∙ h .good .bytes t) ∙ ap (λ w. codedBytes w % 4) data-so
+
+  spare-here : (b : Bool) → isCoded (the text at) ≡ b
+      → spareBytes (encodingOf (the text at)) text (keysStart text (dataAt text at)) ≡ spareOf (the text at)
+  unfolding encodingOf spareOf spareBytes
+  spare-here true t = rw t (spare-by t (has "Endian" "BigEndian" (the text at)))
+  spare-here false f = rw f refl
 
   pub noted-so : {d : ℕ} → d ≡ dataAt text at → {e : Encoding} → e ≡ encodingOf (the text at) → {n : ℕ}
       → (Stands text at → n ≡ numberSeen 1 1048576 (attributeWord (ascii "Dim0") (the text at)))
@@ -219,11 +216,8 @@ module _ {text : List ℕ} {at : ℕ} (h : ArrayHere text at) where
   noted-so {d} p {e} q {n} s =
       let said : n ≡ value (attr "Dim0" (the text at)) = s (h .stands) ∙ ap (numberSeen 1 1048576) (word-at "Dim0" (the text at))
       ∙ number-seen 1 1048576 (attr "Dim0" (the text at)) (h .good .length-said) in
-      let few = few-so in
       record {
         keys-are = rw (p, q) (keys-here (isCoded (the text at)) refl);
-        encoding-is = q;
+        spare-is = rw (p, q) (spare-here (isCoded (the text at)) refl);
         count-is = said;
-        few-said = record { said = omega arith };
-        bytes-are = λ t. rw p (ap codedBytes data-so);
       }

@@ -22,11 +22,11 @@ use Rattle.nodes.specs.declared.Kid.the-variants.{Child, Done}
 use Rattle.numbers.specs.Numbers.{inKeys}
 use Rattle.comparison.specs.Laws.Matched.{count-most}
 use Rattle.comparison.specs.Matched.{member}
-use Rattle.key_twice.specs.Codes.{codeOf}
+use Rattle.key_codes.specs.Codes.{codeOf}
 use Rattle.known_keys.specs.Known.{knownIn}
 use Rattle.known_keys.specs.Order.{inOrder}
 use Rattle.gifti.specs.Arrays.{arraysOf, arrayKeys, fillsDim0}
-use Rattle.gifti_arrays.specs.Tally.{codesOf}
+use Rattle.known_keys.specs.Known.{codesOf}
 use Rattle.gifti.specs.Held.{GoodArray, GoodArrays, one-array}
 use Rattle.gifti_arrays.specs.Ready.{ArrayAsked, ArraysAsked}
 use Rattle.gifti_arrays.specs.Arrays.{ToldArray, keysOfAll, ToldAll}

@@ -15,13 +15,13 @@ use Rattle.nodes.specs.declared.Kid.{Kid}
 use Rattle.nodes.specs.declared.Kid.the-variants.{Child, Done}
 use Rattle.label_table.specs.Labels.{firstLabel}
 use Rattle.label_table.specs.Laws.Labels.{row}
-use Rattle.key_twice.specs.Codes.{codesAt}
-use Rattle.key_twice.specs.Laws.Walks.{toCome, come-first, come-done}
+use Rattle.key_codes.specs.Codes.{codesAt}
+use Rattle.key_codes.specs.Laws.Walks.{toCome, come-first, come-done}
 use Rattle.known_keys.specs.Known.{knownIn, Taken}
 use Rattle.known_keys.specs.Laws.Turns.{taken-less, known-parts, two-rest, known-none}
 use Rattle.gifti.specs.Arrays.{arraysOf}
 use Rattle.gifti_opening.specs.Passed.{ArraysHere}
-use Rattle.gifti_arrays.specs.Tally.{codesOf}
+use Rattle.known_keys.specs.Known.{codesOf}
 use Rattle.gifti_arrays.specs.Ready.{ArraysAsked, TableHere}
 use Rattle.gifti_arrays.specs.Arrays.{keysOfAll, ToldAll, Room}
 use Rattle.gifti_arrays.specs.Laws.Arrays.{known-most}

@@ -1,176 +1,171 @@
--- The keys of an array, one after the other.
-use mathlib.Core.Path.{_≡_, refl, sym, ap, _∙_, subst}
-use mathlib.Core.Bool.{true, false, cond}
-use mathlib.Core.List.{List, [], _∷_}
-use Prim.Native.Nat.{ℕ, suc, _+_, _-_, _≤_, _<_}
+-- The keys of an array, row after row.
+use mathlib.Core.Path.{_≡_, refl, sym, ap, _∙_}
+use mathlib.Core.Bool.{Bool, true, false, cond}
+use mathlib.Core.List.{List, [], _∷_, _++_, append-nil}
+use Prim.Native.Nat.{ℕ, suc, _+_, _≤_, _<_}
 use native.Mathlib.Omega.{arith}
+use lib.Dec.{ltb}
 use lib.IntN.{ℤ, pos, negsuc}
-use lib.ListN.{length, set, length-set}
+use lib.ListN.{length, take, drop, getD, length-append}
+use lib.Seq.{drop-cons, drop-length, length-take-le, take-all}
 use mir.Syntax.{w32}
 use mir.Val.{SFits, toZ, ofZ}
 use mir.ValLaws.{toZ-ofZ}
 use borrow.Author.Needs.{needs}
-use borrow.Author.Tests.{le-leb}
+use borrow.Author.Tests.{le-leb, ltb-true, ltb-false}
 use Rattle.lists.specs.Lists.{all, each, count}
 use Rattle.lists.specs.Laws.Booleans.{and-both}
+use Rattle.lists.specs.Laws.Lists.{all-append}
 use Rattle.numbers.specs.Numbers.{inKeys, withSign}
 use Rattle.comparison.specs.Matched.{member}
 use Rattle.label_table.specs.Labels.{filledWith}
-use Rattle.label_table.specs.Laws.Labels.{filledFrom, from-none, from-full, from-more}
-use Rattle.key_twice.specs.Codes.{codeOf}
-use Rattle.known_keys.specs.Known.{knownIn, Placed}
-use Rattle.known_keys.specs.Laws.Search.{placed-member}
-use Rattle.array_keys.specs.Ahead.{keysAhead, keysLeft, keysStart, KeyTold, told-key, told-end}
+use Rattle.label_table.specs.Laws.Told.{filled-told}
+use Rattle.known_keys.specs.Known.{knownIn, codesOf, KnownAmong}
+use Rattle.array_keys.specs.Ahead.{keysAhead, spareBytes, keysLeft, keysStart}
+use Rattle.key_rows.specs.Rows.{RowTold}
 use Rattle.array_keys.specs.Laws.Ahead.{start-left}
 use Rattle.array_keys.specs.declared.Encoding.{Encoding}
 use Rattle.array_keys.specs.declared.KeyPlace.{KeyPlace}
-use Rattle.array_keys.specs.declared.NextKey.{NextKey}
-use Rattle.array_keys.specs.declared.NextKey.the-variants.{Key, End}
-use Rattle.gifti_arrays.specs.Tally.{codesOf, Tallied}
+use Rattle.key_rows.specs.declared.KeyRow.{KeyRow}
+use Rattle.gifti_arrays.specs.Tally.{RowRoom, Tallied}
+use Rattle.gifti_arrays.specs.Laws.Arrays.{known-append, known-most}
 
--- ---- What an answer tells.
+-- ---- Row after row.
 
-pub record Split (e : Encoding) (text : List ℕ) (p : KeyPlace) (k : ℤ) (q : KeyPlace) : Type 0 where
-  pub parts : keysAhead e text p ≡ k ∷ keysAhead e text q
-  pub less : keysLeft text q < keysLeft text p
-
-key-split : {e : Encoding} {text : List ℕ} {p : KeyPlace} {r : NextKey} → KeyTold e text p r → {k : ℤ} {q : KeyPlace} → r ≡ Key k q
-    → Split e text p k q
-key-split {e} {text} {p} t {k} {q} h = by (subst (λ (x : NextKey). KeyTold e text p x) h t)
-  where
-    by : KeyTold e text p (Key k q) → Split e text p k q
-    by (told-key a b) = record { parts = a; less = b }
-
-key-end : {e : Encoding} {text : List ℕ} {p : KeyPlace} {r : NextKey} → KeyTold e text p r → r ≡ End → keysAhead e text p ≡ []
-key-end {e} {text} {p} t h = by (subst (λ (x : NextKey). KeyTold e text p x) h t)
-  where
-    by : KeyTold e text p End → keysAhead e text p ≡ []
-    by (told-end a) = a
-
--- ---- A key of 32 bits is in the range of keys.
-
-fits-in : (z : ℤ) → SFits w32 z → inKeys z ≡ true
-unfolding inKeys withSign
-fits-in (pos n) f = let s = f .sfits in and-both refl (le-leb n 2147483647 (omega arith))
-fits-in (negsuc n) f = let s = f .sfits in and-both (le-leb n 2147483647 (omega arith)) refl
-
--- ---- Counting.
-
-pub record Counting (e : Encoding) (text : List ℕ) (from : ℕ) (codes : List ℕ) (keys known : ℕ) (place : KeyPlace) : Type 0 where
-  pub counted : keys + length (keysAhead e text place) ≡ length (keysAhead e text (keysStart text from))
-  pub found : known + knownIn codes (codesOf (keysAhead e text place)) ≡ knownIn codes (codesOf (keysAhead e text (keysStart text from)))
-  pub in-range : all inKeys (keysAhead e text (keysStart text from)) ≡ all inKeys (keysAhead e text place)
+pub record Counting (e : Encoding) (text : List ℕ) (start : KeyPlace) (codes : List ℕ) (row₀ row : List ℤ) (keys known : ℕ)
+    (place : KeyPlace) : Type 0 where
+  pub room : 0 < length row
+  pub long : length row ≡ length row₀
+  pub counted : keys + length (keysAhead e text place) ≡ length (keysAhead e text start)
+  pub found : known + knownIn codes (codesOf (keysAhead e text place)) ≡ knownIn codes (codesOf (keysAhead e text start))
+  pub spare : spareBytes e text start ≡ spareBytes e text place
+  pub in-range : all inKeys (keysAhead e text start) ≡ all inKeys (keysAhead e text place)
   pub few : keys + keysLeft text place ≤ suc (length text)
   pub known-few : known ≤ keys
 
-pub counting-start : (e : Encoding) (text : List ℕ) (from : ℕ) (codes : List ℕ) {p : KeyPlace} → p ≡ keysStart text from
-    → Counting e text from codes 0 0 p
-counting-start e text from codes h = rw h (record {
+pub counting-start : (e : Encoding) (text : List ℕ) (from : ℕ) (codes : List ℕ) {row : List ℤ} → RowRoom row → {p : KeyPlace}
+    → p ≡ keysStart text from → Counting e text (keysStart text from) codes row row 0 0 p
+counting-start e text from codes r h = rw h (record {
+  room = r .some;
+  long = refl;
   counted = omega arith;
   found = omega arith;
+  spare = refl;
   in-range = refl;
   few = let z = start-left text from in omega arith;
   known-few = omega arith;
 })
 
-module _ {e : Encoding} {text : List ℕ} {from : ℕ} {codes : List ℕ} {keys known : ℕ} {place : KeyPlace}
-    (go : Counting e text from codes keys known place) {r : NextKey} (t : KeyTold e text place r) where
-  pub counting-done : r ≡ End → Tallied text (keysAhead e text (keysStart text from)) codes (record { keys = keys; known = known })
-  unfolding codesOf each knownIn count all
-  counting-done h =
-      let z = key-end t h in
-      let c : keys + length (keysAhead e text place) ≡ length (keysAhead e text (keysStart text from)) = go .counted in
-      let n : length (keysAhead e text place) ≡ 0 = ap length z in
-      let f = go .found in
-      let m : knownIn codes (codesOf (keysAhead e text place)) ≡ 0 = ap (λ l. knownIn codes (codesOf l)) z in
-      let w = go .few in
-      record { counted = omega arith; found = omega arith; in-range = go .in-range ∙ ap (all inKeys) z; few = omega arith }
+module _ {e : Encoding} {text : List ℕ} {start : KeyPlace} {codes : List ℕ} {row₀ row : List ℤ} {keys known : ℕ} {place : KeyPlace}
+    (go : Counting e text start codes row₀ row keys known place) {r : KeyRow} {row₁ : List ℤ} (t : RowTold e text place row r row₁)
+    (l : length row₁ ≡ length row) where
+  pub counting-within : r .count ≤ length row₁
+  counting-within = omega (arith, t .within)
 
-  module _ {k : ℤ} {q : KeyPlace} (h : r ≡ Key k q) where
-    pub counting-less : keysLeft text q < keysLeft text place
-    counting-less = key-split t h .less
+  pub counting-long : length row₁ ≡ length row₀
+  counting-long = l ∙ go .long
 
-    module _ (f : SFits w32 k) {c at : ℕ} (is-code : c ≡ codeOf (toZ w32 (ofZ w32 k))) (w : Placed codes c at) where
-      code : c ≡ codeOf k
-      code = is-code ∙ ap codeOf (toZ-ofZ w32 k f)
+  pub counting-prefix : r .count ≡ length (take (r .count) row₁)
+  counting-prefix = sym (length-take-le (r .count) row₁ counting-within)
 
-      parts : keysAhead e text place ≡ k ∷ keysAhead e text q
-      parts = key-split t h .parts
+  module _ {k : ℕ} (a : KnownAmong (take (r .count) row₁) codes k) where
+    many : length (take (r .count) row₁) ≡ r .count
+    many = sym counting-prefix
 
-      one-more : knownIn codes (codesOf (keysAhead e text place))
-          ≡ cond (member (codeOf k) codes) 1 0 + knownIn codes (codesOf (keysAhead e text q))
-      unfolding codesOf each knownIn count
-      one-more = ap (λ l. knownIn codes (codesOf l)) parts
+    known-less : k ≤ r .count
+    known-less =
+        let u = known-most codes (take (r .count) row₁) in
+        omega (arith, a .found, many)
 
-      range-so : all inKeys (keysAhead e text place) ≡ all inKeys (keysAhead e text q)
-      unfolding all
-      range-so = ap (all inKeys) parts ∙ rw (fits-in k f) refl
+    pub counting-keys : keys + r .count ≤ suc (length text)
+    counting-keys = omega (arith, t .fewer, go .few)
 
-      counting-more : {x : ℕ} → x ≤ 1 → cond (member (codeOf k) codes) 1 0 ≡ x → Counting e text from codes (keys + 1) (known + x) q
-      counting-more {x} u m =
-          let n : length (keysAhead e text place) ≡ suc (length (keysAhead e text q)) = ap length parts in
-          let c = go .counted in
-          let o : knownIn codes (codesOf (keysAhead e text place)) ≡ x + knownIn codes (codesOf (keysAhead e text q))
-          = one-more ∙ ap (λ y. y + knownIn codes (codesOf (keysAhead e text q))) m in
-          let d = go .found in
-          let l = key-split t h .less in
-          let z = go .few in
-          let y = go .known-few in
-          record {
-            counted = omega arith;
-            found = omega arith;
-            in-range = go .in-range ∙ range-so;
-            few = omega arith;
-            known-few = omega arith;
-          }
+    pub counting-known : known + k ≤ suc (length text)
+    counting-known = omega (arith, t .fewer, go .few, go .known-few, known-less)
 
-      pub counting-known : at < length codes → Counting e text from codes (keys + 1) (known + 1) q
-      counting-known u =
-          let m : member (codeOf k) codes ≡ true = rw code at (placed-member w u) in
-          counting-more (omega arith) (rw m refl)
+    pub counting-more : Counting e text start codes row₀ row₁ (keys + r .count) (known + k) (r .next)
+    counting-more =
+        let p = t .keys in
+        let n : length (keysAhead e text place) ≡ length (take (r .count) row₁) + length (keysAhead e text (r .next))
+        = ap length p ∙ length-append (take (r .count) row₁) (keysAhead e text (r .next)) in
+        let o : knownIn codes (codesOf (keysAhead e text place))
+        ≡ knownIn codes (codesOf (take (r .count) row₁)) + knownIn codes (codesOf (keysAhead e text (r .next)))
+        = ap (λ x. knownIn codes (codesOf x)) p ∙ known-append codes (take (r .count) row₁) (keysAhead e text (r .next)) in
+        let q : all inKeys (keysAhead e text place) ≡ all inKeys (keysAhead e text (r .next))
+        = ap (all inKeys) p ∙ all-append inKeys (take (r .count) row₁) (keysAhead e text (r .next)) ∙ rw (a .in-range) refl in
+        let m = many in
+        let c = go .counted in
+        let f = go .found in
+        let b = a .found in
+        record {
+          room = omega (arith, go .room);
+          long = l ∙ go .long;
+          counted = omega arith;
+          found = omega arith;
+          spare = go .spare ∙ t .spare;
+          in-range = go .in-range ∙ q;
+          few = omega (arith, t .fewer, go .few);
+          known-few = omega (arith, go .known-few, known-less);
+        }
 
-      pub counting-unknown : length codes ≤ at → Counting e text from codes (keys + 1) known q
-      counting-unknown u =
-          let m : member (codeOf k) codes ≡ false = rw code at (w .missed u) in
-          let z : known + 0 ≡ known = omega arith in
-          rw z at (counting-more {x = 0} (omega arith) (rw m refl))
+    pub counting-done : r .count < length row₁
+        → Tallied e text start codes (record { keys = keys + r .count; known = known + k; spare = r .spare })
+    unfolding codesOf each knownIn count all
+    counting-done h =
+        let on = counting-more in
+        let over = t .ended (omega arith) in
+        let z = over .0 in
+        let c = on .counted in
+        let n : length (keysAhead e text (r .next)) ≡ 0 = ap length z in
+        let f = on .found in
+        let m : knownIn codes (codesOf (keysAhead e text (r .next))) ≡ 0 = ap (λ x. knownIn codes (codesOf x)) z in
+        record {
+          counted = omega arith;
+          found = omega arith;
+          left-over = over .1 ∙ sym (on .spare);
+          in-range = on .in-range ∙ ap (all inKeys) z;
+          few = counting-keys;
+        }
 
-pub ruleset counting = (counting-start, counting-done, counting-less, counting-known, counting-unknown, needs)
+    pub counting-less : length row₁ ≤ r .count → keysLeft text (r .next) < keysLeft text place
+    counting-less h = omega (arith, t .fewer, go .room)
+
+pub ruleset counting = (counting-start, counting-within, counting-keys, counting-known, counting-more, counting-done, counting-less, needs)
 
 -- ---- Writing.
 
-pub record Writing (e : Encoding) (text : List ℕ) (from : ℕ) (s₀ s : List ℤ) (n : ℕ) (place : KeyPlace) : Type 0 where
-  pub so-far : filledWith (keysAhead e text (keysStart text from)) s₀ ≡ filledFrom n (keysAhead e text place) s
-  pub long : length s ≡ length s₀
+-- more keys than there is room for
+filled-over : (k l s : List ℤ) → length s ≡ length k → filledWith (k ++ l) s ≡ k
+unfolding filledWith
+filled-over [] [] [] h = refl
+filled-over [] (x ∷ l) [] h = refl
+filled-over [] l (y ∷ s) h = absurd (omega arith)
+filled-over (x ∷ k) l [] h = absurd (omega arith)
+filled-over (x ∷ k) l (y ∷ s) h = ap (λ m. x ∷ m) (filled-over k l s (omega arith))
 
-pub writing-start : (e : Encoding) (text : List ℕ) (from : ℕ) (s : List ℤ) {p : KeyPlace} → p ≡ keysStart text from
-    → Writing e text from s s 0 p
-unfolding filledFrom
-writing-start e text from s h = rw h (record { so-far = refl; long = refl })
+module _ {e : Encoding} {text : List ℕ} {from : KeyPlace} {s : List ℤ} {r : KeyRow} {s₁ : List ℤ} (t : RowTold e text from s r s₁)
+    (l : length s₁ ≡ length s) where
+  all-there : r .count < length s → s₁ ≡ filledWith (keysAhead e text from) s
+  all-there h =
+      let k = take (r .count) s₁ in
+      let n : length k ≡ r .count = length-take-le (r .count) s₁ (omega arith) in
+      let w : keysAhead e text from ≡ k = t .keys ∙ ap (λ m. k ++ m) (t .ended h .0) ∙ append-nil k in
+      t .past ∙ ap (λ i. k ++ drop i s) (sym n) ∙ sym (filled-told k s (omega arith)) ∙ ap (λ m. filledWith m s) (sym w)
 
-module _ {e : Encoding} {text : List ℕ} {from : ℕ} {s₀ s : List ℤ} {n : ℕ} {place : KeyPlace} (go : Writing e text from s₀ s n place) where
-  pub writing-full : length s ≤ n → s ≡ filledWith (keysAhead e text (keysStart text from)) s₀
-  writing-full h = sym (go .so-far ∙ from-full n (keysAhead e text place) s h)
+  no-room : length s ≤ r .count → s₁ ≡ filledWith (keysAhead e text from) s
+  no-room h =
+      let w = take-all (r .count) s₁ (omega arith) in
+      sym (ap (λ m. filledWith m s) (t .keys ∙ ap (λ m. m ++ keysAhead e text (r .next)) w)
+      ∙ filled-over s₁ (keysAhead e text (r .next)) s (sym l))
 
-  pub writing-long : length s ≡ length s₀
-  writing-long = go .long
+  filled-row : s₁ ≡ filledWith (keysAhead e text from) s
+  filled-row = go (ltb (r .count) (length s)) refl
+    where
+      go : (b : Bool) → ltb (r .count) (length s) ≡ b → s₁ ≡ filledWith (keysAhead e text from) s
+      go true q = all-there (ltb-true (r .count) (length s) q)
+      go false q = no-room (ltb-false (r .count) (length s) q)
 
-  module _ {r : NextKey} (t : KeyTold e text place r) where
-    pub writing-done : r ≡ End → s ≡ filledWith (keysAhead e text (keysStart text from)) s₀
-    writing-done h = sym (go .so-far ∙ ap (λ l. filledFrom n l s) (key-end t h) ∙ from-none n s)
+  pub writing-so : (at : ℕ) → from ≡ keysStart text at → s₁ ≡ filledWith (keysAhead e text (keysStart text at)) s
+  writing-so at q = rw q at filled-row
 
-    module _ {k : ℤ} {q : KeyPlace} (h : r ≡ Key k q) where
-      pub writing-less : keysLeft text q < keysLeft text place
-      writing-less = key-split t h .less
-
-      pub writing-more : SFits w32 k → n < length s → Writing e text from s₀ (set s n (toZ w32 (ofZ w32 k))) (n + 1) q
-      writing-more f u =
-          let z : suc n ≡ n + 1 = omega arith in
-          record {
-            so-far = go .so-far ∙ ap (λ l. filledFrom n l s) (key-split t h .parts) ∙ from-more n k (keysAhead e text q) s u
-                ∙ ap (λ i. filledFrom i (keysAhead e text q) (set s n k)) z
-                ∙ ap (λ x. filledFrom (n + 1) (keysAhead e text q) (set s n x)) (sym (toZ-ofZ w32 k f));
-            long = length-set s n (toZ w32 (ofZ w32 k)) ∙ go .long;
-          }
-
-pub ruleset writing = (writing-start, writing-full, writing-long, writing-done, writing-less, writing-more, needs)
+pub ruleset writing = (writing-so, needs)

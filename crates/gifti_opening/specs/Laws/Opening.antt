@@ -16,7 +16,7 @@ use Rattle.grammar.specs.Parser.{parse}
 use Rattle.nodes.specs.Places.{Stands, the}
 use Rattle.cifti.specs.Conditions.{textTooLong, noDocument}
 use Rattle.gifti.specs.Conditions.{rootWrong, shapeWrong, arrayNotRead, numberWrong, conditionsOfFile}
-use Rattle.vocabulary.specs.Checks.{giftiFault, JudgedGifti, ChecksGifti}
+use Rattle.numbered_rows.specs.Checks.{giftiFault, JudgedGifti, ChecksGifti}
 use Rattle.shape.specs.declared.Checked.{Checked}
 use Rattle.gifti_opening.specs.Opening.{fileNumber, OpensGifti, rootNumber, OpensRoot}
 use Rattle.gifti_opening.specs.declared.GiftiOpening.{GiftiOpening}

@@ -28,8 +28,8 @@ use Rattle.maps.specs.Fields.{attributeWord, numberSeen, word-at, number-seen}
 use Rattle.label_tables.specs.LabelTable.{keysRight, tableKeys, keyTwice}
 use Rattle.label_table.specs.Labels.{keysAt, twiceAt}
 use Rattle.label_table.specs.Laws.Told.{keys-told, twice-told}
-use Rattle.key_twice.specs.Codes.{codeOf, codesAt}
-use Rattle.key_twice.specs.Laws.Codes.{twice-codes}
+use Rattle.key_codes.specs.Codes.{codeOf, codesAt}
+use Rattle.key_codes.specs.Laws.Codes.{twice-codes}
 use Rattle.comparison.specs.Matched.{member}
 use Rattle.known_keys.specs.Order.{orderedFrom, inOrder}
 use Rattle.known_keys.specs.Known.{knownIn}
@@ -38,7 +38,7 @@ use Rattle.known_keys.specs.Laws.Turns.{member-key}
 use Rattle.gifti.specs.Arrays.{arraysOf, arraysSaid, arrayKeys, labelTables, knownKeys, keysOfArrays}
 use Rattle.gifti.specs.Conditions.{arraysWrong, labelTwice, noArray, lengthWrong, isKnown, someUnknown, keyUnknown}
 use Rattle.gifti_opening.specs.Passed.{FileHere}
-use Rattle.gifti_arrays.specs.Tally.{codesOf}
+use Rattle.known_keys.specs.Known.{codesOf}
 use Rattle.gifti_arrays.specs.Ready.{ArraysAsked, TableHere}
 use Rattle.gifti_arrays.specs.Arrays.{keysOfAll, ToldAll}
 use Rattle.gifti_reader.specs.Number.{rowsOfArrays, numberTwice, numberOnce, TableAt, TableOnce}

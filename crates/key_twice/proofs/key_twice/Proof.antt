@@ -1,4 +1,4 @@
-use Rattle.key_twice.specs.Laws.Turns.{one-way}
+use Rattle.key_twice.specs.Laws.Rising.{one-way}
 use Rattle.key_twice.proofs.key_twice.Statement.{statement}
 use Rattle.key_twice.proofs.key_twice.Tie as tie
 

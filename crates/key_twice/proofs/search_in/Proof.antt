@@ -1,30 +1,21 @@
-use mathlib.Core.Path.{_≡_, _∙_}
+use mathlib.Core.Path.{sym}
 use lib.ListN.{length}
-use borrow.Author.Needs.{needs}
-use Rattle.key_twice.specs.Laws.Turns.{seeking, Seeking, leftOver, seeking-wide, seeking-narrow}
+use lib.Seq.{length-take-le}
+use Rattle.key_codes.specs.Laws.Walks.{toCome}
+use Rattle.key_twice.specs.Laws.Parts.{searching, Searching}
 use Rattle.key_twice.proofs.search_in.Statement.{statement}
 use Rattle.key_twice.proofs.search_in.Tie as tie
 
 abbrev Inv-loop : tie.InvT-loop
-Inv-loop text at work₀ low₀ high₀ work low high = Seeking text at work₀ work low high
+Inv-loop text at work₀ kid₀ work kid = Searching text at work₀ work kid
 
 abbrev μ-loop : tie.MeasureT-loop
-μ-loop text at work₀ low₀ high₀ work low high = leftOver low high
+μ-loop text at work₀ kid₀ work kid = length (toCome text kid)
 
-narrowed-requires : tie.Need-narrowed-requires Inv-loop μ-loop
-narrowed-requires c κs =
-    let told = c .before .before .before .before .before .range-told in
-    seeking-wide (c .before .before .before .before .before .before .before .loop .inv) (told .ensures) (c .before .enum-told2 .given .1)
-    (c .before .before .before .before .before .before .before .before .before .before .pre)
-
-loop-again-2 : tie.Need-loop-again-2 Inv-loop μ-loop
-loop-again-2 c =
-    let told = c .before .before .before .before .before .before .before .before .range-told in
-    let lower = c .before .before .narrowed in
-    let was = c .before .before .before .before .before .before .before .before .before .before .loop in
-    let first : length (told .last .1 .1 .1 .1 .0) ≡ length (was .work) = search needs in
-    let second : length (lower .last .1 .1 .1 .1 .0) ≡ length (told .last .1 .1 .1 .1 .0) = search needs in
-    seeking-narrow (was .inv) (told .ensures) (c .before .before .before .before .enum-told2 .given .1) (lower .ensures) (second ∙ first)
+aggregate : tie.Need-slice-aggregate-part-twice Inv-loop μ-loop
+aggregate c =
+    let turn = c .before .before .before .taken in
+    sym (length-take-le (turn .result .n) (turn .last .1 .1 .0) (turn .ensures .inside))
 
 pub search-in-spec : {M : Type 1} → statement M
 search-in-spec =
@@ -32,19 +23,17 @@ search-in-spec =
     (tie.spec
     Inv-loop
     μ-loop
-    (λ c. search seeking)
-    (λ c κs. search seeking)
-    (λ c. search seeking)
-    (λ c. search seeking)
-    (λ c. search seeking)
-    (λ c. search seeking)
-    (λ c. search seeking)
-    (λ c. search seeking)
-    (λ c κs. search seeking)
-    (λ c. search seeking)
-    (λ c. search seeking)
-    (λ c. search seeking)
-    (λ c. search seeking)
-    narrowed-requires
-    (λ c. search seeking)
-    loop-again-2)
+    (λ c κs. search searching)
+    (λ c. search searching)
+    (λ c. search searching)
+    (λ c κs. search searching)
+    (λ c. search searching)
+    aggregate
+    (λ c κs. search searching)
+    (λ c. search searching)
+    (λ c. search searching)
+    (λ c. search searching)
+    (λ c. search searching)
+    (λ c. search searching)
+    (λ c. search searching)
+    (λ c. search searching))

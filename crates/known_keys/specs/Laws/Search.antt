@@ -18,10 +18,10 @@ use Rattle.known_keys.specs.Known.{Nearest, Placed}
 
 -- ---- A number that stands there does so at a place.
 
-record At (x : ℕ) (l : List ℕ) : Type 0 where
-  place : ℕ
-  inside : place < length l
-  holds : getD l place 0 ≡ x
+pub record At (x : ℕ) (l : List ℕ) : Type 0 where
+  pub place : ℕ
+  pub inside : place < length l
+  pub holds : getD l place 0 ≡ x
 
 place-of : (x : ℕ) (l : List ℕ) → 1 ≤ count (λ y. eqb y x) l → At x l
 unfolding count
@@ -41,7 +41,7 @@ of-place x [] i h e = absurd (omega arith)
 of-place x (y ∷ l) zero h e = rw (eq-eqb y x e) (omega arith)
 of-place x (y ∷ l) (suc i) h e = let r = of-place x l i (omega arith) e in omega arith
 
-stands : (x : ℕ) (l : List ℕ) → member x l ≡ true → At x l
+pub stands : (x : ℕ) (l : List ℕ) → member x l ≡ true → At x l
 unfolding member
 stands x l h = place-of x l (leb-true 1 (count (λ y. eqb y x) l) h)
 

@@ -20,9 +20,9 @@ use Rattle.numbers.specs.Numbers.{inKeys, sameKey}
 use Rattle.comparison.specs.Matched.{member}
 use Rattle.label_table.specs.Labels.{labels, keyHere, keysAt, nextLabel}
 use Rattle.label_table.specs.Laws.Labels.{row}
-use Rattle.key_twice.specs.Codes.{codeOf, codeHere, codesAt}
-use Rattle.key_twice.specs.Laws.Codes.{code-small, code-same, here-in}
-use Rattle.key_twice.specs.Laws.Walks.{toCome, come-more, walk-less}
+use Rattle.key_codes.specs.Codes.{codeOf, codeHere, codesAt}
+use Rattle.key_codes.specs.Laws.Codes.{code-small, code-same, here-in}
+use Rattle.key_codes.specs.Laws.Walks.{toCome, come-more, walk-less}
 use Rattle.known_keys.specs.Order.{Arranged, Within}
 use Rattle.known_keys.specs.Known.{knownIn, Gathered, Taken}
 use Rattle.known_keys.specs.Laws.Order.{all-within, member-kept}
@@ -109,6 +109,7 @@ module _ {text : List ℕ} {from : Kid} {work : List ℕ} {n : ℕ} {next : Kid}
         parts = g .parts;
         moves = λ e u. g .moves e (omega arith);
         ordered = rw t (a .ordered);
+        reordered = rw t (a .reordered);
         same = λ c. rw t (member-kept (a .reordered) c);
       }
 
@@ -131,7 +132,7 @@ never-two a c (y ∷ l) h e =
     let r = never-two a c l (or-right (eqb a y) (any (eqb a) l) h) e in
     rw (ne-eqb y c (λ f. eqb-false a y (or-left (eqb a y) (any (eqb a) l) h) (e ∙ sym f))) (omega arith)
 
-once : (c : ℕ) (l : List ℕ) → twoOf eqb l ≡ false → count (λ y. eqb y c) l ≤ 1
+pub once : (c : ℕ) (l : List ℕ) → twoOf eqb l ≡ false → count (λ y. eqb y c) l ≤ 1
 unfolding twoOf count
 once c [] h = omega arith
 once c (a ∷ l) h = go (eqb a c) refl (once c l (or-right (any (eqb a) l) (twoOf eqb l) h))
@@ -175,14 +176,14 @@ known-none (c ∷ l) = let r = known-none l in omega arith
 
 -- ---- A key stands in the table where its code does.
 
-turned : (x y : ℕ) → eqb x y ≡ eqb y x
+pub turned : (x y : ℕ) → eqb x y ≡ eqb y x
 turned x y = go (eqb x y) refl
   where
     go : (b : Bool) → eqb x y ≡ b → b ≡ eqb y x
     go true e = sym (eq-eqb y x (sym (eqb-true x y e)))
     go false e = sym (ne-eqb y x (λ f. eqb-false x y e (sym f)))
 
-member-any : (c : ℕ) (l : List ℕ) → member c l ≡ any (eqb c) l
+pub member-any : (c : ℕ) (l : List ℕ) → member c l ≡ any (eqb c) l
 unfolding member count any
 member-any c [] = refl
 member-any c (y ∷ l) = go (eqb y c) (turned y c) (member-any c l)

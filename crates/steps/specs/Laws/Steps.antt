@@ -22,7 +22,7 @@ use Rattle.steps.specs.declared.Step.the-variants.{To, No}
 pub record Spanning (p : ℕ → Bool) (text : List ℕ) (at i : ℕ) : Type 0 where
   pub same-end : stepped (length text) (span p (drop at text)) ≡ stepped (length text) (span p (drop i text))
 
-span-on : (p : ℕ → Bool) (n a : ℕ) (s : List ℕ) → p a ≡ true → stepped n (span p (a ∷ s)) ≡ stepped n (span p s)
+pub span-on : (p : ℕ → Bool) (n a : ℕ) (s : List ℕ) → p a ≡ true → stepped n (span p (a ∷ s)) ≡ stepped n (span p s)
 unfolding span
 span-on p n a s e = rw (e, span) (stepped-value n (span p s) (λ w. a ∷ w))
 
@@ -43,6 +43,9 @@ module _ (p : ℕ → Bool) (text : List ℕ) (at i : ℕ) (go : Spanning p text
       let none : drop (length text) text ≡ [] = at-end text (length text) (omega arith) in
       let q : span p (drop i text) ≡ got [] (drop (length text) text) = rw (at-end text i h, none) (span-nil p) in
       arrives text (span p (drop i text)) (length text) (omega arith) q ∙ sym (go .same-end)
+
+  pub span-rest : {to : ℕ} → To to ≡ stepped (length text) (span p (drop i text)) → To to ≡ stepped (length text) (span p (drop at text))
+  span-rest e = e ∙ sym (go .same-end)
 
   module _ (h : i < length text) {t : Bool} (is : t ≡ p (getD text i 0)) where
     pub span-more : not t ≡ false → Spanning p text at (i + 1)

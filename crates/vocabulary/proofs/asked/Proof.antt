@@ -1,4 +1,4 @@
-use Rattle.vocabulary.specs.Laws.Agree.{lending}
+use Rattle.numbered_rows.specs.Laws.Agree.{lending}
 use Rattle.vocabulary.proofs.asked.Statement.{statement}
 use Rattle.vocabulary.proofs.asked.Tie as tie
 

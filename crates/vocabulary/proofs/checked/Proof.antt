@@ -1,5 +1,5 @@
 use mathlib.Core.Path.{refl}
-use Rattle.vocabulary.specs.Laws.Agree.{cifti-checked}
+use Rattle.numbered_rows.specs.Laws.Agree.{cifti-checked}
 use Rattle.vocabulary.proofs.checked.Statement.{statement}
 use Rattle.vocabulary.proofs.checked.Tie as tie
 

@@ -1,5 +1,5 @@
 use mathlib.Core.Path.{refl}
-use Rattle.vocabulary.specs.Laws.Arrays.{gifti-checked}
+use Rattle.numbered_rows.specs.Laws.Arrays.{gifti-checked}
 use Rattle.vocabulary.proofs.gifti_checked.Statement.{statement}
 use Rattle.vocabulary.proofs.gifti_checked.Tie as tie
 

@@ -1,4 +1,4 @@
-use Rattle.vocabulary.specs.Laws.Agree.{kind-is}
+use Rattle.numbered_rows.specs.Laws.Agree.{kind-is}
 use Rattle.vocabulary.proofs.kind_named.Statement.{statement}
 use Rattle.vocabulary.proofs.kind_named.Tie as tie
 

@@ -1,4 +1,4 @@
-use Rattle.vocabulary.specs.Laws.Agree.{structure-is}
+use Rattle.numbered_rows.specs.Laws.Agree.{structure-is}
 use Rattle.vocabulary.proofs.structure_named.Statement.{statement}
 use Rattle.vocabulary.proofs.structure_named.Tie as tie
 

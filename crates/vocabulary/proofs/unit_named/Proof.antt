@@ -1,4 +1,4 @@
-use Rattle.vocabulary.specs.Laws.Agree.{unit-is}
+use Rattle.numbered_rows.specs.Laws.Agree.{unit-is}
 use Rattle.vocabulary.proofs.unit_named.Statement.{statement}
 use Rattle.vocabulary.proofs.unit_named.Tie as tie
 

@@ -9,5 +9,4 @@ array-told-spec =
     (tie.spec
     (λ c κs. search needs)
     (λ c κs. search needs)
-    (λ c κs. search needs)
     (λ c. search (array-so, needs)))

@@ -1,6 +1,6 @@
 use lib.ListN.{length}
 use Rattle.label_table.specs.Laws.Labels.{row}
-use Rattle.key_twice.specs.Laws.Walks.{falling, Falling}
+use Rattle.key_twice.specs.Laws.Rising.{falling, Falling}
 use Rattle.key_twice.proofs.rising.falls.Statement.{statement}
 use Rattle.key_twice.proofs.rising.falls.Tie as tie
 

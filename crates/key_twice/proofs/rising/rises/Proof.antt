@@ -1,6 +1,6 @@
 use lib.ListN.{length}
 use Rattle.label_table.specs.Laws.Labels.{row}
-use Rattle.key_twice.specs.Laws.Walks.{rising, Rising}
+use Rattle.key_twice.specs.Laws.Rising.{rising, Rising}
 use Rattle.key_twice.proofs.rising.rises.Statement.{statement}
 use Rattle.key_twice.proofs.rising.rises.Tie as tie
 

@@ -1,26 +1,16 @@
-use Rattle.numbers.specs.Laws.Read.{seeking, Seeking}
-use Rattle.nodes.specs.Texts.{left}
+use Rattle.number_lists.specs.Laws.Letters.{reading-itself}
 use Rattle.number_lists.proofs.chars.letter.Statement.{statement}
 use Rattle.number_lists.proofs.chars.letter.Tie as tie
-
-abbrev Inv-loop : tie.InvT-loop
-Inv-loop text at i₀ i = Seeking text at i
-
-abbrev μ-loop : tie.MeasureT-loop
-μ-loop text at i₀ i = left text i
 
 pub letter-spec : {M : Type 1} → statement M
 letter-spec =
     tie.close
     (tie.spec
-    Inv-loop
-    μ-loop
-    (λ c. search seeking)
-    (λ c κs. search seeking)
-    (λ c. search seeking)
-    (λ c. search seeking)
-    (λ c. search seeking)
-    (λ c. search seeking)
-    (λ c. search seeking)
-    (λ c. search seeking)
-    (λ c. search seeking))
+    (λ c κs. search reading-itself)
+    (λ c. search reading-itself)
+    (λ c. search reading-itself)
+    (λ c κs. search reading-itself)
+    (λ c κs. search reading-itself)
+    (λ c. search reading-itself)
+    (λ c. search reading-itself)
+    (λ c. search reading-itself))

@@ -1,4 +1,4 @@
-use Rattle.numbers.specs.Laws.Next.{hurrying}
+use Rattle.number_lists.specs.Laws.Within.{hurrying-on}
 use Rattle.number_lists.proofs.listed.any_number.Statement.{statement}
 use Rattle.number_lists.proofs.listed.any_number.Tie as tie
 
@@ -6,15 +6,15 @@ pub any-number-spec : {M : Type 1} → statement M
 any-number-spec =
     tie.close
     (tie.spec
-    (λ c κs. search hurrying)
-    (λ c κs. search hurrying)
-    (λ c κs. search hurrying)
-    (λ c. search hurrying)
-    (λ c. search hurrying)
-    (λ c κs. search hurrying)
-    (λ c κs. search hurrying)
-    (λ c. search hurrying)
-    (λ c κs. search hurrying)
-    (λ c. search hurrying)
-    (λ c κs. search hurrying)
-    (λ c. search hurrying))
+    (λ c κs. search hurrying-on)
+    (λ c κs. search hurrying-on)
+    (λ c κs. search hurrying-on)
+    (λ c. search hurrying-on)
+    (λ c. search hurrying-on)
+    (λ c κs. search hurrying-on)
+    (λ c κs. search hurrying-on)
+    (λ c. search hurrying-on)
+    (λ c κs. search hurrying-on)
+    (λ c. search hurrying-on)
+    (λ c κs. search hurrying-on)
+    (λ c. search hurrying-on))

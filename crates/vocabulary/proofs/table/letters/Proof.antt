@@ -1,5 +1,5 @@
 use mathlib.Core.Path.{refl}
-use Rattle.vocabulary.specs.Table.{letters}
+use Rattle.numbered_rows.specs.Table.{letters}
 use Rattle.vocabulary.proofs.table.letters.Statement.{statement}
 use Rattle.vocabulary.proofs.table.letters.Tie as tie
 

@@ -1,5 +1,5 @@
 use mathlib.Core.Path.{refl}
-use Rattle.vocabulary.specs.Table.{table}
+use Rattle.numbered_rows.specs.Table.{table}
 use Rattle.vocabulary.proofs.table.numbers.Statement.{statement}
 use Rattle.vocabulary.proofs.table.numbers.Tie as tie
 

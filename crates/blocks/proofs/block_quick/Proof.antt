@@ -1,0 +1,14 @@
+use Rattle.steps.specs.Laws.Blocks.{quick-blocks}
+use Rattle.blocks.proofs.block_quick.Statement.{statement}
+use Rattle.blocks.proofs.block_quick.Tie as tie
+
+pub block-quick-spec : {M : Type 1} → statement M
+block-quick-spec =
+    tie.close
+    (tie.spec
+    (λ c κs. search quick-blocks)
+    (λ c κs. search quick-blocks)
+    (λ c κs. search quick-blocks)
+    (λ c κs. search quick-blocks)
+    (λ c κs. search quick-blocks)
+    (λ c. search quick-blocks))

@@ -1,0 +1,51 @@
+use Prim.Native.Nat.{suc, _+_, _≤_}
+use native.Mathlib.Omega.{arith}
+use lib.ListN.{length}
+use borrow.Author.Needs.{needs}
+use Rattle.array_keys.specs.Ahead.{keysLeft, keysStart}
+use Rattle.gifti_arrays.specs.Laws.Tally.{counting, Counting, counting-prefix, counting-long}
+use Rattle.gifti_arrays.proofs.tally.count_rows.Statement.{statement}
+use Rattle.gifti_arrays.proofs.tally.count_rows.Tie as tie
+
+abbrev Inv-loop : tie.InvT-loop
+Inv-loop text from encoding codes row₀ values keys₀ known₀ place₀ row keys known place =
+    Counting encoding text (keysStart text from) codes row₀ row keys known place
+
+abbrev μ-loop : tie.MeasureT-loop
+μ-loop text from encoding codes row₀ values keys₀ known₀ place₀ row keys known place = keysLeft text place
+
+add-known : tie.Need-add-known Inv-loop μ-loop
+add-known c =
+    let here = c .before .before .before .before .before .before in
+    let start = c .before .before .before .before .before .before .before .before .before .before .before in
+    let few : here .loop .known + c .known-among .result ≤ suc (length (start .args .text .now)) = search counting in
+    omega (arith, few)
+
+add-keys : tie.Need-add-keys Inv-loop μ-loop
+add-keys c =
+    let here = c .before .before .before .before .before .before in
+    let start = c .before .before .before .before .before .before .before .before .before .before .before in
+    let got = c .before .before .before in
+    let few : here .loop .keys + got .fill-from .result .count ≤ suc (length (start .args .text .now)) = search counting in
+    omega (arith, few)
+
+pub count-rows-spec : {M : Type 1} → statement M
+count-rows-spec =
+    tie.close
+    (tie.spec
+    Inv-loop
+    μ-loop
+    (λ c κs. search counting)
+    (λ c κs. search counting)
+    (λ c. search counting)
+    (λ c. search counting)
+    (λ c κs. search counting)
+    (λ c. search counting)
+    (λ c. search (counting-prefix, needs))
+    (λ c κs. search counting)
+    add-known
+    add-keys
+    (λ c. search (counting-long, needs))
+    (λ c. search counting)
+    (λ c. search counting)
+    (λ c. search counting))

@@ -1,0 +1,19 @@
+use Rattle.key_rows.specs.Laws.Rows.{running}
+use Rattle.key_rows.proofs.quick_run.Statement.{statement}
+use Rattle.key_rows.proofs.quick_run.Tie as tie
+
+pub quick-run-spec : {M : Type 1} → statement M
+quick-run-spec =
+    tie.close
+    (tie.spec
+    (λ c. search running)
+    (λ c. search running)
+    (λ c. search running)
+    (λ c κs. search running)
+    (λ c. search running)
+    (λ c κs. search running)
+    (λ c. search running)
+    (λ c. search running)
+    (λ c. search running)
+    (λ c. search running)
+    (λ c. search running))

@@ -1,0 +1,41 @@
+use native.Mathlib.Omega.{arith}
+use lib.ListN.{length}
+use Rattle.key_rows.specs.Laws.Rows.{sixteen, room-left}
+use Rattle.key_rows.proofs.three_keys.Statement.{statement}
+use Rattle.key_rows.proofs.three_keys.Tie as tie
+
+pub three-keys-spec : {M : Type 1} → statement M
+three-keys-spec =
+    tie.close
+    (tie.spec
+    (λ c κs. search sixteen)
+    (λ c. search sixteen)
+    (λ c κs. search sixteen)
+    (λ c.
+    let start = c .before .before .before .before .before in
+    omega (
+      arith,
+      room-left (start .args .at) 16 (length (start .args .text .now))
+          (c .before .before .fits-in .ensures) (c .before .if1 .left),
+    ))
+    (λ c κs. search sixteen)
+    (λ c.
+    let start = c .before .before .before .before .before .before in
+    omega (
+      arith,
+      room-left (start .args .at) 16 (length (start .args .text .now))
+          (c .before .before .before .fits-in .ensures) (c .before .before .if1 .left),
+    ))
+    (λ c κs. search sixteen)
+    (λ c.
+    let start = c .before .before .before .before .before .before .before in
+    omega (
+      arith,
+      room-left (start .args .at) 16 (length (start .args .text .now))
+          (c .before .before .before .before .fits-in .ensures) (c .before .before .before .if1 .left),
+    ))
+    (λ c κs. search sixteen)
+    (λ c. search sixteen)
+    (λ c κs. search sixteen)
+    (λ c. search sixteen)
+    (λ c. search sixteen))

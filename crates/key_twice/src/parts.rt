@@ -1,0 +1,66 @@
+// A part of the keys of a table, in their order, and the Labels behind it.
+use key_codes::codes::code_at;
+use known_keys::place_in;
+use label_table::labels::next_label;
+use nodes::Kid;
+ghost use mathlib.Core.Path.{_≡_};
+ghost use mathlib.Core.Bool.{true};
+ghost use lib.Dec.{eqb};
+ghost use Rattle.lists.specs.Lists.{twoOf};
+ghost use Rattle.key_codes.specs.Laws.Walks.{toCome};
+ghost use Rattle.known_keys.specs.Order.{inOrder};
+ghost use Rattle.key_twice.specs.Parts.{someIn, partTwice};
+
+// Two numbers are equal. Those in order are so next to each other.
+fn neighbours_alike(keys: &[u64]) -> bool
+    requires { ⌜ inOrder (now keys) ≡ true ⌝ }
+    ensures { λ r. ⌜ r ≡ twoOf eqb (now (keys .entry)) ⌝ }
+{
+    if keys.len() == 0 {
+        return false;
+    }
+    let mut last = keys[0];
+    let mut i = 1;
+    while i < keys.len() {
+        let x = keys[i];
+        i += 1;
+        if x == last {
+            return true;
+        }
+        last = x;
+    }
+    false
+}
+
+// A key from a Label on is one of the numbers.
+fn one_of_later(text: &[u8], from: Kid, keys: &[u64]) -> bool
+    requires { ⌜ inOrder (now keys) ≡ true ⌝ }
+    ensures { λ r. ⌜ r ≡ someIn (now (keys .entry)) (toCome (now (text .entry)) from) ⌝ }
+{
+    let mut kid = from;
+    loop {
+        match kid {
+            Kid::Child(k) => {
+                let at = place_in(keys, keys.len(), code_at(text, k));
+                kid = next_label(text, k);
+                if at < keys.len() {
+                    return true;
+                }
+            }
+            Kid::Done => {
+                return false;
+            }
+        }
+    }
+}
+
+// A key of the part stands in it twice, or once more from the Label on.
+pub(crate) fn part_twice(text: &[u8], next: Kid, part: &[u64]) -> bool
+    requires { ⌜ inOrder (now part) ≡ true ⌝ }
+    ensures { λ r. ⌜ r ≡ partTwice (now (part .entry)) (toCome (now (text .entry)) next) ⌝ }
+{
+    if neighbours_alike(part) {
+        return true;
+    }
+    one_of_later(text, next, part)
+}

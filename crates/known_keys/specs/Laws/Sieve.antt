@@ -1,0 +1,80 @@
+-- Marking the numbers of a part one after the other.
+use mathlib.Core.Path.{_≡_, refl, sym, ap, _∙_}
+use mathlib.Core.Bool.{Bool, true, false, _||_}
+use mathlib.Core.List.{List}
+use Prim.Native.Nat.{ℕ, _+_, _/_, _%_, _≤_, _<_}
+use native.Mathlib.Omega.{arith}
+use native.Mathlib.Decide.{decLt}
+use lib.Dec.{eqb, ltb}
+use lib.ListN.{length, getD, take}
+use borrow.Author.Needs.{needs}
+use borrow.Author.Tests.{lt-ltb, le-ltb, eq-eqb}
+use Rattle.lists.specs.Laws.Booleans.{or-true}
+use Rattle.marks.specs.Marks.{marked, Stay, Marked}
+use Rattle.comparison.specs.Matched.{member}
+use Rattle.known_keys.specs.Order.{inOrder}
+use Rattle.known_keys.specs.Sieve.{sievePlace, sifted, Sieve, Sifting}
+use Rattle.known_keys.specs.Laws.Search.{At, stands}
+
+-- the first so many are marked
+pub record Sieving (codes words₀ words : List ℕ) (i : ℕ) : Type 0 where
+  pub room : 8192 ≤ length words
+  pub long : length words ≡ length words₀
+  pub so-far : (k : ℕ) → k < i → marked words (sievePlace (getD codes k 0)) ≡ 1
+
+pub sieving-start : {words : List ℕ} (codes : List ℕ) → 8192 ≤ length words → Sieving codes words words 0
+sieving-start codes h = record { room = h; long = refl; so-far = λ k u. absurd (omega arith) }
+
+module _ {codes words₀ words : List ℕ} {i : ℕ} (go : Sieving codes words₀ words i) where
+  pub sieving-long : length words ≡ length words₀
+  sieving-long = go .long
+
+  pub sieving-more : {p : ℕ} → p ≡ sievePlace (getD codes i 0) → {new : Bool} {after : List ℕ} → Marked words p new after
+      → Sieving codes words₀ after (i + 1)
+  unfolding sievePlace
+  sieving-more {p} e {after = after} m =
+      let l = m .kept .long in
+      let r = go .room in
+      record { room = omega arith; long = l ∙ go .long; so-far = λ k u. by k u (decLt k i) }
+    where
+      here : marked after (sievePlace (getD codes i 0)) ≡ 1
+      here = let r = go .room in ap (marked after) (sym e) ∙ m .with-room (omega arith)
+
+      by : (k : ℕ) → k < i + 1 → Dec (k < i) → marked after (sievePlace (getD codes k 0)) ≡ 1
+      by k u (yes h) = m .kept .stays (sievePlace (getD codes k 0)) (go .so-far k h)
+      by k u (no h) =
+          let q : i ≡ k = omega arith in
+          ap (λ (n : ℕ). marked after (sievePlace (getD codes n 0))) (sym q) ∙ here
+
+  pub sieving-done : length codes ≤ i → Sieve codes words
+  unfolding sifted
+  sieving-done h = record { passing = λ c m. by c (stands c codes m) }
+    where
+      by : (c : ℕ) → At c codes → (ltb (length words) 8192 || eqb (marked words (sievePlace c)) 1) ≡ true
+      by c a =
+          let u = a .inside in
+          let z : marked words (sievePlace c) ≡ 1
+          = ap (λ (n : ℕ). marked words (sievePlace n)) (sym (a .holds)) ∙ go .so-far (a .place) (omega arith) in
+          rw (eq-eqb (marked words (sievePlace c)) 1 z) (or-true (ltb (length words) 8192))
+
+pub ruleset sieving = (sieving-start, sieving-long, sieving-more, sieving-done, needs)
+
+-- ---- Passing.
+
+pub passes-all : (words : List ℕ) (c : ℕ) → length words < 8192 → true ≡ sifted words c
+unfolding sifted
+passes-all words c h = rw (lt-ltb (length words) 8192 h) refl
+
+pub passes-marked : (words : List ℕ) (c : ℕ) → 8192 ≤ length words → {p : ℕ} → p ≡ sievePlace c → {r : Bool} → r ≡ eqb (marked words p) 1
+    → r ≡ sifted words c
+unfolding sifted
+passes-marked words c h e q = q ∙ rw (le-ltb (length words) 8192 h, e) refl
+
+pub ruleset passing = (passes-all, passes-marked, needs)
+
+-- no word at all
+pub sifting-none : {codes : List ℕ} → inOrder codes ≡ true → Sifting codes (take 0 codes)
+unfolding sifted
+sifting-none o = record { in-order = o; passes = record { passing = λ c m. refl } }
+
+pub ruleset sifting = (sifting-none, needs)

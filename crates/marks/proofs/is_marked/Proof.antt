@@ -1,0 +1,13 @@
+use Rattle.marks.proofs.Laws.{marked-there}
+use Rattle.marks.proofs.is_marked.Statement.{statement}
+use Rattle.marks.proofs.is_marked.Tie as tie
+
+pub is-marked-spec : {M : Type 1} → statement M
+is-marked-spec =
+    tie.close
+    (tie.spec
+    (λ c. search marked-there)
+    (λ c. search marked-there)
+    (λ c. search marked-there)
+    (λ c. search marked-there)
+    (λ c. search marked-there))

@@ -1,0 +1,16 @@
+use Rattle.number_lists.specs.Laws.Within.{coming-late}
+use Rattle.number_lists.proofs.within.late_number.Statement.{statement}
+use Rattle.number_lists.proofs.within.late_number.Tie as tie
+
+pub late-number-spec : {M : Type 1} → statement M
+late-number-spec =
+    tie.close
+    (tie.spec
+    (λ c κs. search coming-late)
+    (λ c. search coming-late)
+    (λ c. search coming-late)
+    (λ c. search coming-late)
+    (λ c κs. search coming-late)
+    (λ c. search coming-late)
+    (λ c κs. search coming-late)
+    (λ c. search coming-late))

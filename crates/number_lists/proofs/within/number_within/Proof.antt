@@ -1,0 +1,23 @@
+use Rattle.number_lists.specs.Laws.Within.{taking}
+use Rattle.number_lists.proofs.within.number_within.Statement.{statement}
+use Rattle.number_lists.proofs.within.number_within.Tie as tie
+
+pub number-within-spec : {M : Type 1} → statement M
+number-within-spec =
+    tie.close
+    (tie.spec
+    (λ c κs. search taking)
+    (λ c κs. search taking)
+    (λ c κs. search taking)
+    (λ c. search taking)
+    (λ c. search taking)
+    (λ c κs. search taking)
+    (λ c. search taking)
+    (λ c κs. search taking)
+    (λ c. search taking)
+    (λ c. search taking)
+    (λ c. search taking)
+    (λ c. search taking)
+    (λ c. search taking)
+    (λ c κs. search taking)
+    (λ c. search taking))
