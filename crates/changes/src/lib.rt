@@ -1,5 +1,5 @@
 // What changed from one sheet to another, index by index.
-use finding::find;
+use record_fields::find;
 use records::Place;
 ghost use mathlib.Core.Path.{_≡_};
 ghost use Prim.Native.Nat.{_≤_, _<_};

@@ -1,6 +1,6 @@
 // The paper's number of two sheets.
 use repeats::repeats_in;
-use unpacking::unpack;
+use sheets::unpack;
 ghost use mathlib.Core.Path.{_≡_};
 ghost use mathlib.Core.Bool.{true};
 ghost use lib.Dec.{eqb};

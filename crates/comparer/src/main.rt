@@ -107,8 +107,8 @@ fn print_both(first: &[u8], second: &[u8]) -> Printed
 {
     let mut a = [0u64; 6552];
     let mut b = [0u64; 6552];
-    let one = unpacking::unpack(first, &mut a);
-    let two = unpacking::unpack(second, &mut b);
+    let one = sheets::unpack(first, &mut a);
+    let two = sheets::unpack(second, &mut b);
     let n = within(one.value);
     let m = within(two.value);
     print_lines(&a[..n], &b[..m])

@@ -1,10 +1,10 @@
 // A text that is too long, lengths that are wrong, and what `read` answers.
 use answers::refused;
 use cifti::Answer;
-use clearing::clear;
 use first_line::FirstLine;
 use first_line::first_line;
 use reader::read;
+use repeats::clear;
 ghost use Prim.Native.Nat.{_≤_};
 ghost use lib.ListN.{length};
 ghost use Rattle.decision.specs.Decision.{mostText, Decides, Chooses};

@@ -53,7 +53,7 @@ pub extern "C" fn dz_map_name(
 pub extern "C" fn dz_find(records: &[u64], number: u64, place: &mut [u64]) -> u64
     ensures { λ r. ⌜ FindsFlat (now (records .entry)) number (now (place .entry)) r (now (place .exit)) ⌝ }
 {
-    let said = finding::find(records, number);
+    let said = record_fields::find(records, number);
     tell_one(place, said.place.0 as u64);
     said.number
 }
@@ -63,7 +63,7 @@ pub extern "C" fn dz_pack(records: &[u64], sheet: &mut [u8], count: &mut [u64]) 
     ensures { λ r. ⌜ PacksFlat (now (records .entry)) (now (sheet .entry)) (now (count .entry)) r (now (sheet .exit))
         (now (count .exit)) ⌝ }
 {
-    let said = packing::pack(records, sheet);
+    let said = sheets::pack(records, sheet);
     tell_one(count, said.value);
     said.number
 }
@@ -73,7 +73,7 @@ pub extern "C" fn dz_unpack(sheet: &[u8], records: &mut [u64], count: &mut [u64]
     ensures { λ r. ⌜ UnpacksFlat (now (sheet .entry)) (now (records .entry)) (now (count .entry)) r (now (records .exit))
         (now (count .exit)) ⌝ }
 {
-    let said = unpacking::unpack(sheet, records);
+    let said = sheets::unpack(sheet, records);
     tell_one(count, said.value);
     said.number
 }

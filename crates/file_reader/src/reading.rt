@@ -2,9 +2,9 @@
 use super::given::handed_on;
 use answers::refused;
 use cifti::Answer;
-use clearing::clear;
 use front::front;
 use reader::read;
+use repeats::clear;
 ghost use Prim.Native.Nat.{_≤_};
 ghost use lib.ListN.{length, take};
 ghost use Rattle.cifti.specs.Answer.{Reads};

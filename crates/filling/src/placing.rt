@@ -6,7 +6,7 @@ ghost use lib.ListN.{length};
 ghost use Rattle.table.specs.Placing.{Placing, Placed};
 
 // Each model from `start` and its IndexOffset on; answers how many indices they count.
-pub fn fill_models(text: &[u8], models: Models, out: &mut [u64], start: Place) -> usize
+pub(crate) fn fill_models(text: &[u8], models: Models, out: &mut [u64], start: Place) -> usize
     requires { ⌜ Placing (now text) models (length (now out)) (start .0) ⌝ }
     ensures { λ n. ⌜ Placed (now (text .entry)) models (now (out .entry)) (start .0) n (now (out .exit)) ⌝ }
 {

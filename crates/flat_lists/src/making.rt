@@ -1,7 +1,7 @@
 use flat::put;
 use records::Outcome;
-use runs::made_of;
 use shortlist::Made;
+use shortlisting::made_of;
 ghost use mathlib.Core.Path.{_≡_};
 ghost use mathlib.Core.Bool.{cond};
 ghost use Prim.Native.Nat.{_*_, _≤_, _<_};

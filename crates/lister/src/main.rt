@@ -104,11 +104,11 @@ fn read_text(text: &mut [u8]) -> Came
 fn print_card(answer: Answer, records: &[u64]) -> Printed
     ensures { λ r. ⌜ (r .failed ≡ false → r .lines ≡ cardLines answer (now (records .entry))) ⌝ }
 {
-    let count = card_count::line_count(answer, records);
+    let count = card::line_count(answer, records);
     let mut n = 0;
     while n < count {
         let mut bytes = [0u8; 128];
-        let size = card_text::write_line(card_lines::line_at(answer, records, n), &mut bytes);
+        let size = card_text::write_line(card::line_at(answer, records, n), &mut bytes);
         if !io::write_all(STDOUT_FILENO, &bytes[..size]) {
             return Printed {
                 lines: n,

@@ -2,7 +2,6 @@
 use super::entries::fill;
 use super::entries::seen;
 use records::Index;
-use runs::made_of;
 use shortlist::Listed;
 use shortlist::Made;
 use shortlist::Model;
@@ -11,6 +10,7 @@ use shortlist::Sought;
 use shortlist::Told;
 use shortlisting::begin;
 use shortlisting::begin_record;
+use shortlisting::made_of;
 use shortlisting::sought;
 use shortlisting::told;
 ghost use mathlib.Core.Path.{_≡_};

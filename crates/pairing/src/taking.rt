@@ -1,6 +1,6 @@
 // The record at a place, from the front of a sheet or turned round.
 use records::Place;
-use sheet_words::record_at;
+use sheets::record_at;
 ghost use mathlib.Core.Path.{_≡_};
 ghost use Prim.Native.Nat.{_<_};
 ghost use lib.ListN.{getD};

@@ -1,8 +1,8 @@
 // Conditions 10 to 14, 24 and 25, where 1 to 9 do not apply.
 use describing::room_short;
+use filling::any_twice;
 use labels::key_twice;
 use labels::labels_twice;
-use location_twice::any_twice;
 use maps::survey::Maps;
 use models::judge::Judged;
 ghost use lib.ListN.{length};

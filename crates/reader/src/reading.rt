@@ -2,10 +2,10 @@
 use super::later::later_refusal;
 use answers::refused;
 use cifti::Answer;
-use clearing::clear;
 use describing::accepted;
+use filling::fill_all;
 use judging::judged;
-use stretches::fill_all;
+use repeats::clear;
 use survey::surveyed;
 ghost use Rattle.cifti.specs.Answer.{Reads};
 

@@ -1,7 +1,7 @@
 // A record: 54 bits that stand for a location.
 use records::Vertex;
 ghost use mathlib.Core.Path.{_≡_};
-ghost use Rattle.records.specs.Record.{Location, recordOf, wrapped, isVoxel, structureOf, payloadOf, iOf, jOf, kOf, keyOf};
+ghost use Rattle.records.specs.Record.{Location, recordOf, wrapped, isVoxel, structureOf, payloadOf, iOf, jOf, kOf, keyOf, legalRecord};
 
 // The record of a vertex; a part too large for its bits is taken modulo their number.
 pub fn surface_record(structure: u64, vertex: Vertex) -> u64
@@ -56,6 +56,15 @@ pub fn k_of(r: u64) -> u64
     ensures { λ k. ⌜ k ≡ kOf r ⌝ }
 {
     r % 65_536
+}
+
+// The bits too many, and those of a vertex number that is too large: one sum, so that no branch goes by the kind of the record.
+pub fn legal(r: u64) -> bool
+    ensures { λ ok. ⌜ ok ≡ legalRecord r ⌝ }
+{
+    r / 18_014_398_509_481_984
+        + (1 - r / 9_007_199_254_740_992 % 2) * (r % 281_474_976_710_656 / 1_048_576)
+        == 0
 }
 
 // What two records share exactly where they name the same vertex of a structure, or the same voxel.

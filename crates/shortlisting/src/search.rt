@@ -1,8 +1,8 @@
 // A list taken entry by entry: whether it is bad, the entry that holds an index, the entry of a kind.
-use super::bits::is_record;
-use finding::find;
+use super::kinds::is_record;
+use super::kinds::kind_of;
+use record_fields::find;
 use records::Index;
-use runs::kind_of;
 use shortlist::Model;
 use shortlist::Search;
 use shortlist::Sought;

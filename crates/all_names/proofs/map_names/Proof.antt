@@ -3,9 +3,8 @@ use Rattle.all_names.proofs.map_names.Statement.{statement}
 use Rattle.all_names.proofs.map_names.Tie as tie
 
 pub map-names-spec : {M : Type 1} → statement M
-map-names-spec =
-    tie.close
-    (tie.spec
+map-names-spec {M = M} =
+    let closed = tie.spec {M = M}
     (λ c κs. search placingAll)
     (λ c. search placingAll)
     (λ c κs. search placingAll)
@@ -15,4 +14,5 @@ map-names-spec =
     (λ c. search placingAll)
     (λ c. search placingAll)
     (λ c. search placingAll)
-    (λ c. search placingAll))
+    (λ c. search placingAll)
+    in tie.close closed

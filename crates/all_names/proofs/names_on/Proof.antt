@@ -3,9 +3,8 @@ use Rattle.all_names.proofs.names_on.Statement.{statement}
 use Rattle.all_names.proofs.names_on.Tie as tie
 
 pub names-on-spec : {M : Type 1} → statement M
-names-on-spec =
-    tie.close
-    (tie.spec
+names-on-spec {M = M} =
+    let closed = tie.spec {M = M}
     (λ c. search onMap)
     (λ c κs. search onMap)
     (λ c. search onMap)
@@ -14,4 +13,5 @@ names-on-spec =
     (λ c. search onMap)
     (λ c. search onMap)
     (λ c. search onMap)
-    (λ c. search onMap))
+    (λ c. search onMap)
+    in tie.close closed

@@ -10,9 +10,8 @@ abbrev μ-loop : tie.MeasureT-loop
 μ-loop text at places₀ n₀ kid₀ t7 places n kid = ahead text kid
 
 pub put-names-spec : {M : Type 1} → statement M
-put-names-spec =
-    tie.close
-    (tie.spec
+put-names-spec {M = M} =
+    let closed = tie.spec {M = M}
     Inv-loop
     μ-loop
     (λ c κs. search filling)
@@ -29,4 +28,5 @@ put-names-spec =
     (λ c. search filling)
     (λ c. search filling)
     (λ c. search filling)
-    (λ c. search filling))
+    (λ c. search filling)
+    in tie.close closed

@@ -3,13 +3,13 @@ use Rattle.array_keys.proofs.keys_start.Statement.{statement}
 use Rattle.array_keys.proofs.keys_start.Tie as tie
 
 pub keys-start-spec : {M : Type 1} → statement M
-keys-start-spec =
-    tie.close
-    (tie.spec
+keys-start-spec {M = M} =
+    let closed = tie.spec {M = M}
     (λ c κs. search starting)
     (λ c. search starting)
     (λ c κs. search starting)
     (λ c. search starting)
     (λ c κs. search starting)
     (λ c. search starting)
-    (λ c. search starting))
+    (λ c. search starting)
+    in tie.close closed

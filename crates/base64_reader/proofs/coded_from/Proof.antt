@@ -13,9 +13,8 @@ abbrev μ-loop : tie.MeasureT-loop
 μ-loop text at values i₀ i = left text i
 
 pub coded-from-spec : {M : Type 1} → statement M
-coded-from-spec =
-    tie.close
-    (tie.spec
+coded-from-spec {M = M} =
+    let closed = tie.spec {M = M}
     Inv-loop
     μ-loop
     (λ c κs. search coding)
@@ -37,4 +36,5 @@ coded-from-spec =
     (λ c. search coding)
     (λ c. search coding)
     (λ c. search coding)
-    (λ c. search coding))
+    (λ c. search coding)
+    in tie.close closed

@@ -4,9 +4,8 @@ use Rattle.change_text.proofs.spell.Statement.{statement}
 use Rattle.change_text.proofs.spell.Tie as tie
 
 pub spell-spec : {M : Type 1} → statement M
-spell-spec =
-    tie.close
-    (tie.spec
+spell-spec {M = M} =
+    let closed = tie.spec {M = M}
     (λ c. search needs)
     (λ c. search needs)
     (λ c. search needs)
@@ -23,4 +22,5 @@ spell-spec =
     (λ c. search needs)
     (λ c. search changeSteps)
     (λ c. search needs)
-    (λ c. search changeSteps))
+    (λ c. search changeSteps)
+    in tie.close closed

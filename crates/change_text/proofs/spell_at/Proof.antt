@@ -4,9 +4,8 @@ use Rattle.change_text.proofs.spell_at.Statement.{statement}
 use Rattle.change_text.proofs.spell_at.Tie as tie
 
 pub spell-at-spec : {M : Type 1} → statement M
-spell-at-spec =
-    tie.close
-    (tie.spec
+spell-at-spec {M = M} =
+    let closed = tie.spec {M = M}
     (λ c κs. search needs)
     (λ c. search needs)
     (λ c. search needs)
@@ -19,4 +18,5 @@ spell-at-spec =
     (λ c. search needs)
     (λ c κs. search needs)
     (λ c. search needs)
-    (λ c. search atSteps))
+    (λ c. search atSteps)
+    in tie.close closed

@@ -30,9 +30,8 @@ returns-6 c = says-second _ _ _ (c .before .before .before .before .if1 .left) (
     (c .before .stands2 .ensures) (c .if5 .left)
 
 pub change-at-spec : {M : Type 1} → statement M
-change-at-spec =
-    tie.close
-    (tie.spec
+change-at-spec {M = M} =
+    let closed = tie.spec {M = M}
     (λ c. search needs)
     (λ c. search needs)
     (λ c κs. search needs)
@@ -48,4 +47,5 @@ change-at-spec =
     (λ c. search needs)
     (λ c κs. search needs)
     returns-5
-    returns-6)
+    returns-6
+    in tie.close closed

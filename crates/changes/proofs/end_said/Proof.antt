@@ -85,9 +85,8 @@ returns-2 c = end-seven _ _ _ (c .before .before .before .before .before .before
 )) refl (c .if1 .left)
 
 pub end-said-spec : {M : Type 1} → statement M
-end-said-spec =
-    tie.close
-    (tie.spec
+end-said-spec {M = M} =
+    let closed = tie.spec {M = M}
     shared-slice-read-wide
     (λ c κs. search needs)
     mul-n
@@ -104,4 +103,5 @@ end-said-spec =
     mul-result-2
     add-result-2
     returns
-    returns-2)
+    returns-2
+    in tie.close closed

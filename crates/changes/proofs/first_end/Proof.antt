@@ -15,10 +15,10 @@ returns-3 : tie.Need-returns-3
 returns-3 c = (end-there _ _ (omega arith) (c .before .end-said .ensures) (c .if2 .left), omega arith)
 
 pub first-end-spec : {M : Type 1} → statement M
-first-end-spec =
-    tie.close
-    (tie.spec
+first-end-spec {M = M} =
+    let closed = tie.spec {M = M}
     returns
     (λ c κs. omega arith)
     returns-2
-    returns-3)
+    returns-3
+    in tie.close closed

@@ -3,12 +3,12 @@ use Rattle.key_lists.proofs.are_keys.Statement.{statement}
 use Rattle.key_lists.proofs.are_keys.Tie as tie
 
 pub are-keys-spec : {M : Type 1} → statement M
-are-keys-spec =
-    tie.close
-    (tie.spec
+are-keys-spec {M = M} =
+    let closed = tie.spec {M = M}
     (λ c κs. search key-texts)
     (λ c. search key-texts)
     (λ c κs. search key-texts)
     (λ c. search key-texts)
     (λ c. search key-texts)
-    (λ c. search key-texts))
+    (λ c. search key-texts)
+    in tie.close closed

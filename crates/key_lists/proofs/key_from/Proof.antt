@@ -3,9 +3,8 @@ use Rattle.key_lists.proofs.key_from.Statement.{statement}
 use Rattle.key_lists.proofs.key_from.Tie as tie
 
 pub key-from-spec : {M : Type 1} → statement M
-key-from-spec =
-    tie.close
-    (tie.spec
+key-from-spec {M = M} =
+    let closed = tie.spec {M = M}
     (λ c κs. search key-digits)
     (λ c. search key-digits)
     (λ c κs. search key-digits)
@@ -14,4 +13,5 @@ key-from-spec =
     (λ c. search key-digits)
     (λ c κs. search key-digits)
     (λ c. search key-digits)
-    (λ c. search key-digits))
+    (λ c. search key-digits)
+    in tie.close closed

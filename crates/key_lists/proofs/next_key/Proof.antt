@@ -3,12 +3,12 @@ use Rattle.key_lists.proofs.next_key.Statement.{statement}
 use Rattle.key_lists.proofs.next_key.Tie as tie
 
 pub next-key-spec : {M : Type 1} → statement M
-next-key-spec =
-    tie.close
-    (tie.spec
+next-key-spec {M = M} =
+    let closed = tie.spec {M = M}
     (λ c κs. search key-quick)
     (λ c κs. search key-quick)
     (λ c. search key-quick)
     (λ c. search key-quick)
     (λ c. search key-quick)
-    (λ c. search key-quick))
+    (λ c. search key-quick)
+    in tie.close closed

@@ -11,9 +11,8 @@ abbrev μ-loop : tie.MeasureT-loop
 μ-loop text encoding values keys₀ n₀ here₀ keys n here = keysLeft text here
 
 pub fill-from-spec : {M : Type 1} → statement M
-fill-from-spec =
-    tie.close
-    (tie.spec
+fill-from-spec {M = M} =
+    let closed = tie.spec {M = M}
     Inv-loop
     μ-loop
     (λ c. search filling)
@@ -29,4 +28,5 @@ fill-from-spec =
     (λ c. search filling)
     (λ c. search filling)
     (λ c. search filling)
-    (λ c. search filling))
+    (λ c. search filling)
+    in tie.close closed

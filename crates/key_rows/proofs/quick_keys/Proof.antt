@@ -14,9 +14,8 @@ abbrev μ-loop : tie.MeasureT-loop
 μ-loop text from values little first keys₀ at₀ n₀ keys at n = left text at
 
 pub quick-keys-spec : {M : Type 1} → statement M
-quick-keys-spec =
-    tie.close
-    (tie.spec
+quick-keys-spec {M = M} =
+    let closed = tie.spec {M = M}
     Inv-loop
     μ-loop
     (λ c. search quickening)
@@ -37,4 +36,5 @@ quick-keys-spec =
     (λ c. search quickening)
     (λ c κs. search quickening)
     (λ c. search quickening)
-    (λ c. search quickening))
+    (λ c. search quickening)
+    in tie.close closed

@@ -18,9 +18,8 @@ aggregate c =
     sym (length-take-le (turn .result .n) (turn .last .1 .1 .0) (turn .ensures .inside))
 
 pub search-in-spec : {M : Type 1} → statement M
-search-in-spec =
-    tie.close
-    (tie.spec
+search-in-spec {M = M} =
+    let closed = tie.spec {M = M}
     Inv-loop
     μ-loop
     (λ c κs. search searching)
@@ -36,4 +35,5 @@ search-in-spec =
     (λ c. search searching)
     (λ c. search searching)
     (λ c. search searching)
-    (λ c. search searching))
+    (λ c. search searching)
+    in tie.close closed

@@ -12,9 +12,8 @@ abbrev μ-loop : tie.MeasureT-loop
 μ-loop text values at₀ held₀ bytes₀ at held bytes = left text at
 
 pub gathered-spec : {M : Type 1} → statement M
-gathered-spec =
-    tie.close
-    (tie.spec
+gathered-spec {M = M} =
+    let closed = tie.spec {M = M}
     Inv-loop
     μ-loop
     (λ c κs. search gathering)
@@ -39,4 +38,5 @@ gathered-spec =
     (λ c κs. search gathering)
     (λ c. search gathering)
     (λ c κs. search gathering)
-    (λ c. search gathering))
+    (λ c. search gathering)
+    in tie.close closed

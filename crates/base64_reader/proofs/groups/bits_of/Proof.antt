@@ -3,9 +3,8 @@ use Rattle.base64_reader.proofs.groups.bits_of.Statement.{statement}
 use Rattle.base64_reader.proofs.groups.bits_of.Tie as tie
 
 pub bits-of-spec : {M : Type 1} → statement M
-bits-of-spec =
-    tie.close
-    (tie.spec
+bits-of-spec {M = M} =
+    let closed = tie.spec {M = M}
     (λ c. search bits)
     (λ c. search bits)
     (λ c. search bits)
@@ -13,4 +12,5 @@ bits-of-spec =
     (λ c. search bits)
     (λ c. search bits)
     (λ c. search bits)
-    (λ c. search bits))
+    (λ c. search bits)
+    in tie.close closed

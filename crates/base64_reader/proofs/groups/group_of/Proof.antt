@@ -3,9 +3,8 @@ use Rattle.base64_reader.proofs.groups.group_of.Statement.{statement}
 use Rattle.base64_reader.proofs.groups.group_of.Tie as tie
 
 pub group-of-spec : {M : Type 1} → statement M
-group-of-spec =
-    tie.close
-    (tie.spec
+group-of-spec {M = M} =
+    let closed = tie.spec {M = M}
     (λ c κs. search fours)
     (λ c. search fours)
     (λ c. search fours)
@@ -14,4 +13,5 @@ group-of-spec =
     (λ c. search fours)
     (λ c κs. search fours)
     (λ c. search fours)
-    (λ c. search fours))
+    (λ c. search fours)
+    in tie.close closed

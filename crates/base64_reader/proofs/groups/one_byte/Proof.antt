@@ -3,4 +3,7 @@ use Rattle.base64_reader.proofs.groups.one_byte.Statement.{statement}
 use Rattle.base64_reader.proofs.groups.one_byte.Tie as tie
 
 pub one-byte-spec : {M : Type 1} → statement M
-one-byte-spec = tie.close (tie.spec (λ c. search spare) (λ c. search spare))
+one-byte-spec {M = M} =
+    let closed = tie.spec {M = M}
+    (λ c. search spare) (λ c. search spare)
+    in tie.close closed

@@ -5,9 +5,8 @@ use Rattle.card_text.proofs.write.write_line.Statement.{statement}
 use Rattle.card_text.proofs.write.write_line.Tie as tie
 
 pub write-line-spec : {M : Type 1} → statement M
-write-line-spec =
-    tie.close
-    (tie.spec
+write-line-spec {M = M} =
+    let closed = tie.spec {M = M}
     (λ c. search needs)
     (λ c κs. search needs)
     (λ c. (
@@ -23,4 +22,5 @@ write-line-spec =
           (c .before .before .copy .ensures .1),
       write-counts (c .before .before .before .before .before .before .before .spell .ensures) _ (omega arith)
           (c .before .before .copy .ensures .1),
-    )))
+    ))
+    in tie.close closed

@@ -66,9 +66,8 @@ returns-3 c = record {
 }
 
 pub tail-place-spec : {M : Type 1} → statement M
-tail-place-spec =
-    tie.close
-    (tie.spec
+tail-place-spec {M = M} =
+    let closed = tie.spec {M = M}
     (λ c κs. search needs)
     (λ c κs. search needs)
     same-length
@@ -82,4 +81,5 @@ tail-place-spec =
     record-start-requires-2
     (λ c. omega (arith, c .record-start2 .ensures .1))
     same-length-3
-    returns-3)
+    returns-3
+    in tie.close closed

@@ -64,9 +64,8 @@ returns-2 c = compared-is (c .before .before .before .before .before .before .be
     (c .same-in .ensures)
 
 pub counted-spec : {M : Type 1} → statement M
-counted-spec =
-    tie.close
-    (tie.spec
+counted-spec {M = M} =
+    let closed = tie.spec {M = M}
     count-in-requires
     count-in-requires-2
     both-in-requires
@@ -78,4 +77,5 @@ counted-spec =
     sub-t14
     sub-t15
     (λ c. search needs)
-    returns-2)
+    returns-2
+    in tie.close closed

@@ -14,12 +14,12 @@ returns-2 c = second-refused _ _ (c .before .before .before .before .before .bef
     (c .before .before .sheet-refusal2 .ensures)
 
 pub sheets-refusal-spec : {M : Type 1} → statement M
-sheets-refusal-spec =
-    tie.close
-    (tie.spec
+sheets-refusal-spec {M = M} =
+    let closed = tie.spec {M = M}
     (λ c κs. search needs)
     (λ c. search needs)
     returns
     (λ c κs. search needs)
     (λ c. search needs)
-    returns-2)
+    returns-2
+    in tie.close closed

@@ -3,9 +3,8 @@ use Rattle.contents.proofs.texts.letter_at.Statement.{statement}
 use Rattle.contents.proofs.texts.letter_at.Tie as tie
 
 pub letter-at-spec : {M : Type 1} → statement M
-letter-at-spec =
-    tie.close
-    (tie.spec
+letter-at-spec {M = M} =
+    let closed = tie.spec {M = M}
     (λ c. search lettering)
     (λ c. search lettering)
     (λ c κs. search lettering)
@@ -18,4 +17,5 @@ letter-at-spec =
     (λ c κs. search lettering)
     (λ c. search lettering)
     (λ c. search lettering)
-    (λ c. search lettering))
+    (λ c. search lettering)
+    in tie.close closed

@@ -8,9 +8,8 @@ add-t21 : tie.Need-add-t21
 add-t21 c = omega (arith, ends-inside _ _ (c .feed-end .ensures) refl)
 
 pub within-at-spec : {M : Type 1} → statement M
-within-at-spec =
-    tie.close
-    (tie.spec
+within-at-spec {M = M} =
+    let closed = tie.spec {M = M}
     (λ c. search within-data)
     (λ c. search within-data)
     (λ c. search within-data)
@@ -30,4 +29,5 @@ within-at-spec =
     (λ c. search within-data)
     (λ c. search within-data)
     (λ c. search within-data)
-    (λ c. search within-data))
+    (λ c. search within-data)
+    in tie.close closed

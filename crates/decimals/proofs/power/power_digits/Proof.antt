@@ -3,9 +3,8 @@ use Rattle.decimals.proofs.power.power_digits.Statement.{statement}
 use Rattle.decimals.proofs.power.power_digits.Tie as tie
 
 pub power-digits-spec : {M : Type 1} → statement M
-power-digits-spec =
-    tie.close
-    (tie.spec
+power-digits-spec {M = M} =
+    let closed = tie.spec {M = M}
     (λ c κs. search raising)
     (λ c. search raising)
     (λ c κs. search raising)
@@ -14,4 +13,5 @@ power-digits-spec =
     (λ c. search raising)
     (λ c. search raising)
     (λ c. search raising)
-    (λ c. search raising))
+    (λ c. search raising)
+    in tie.close closed

@@ -3,7 +3,8 @@ use Rattle.decimals.proofs.power.sign_at.Statement.{statement}
 use Rattle.decimals.proofs.power.sign_at.Tie as tie
 
 pub sign-at-spec : {M : Type 1} → statement M
-sign-at-spec =
-    tie.close
-    (tie.spec (λ c κs. search signs-of) (λ c. search signs-of) (λ c. search signs-of) (λ c. search signs-of) (λ c. search signs-of)
-    (λ c. search signs-of) (λ c. search signs-of))
+sign-at-spec {M = M} =
+    let closed = tie.spec {M = M}
+    (λ c κs. search signs-of) (λ c. search signs-of) (λ c. search signs-of) (λ c. search signs-of) (λ c. search signs-of)
+    (λ c. search signs-of) (λ c. search signs-of)
+    in tie.close closed

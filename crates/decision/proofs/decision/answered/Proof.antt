@@ -7,9 +7,8 @@ use Rattle.decision.proofs.decision.answered.Statement.{statement}
 use Rattle.decision.proofs.decision.answered.Tie as tie
 
 pub answered-spec : {M : Type 1} → statement M
-answered-spec =
-    tie.close
-    (tie.spec
+answered-spec {M = M} =
+    let closed = tie.spec {M = M}
     (λ c. search needs)
     (λ c. search needs)
     (λ c. search needs)
@@ -25,4 +24,5 @@ answered-spec =
     (λ c κs. search needs)
     (λ c. search needs)
     (λ c. search needs)
-    (λ c. search chooseSteps))
+    (λ c. search chooseSteps)
+    in tie.close closed

@@ -4,9 +4,8 @@ use Rattle.decision.proofs.decision.decide.Statement.{statement}
 use Rattle.decision.proofs.decision.decide.Tie as tie
 
 pub decide-spec : {M : Type 1} → statement M
-decide-spec =
-    tie.close
-    (tie.spec
+decide-spec {M = M} =
+    let closed = tie.spec {M = M}
     (λ c κs. search needs)
     (λ c. search needs)
     (λ c. search needs)
@@ -24,4 +23,5 @@ decide-spec =
     (λ c. search needs)
     (λ c. search decideSteps)
     (λ c. search needs)
-    (λ c. search decideSteps))
+    (λ c. search decideSteps)
+    in tie.close closed

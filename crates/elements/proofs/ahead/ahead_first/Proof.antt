@@ -3,9 +3,8 @@ use Rattle.elements.proofs.ahead.ahead_first.Statement.{statement}
 use Rattle.elements.proofs.ahead.ahead_first.Tie as tie
 
 pub ahead-first-spec : {M : Type 1} → statement M
-ahead-first-spec =
-    tie.close
-    (tie.spec
+ahead-first-spec {M = M} =
+    let closed = tie.spec {M = M}
     (λ c κs. search starts-ahead)
     (λ c. search starts-ahead)
     (λ c κs. search starts-ahead)
@@ -13,4 +12,5 @@ ahead-first-spec =
     (λ c. search starts-ahead)
     (λ c. search starts-ahead)
     (λ c. search starts-ahead)
-    (λ c. search starts-ahead))
+    (λ c. search starts-ahead)
+    in tie.close closed

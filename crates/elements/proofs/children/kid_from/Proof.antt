@@ -11,9 +11,8 @@ abbrev μ-loop : tie.MeasureT-loop
 μ-loop text at i₀ i = length text - i
 
 pub kid-from-spec : {M : Type 1} → statement M
-kid-from-spec =
-    tie.close
-    (tie.spec
+kid-from-spec {M = M} =
+    let closed = tie.spec {M = M}
     Inv-loop
     μ-loop
     (λ c. search going)
@@ -38,4 +37,5 @@ kid-from-spec =
     (λ c. search going)
     (λ c. search going)
     (λ c. search going)
-    (λ c. search going))
+    (λ c. search going)
+    in tie.close closed

@@ -12,9 +12,8 @@ abbrev μ-loop : tie.MeasureT-loop
 μ-loop text at depth₀ i₀ depth i = length text - i
 
 pub contents-end-spec : {M : Type 1} → statement M
-contents-end-spec =
-    tie.close
-    (tie.spec
+contents-end-spec {M = M} =
+    let closed = tie.spec {M = M}
     Inv-loop
     μ-loop
     (λ c. search scanning)
@@ -38,4 +37,5 @@ contents-end-spec =
     (λ c. search scanning)
     (λ c. search scanning)
     (λ c. search scanning)
-    (λ c. search scanning))
+    (λ c. search scanning)
+    in tie.close closed

@@ -12,9 +12,8 @@ abbrev μ-loop : tie.MeasureT-loop
 μ-loop text at i₀ i = length text - i
 
 pub tag-end-spec : {M : Type 1} → statement M
-tag-end-spec =
-    tie.close
-    (tie.spec
+tag-end-spec {M = M} =
+    let closed = tie.spec {M = M}
     Inv-loop
     μ-loop
     (λ c. search tag-turns)
@@ -31,4 +30,5 @@ tag-end-spec =
     (λ c. search tag-turns)
     (λ c. search tag-turns)
     (λ c. search tag-turns)
-    (λ c. search tag-turns))
+    (λ c. search tag-turns)
+    in tie.close closed

@@ -5,9 +5,8 @@ use Rattle.elements.proofs.scan.to_quote.Statement.{statement}
 use Rattle.elements.proofs.scan.to_quote.Tie as tie
 
 pub to-quote-spec : {M : Type 1} → statement M
-to-quote-spec =
-    tie.close
-    (tie.spec
+to-quote-spec {M = M} =
+    let closed = tie.spec {M = M}
     (λ c κs. search near-then-far)
     (λ c κs. search near-then-far)
     (λ c. search near-then-far)
@@ -16,4 +15,5 @@ to-quote-spec =
     (λ c. search near-then-far)
     (λ c. search near-then-far)
     (λ c κs. search near-then-far)
-    (λ c. search near-then-far))
+    (λ c. search near-then-far)
+    in tie.close closed

@@ -25,9 +25,8 @@ returns c =
     (c .complement5 .ensures ∙ ap complement m)
 
 pub dimension-numbers-spec : {M : Type 1} → statement M
-dimension-numbers-spec =
-    tie.close
-    (tie.spec
+dimension-numbers-spec {M = M} =
+    let closed = tie.spec {M = M}
     (λ c κs. search needs)
     (λ c. search needs)
     (λ c. search needs)
@@ -43,4 +42,5 @@ dimension-numbers-spec =
     (λ c κs. search needs)
     (λ c. search needs)
     (λ c. search needs)
-    returns)
+    returns
+    in tie.close closed

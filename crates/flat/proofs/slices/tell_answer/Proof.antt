@@ -23,9 +23,8 @@ returns-2 c =
     (c .before .before .put4 .ensures)
 
 pub tell-answer-spec : {M : Type 1} → statement M
-tell-answer-spec =
-    tie.close
-    (tie.spec
+tell-answer-spec {M = M} =
+    let closed = tie.spec {M = M}
     (λ c. told-short (answerNumbers (c .before .before .args .answer)) (c .before .before .args .slice .now) (omega arith))
     (λ c. search needs)
     (λ c. search needs)
@@ -43,4 +42,5 @@ tell-answer-spec =
     (λ c. search needs)
     (λ c κs. search needs)
     (λ c. search needs)
-    returns-2)
+    returns-2
+    in tie.close closed

@@ -8,7 +8,9 @@ use Rattle.flat.proofs.slices.tell_two.Statement.{statement}
 use Rattle.flat.proofs.slices.tell_two.Tie as tie
 
 pub tell-two-spec : {M : Type 1} → statement M
-tell-two-spec =
-    tie.close (tie.spec (λ c. told-short _ (c .before .args .slice .now) (omega arith)) (λ c. search needs) (λ c. search needs)
+tell-two-spec {M = M} =
+    let closed = tie.spec {M = M}
+    (λ c. told-short _ (c .before .args .slice .now) (omega arith)) (λ c. search needs) (λ c. search needs)
     (λ c. search needs) (λ c. sets-eq (c .before .args .first ∷ c .before .args .second ∷ []) (c .before .args .slice .now) 0
-    (omega arith) ∙ told-all _ (c .before .args .slice .now) (omega arith)))
+    (omega arith) ∙ told-all _ (c .before .args .slice .now) (omega arith))
+    in tie.close closed

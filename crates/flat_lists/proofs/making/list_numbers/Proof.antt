@@ -7,7 +7,7 @@ use Rattle.flat_lists.proofs.making.list_numbers.Tie as tie
 use Rattle.flat_lists.proofs.making.list_numbers.Reads as reads
 use Rattle.flat_lists.proofs.making.list_numbers.Lts as lts
 use Rattle.flat_lists.proofs.making.put_models.Reads as put-models-reads
-use Rattle.runs.proofs.made_of.Reads as made-of-reads
+use Rattle.shortlisting.proofs.made_of.Reads as made-of-reads
 
 -- src/making.rt:55:9
 made-of-requires : tie.Need-made-of-requires

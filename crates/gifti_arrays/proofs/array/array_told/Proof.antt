@@ -4,9 +4,9 @@ use Rattle.gifti_arrays.proofs.array.array_told.Statement.{statement}
 use Rattle.gifti_arrays.proofs.array.array_told.Tie as tie
 
 pub array-told-spec : {M : Type 1} → statement M
-array-told-spec =
-    tie.close
-    (tie.spec
+array-told-spec {M = M} =
+    let closed = tie.spec {M = M}
     (λ c κs. search needs)
     (λ c κs. search needs)
-    (λ c. search (array-so, needs)))
+    (λ c. search (array-so, needs))
+    in tie.close closed

@@ -12,9 +12,8 @@ abbrev μ-loop : tie.MeasureT-loop
 μ-loop text root codes arrays₀ fit₀ keys₀ known₀ kid₀ t11 arrays fit keys known kid = left text kid
 
 pub arrays-told-spec : {M : Type 1} → statement M
-arrays-told-spec =
-    tie.close
-    (tie.spec
+arrays-told-spec {M = M} =
+    let closed = tie.spec {M = M}
     Inv-loop
     μ-loop
     (λ c κs. search walking)
@@ -32,4 +31,5 @@ arrays-told-spec =
     (λ c. search walking)
     (λ c. search walking)
     (λ c. search walking)
-    (λ c. search walking))
+    (λ c. search walking)
+    in tie.close closed

@@ -3,9 +3,8 @@ use Rattle.gifti_opening.proofs.arrays.encoding_read.Statement.{stateme
 use Rattle.gifti_opening.proofs.arrays.encoding_read.Tie as tie
 
 pub encoding-read-spec : {M : Type 1} → statement M
-encoding-read-spec =
-    tie.close
-    (tie.spec
+encoding-read-spec {M = M} =
+    let closed = tie.spec {M = M}
     (λ c. search reading)
     (λ c. search reading)
     (λ c κs. search reading)
@@ -13,4 +12,5 @@ encoding-read-spec =
     (λ c. search reading)
     (λ c. search reading)
     (λ c κs. search reading)
-    (λ c. search reading))
+    (λ c. search reading)
+    in tie.close closed

@@ -43,9 +43,8 @@ returns-5 c =
     (not-false _ (c .before .before .if3 .left)) (c .if4 .left)
 
 pub number-once-spec : {M : Type 1} → statement M
-number-once-spec =
-    tie.close
-    (tie.spec
+number-once-spec {M = M} =
+    let closed = tie.spec {M = M}
     (λ c κs. search (table-here, needs))
     (λ c. search needs)
     (λ c κs. search needs)
@@ -53,4 +52,5 @@ number-once-spec =
     returns-2
     returns-3
     returns-4
-    returns-5)
+    returns-5
+    in tie.close closed

@@ -11,9 +11,8 @@ abbrev μ-loop : tie.MeasureT-loop
 μ-loop text at word i₀ i = length text - i
 
 pub place-from-spec : {M : Type 1} → statement M
-place-from-spec =
-    tie.close
-    (tie.spec
+place-from-spec {M = M} =
+    let closed = tie.spec {M = M}
     Inv-loop
     μ-loop
     (λ c. search placing)
@@ -33,4 +32,5 @@ place-from-spec =
     (λ c. search placing)
     (λ c. search placing)
     (λ c. search placing)
-    (λ c. search placing))
+    (λ c. search placing)
+    in tie.close closed

@@ -11,9 +11,8 @@ abbrev μ-loop : tie.MeasureT-loop
 μ-loop text v front q met₀ i₀ met i = length front - met
 
 pub begins-spec : {M : Type 1} → statement M
-begins-spec =
-    tie.close
-    (tie.spec
+begins-spec {M = M} =
+    let closed = tie.spec {M = M}
     Inv-loop
     μ-loop
     (λ c κs. search fronting)
@@ -28,4 +27,5 @@ begins-spec =
     (λ c. search fronting)
     (λ c. search fronting)
     (λ c. search fronting)
-    (λ c. search fronting))
+    (λ c. search fronting)
+    in tie.close closed

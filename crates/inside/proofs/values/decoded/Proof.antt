@@ -3,9 +3,8 @@ use Rattle.inside.proofs.values.decoded.Statement.{statement}
 use Rattle.inside.proofs.values.decoded.Tie as tie
 
 pub decoded-spec : {M : Type 1} → statement M
-decoded-spec =
-    tie.close
-    (tie.spec
+decoded-spec {M = M} =
+    let closed = tie.spec {M = M}
     (λ c. search decoding)
     (λ c. search decoding)
     (λ c. search decoding)
@@ -24,4 +23,5 @@ decoded-spec =
     (λ c. search decoding)
     (λ c. search decoding)
     (λ c. search decoding)
-    (λ c. search decoding))
+    (λ c. search decoding)
+    in tie.close closed

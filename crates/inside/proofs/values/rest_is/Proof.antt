@@ -11,9 +11,8 @@ abbrev μ-loop : tie.MeasureT-loop
 μ-loop text at quote word k₀ i₀ k i = length text - i
 
 pub rest-is-spec : {M : Type 1} → statement M
-rest-is-spec =
-    tie.close
-    (tie.spec
+rest-is-spec {M = M} =
+    let closed = tie.spec {M = M}
     Inv-loop
     μ-loop
     (λ c. search wording)
@@ -27,4 +26,5 @@ rest-is-spec =
     (λ c. search wording)
     (λ c. search wording)
     (λ c. search wording)
-    (λ c. search wording))
+    (λ c. search wording)
+    in tie.close closed

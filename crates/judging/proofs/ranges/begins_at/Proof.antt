@@ -10,9 +10,8 @@ abbrev μ-loop : tie.MeasureT-loop
 μ-loop index models i₀ i = models .count - i
 
 pub begins-at-spec : {M : Type 1} → statement M
-begins-at-spec =
-    tie.close
-    (tie.spec
+begins-at-spec {M = M} =
+    let closed = tie.spec {M = M}
     Inv-loop
     μ-loop
     (λ c. search beginning)
@@ -22,4 +21,5 @@ begins-at-spec =
     (λ c. search beginning)
     (λ c. search beginning)
     (λ c. search beginning)
-    (λ c. search beginning))
+    (λ c. search beginning)
+    in tie.close closed

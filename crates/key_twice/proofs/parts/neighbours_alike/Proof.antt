@@ -12,9 +12,8 @@ abbrev μ-loop : tie.MeasureT-loop
 μ-loop keys last₀ i₀ last i = length keys - i
 
 pub neighbours-alike-spec : {M : Type 1} → statement M
-neighbours-alike-spec =
-    tie.close
-    (tie.spec
+neighbours-alike-spec {M = M} =
+    let closed = tie.spec {M = M}
     Inv-loop
     μ-loop
     (λ c. search looking)
@@ -26,4 +25,5 @@ neighbours-alike-spec =
     (λ c. search looking)
     (λ c. omega arith)
     (λ c. search looking)
-    (λ c. search looking))
+    (λ c. search looking)
+    in tie.close closed

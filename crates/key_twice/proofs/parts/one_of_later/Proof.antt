@@ -11,9 +11,8 @@ abbrev μ-loop : tie.MeasureT-loop
 μ-loop text keys kid₀ kid = length (row text kid)
 
 pub one-of-later-spec : {M : Type 1} → statement M
-one-of-later-spec =
-    tie.close
-    (tie.spec
+one-of-later-spec {M = M} =
+    let closed = tie.spec {M = M}
     Inv-loop
     μ-loop
     (λ c. search meeting)
@@ -25,4 +24,5 @@ one-of-later-spec =
     (λ c. search meeting)
     (λ c. search meeting)
     (λ c. search meeting)
-    (λ c. search meeting))
+    (λ c. search meeting)
+    in tie.close closed

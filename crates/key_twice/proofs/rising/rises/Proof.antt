@@ -11,9 +11,8 @@ abbrev μ-loop : tie.MeasureT-loop
 μ-loop text at least₀ kid₀ least kid = length (row text kid)
 
 pub rises-spec : {M : Type 1} → statement M
-rises-spec =
-    tie.close
-    (tie.spec
+rises-spec {M = M} =
+    let closed = tie.spec {M = M}
     Inv-loop
     μ-loop
     (λ c κs. search rising)
@@ -26,4 +25,5 @@ rises-spec =
     (λ c. search rising)
     (λ c. search rising)
     (λ c. search rising)
-    (λ c. search rising))
+    (λ c. search rising)
+    in tie.close closed

@@ -29,9 +29,8 @@ returns-4 c =
     (c .enum-told .given .1) (c .before .before .before .if2 .left)
 
 pub shade-above-spec : {M : Type 1} → statement M
-shade-above-spec =
-    tie.close
-    (tie.spec
+shade-above-spec {M = M} =
+    let closed = tie.spec {M = M}
     returns
     returns-2
     (λ c κs. search needs)
@@ -39,4 +38,5 @@ shade-above-spec =
     ten-to-requires
     (λ c. search needs)
     returns-3
-    returns-4)
+    returns-4
+    in tie.close closed

@@ -11,9 +11,8 @@ abbrev μ-loop : tie.MeasureT-loop
 μ-loop keys codes words known₀ last₀ i₀ known last i = length keys - i
 
 pub known-sifted-spec : {M : Type 1} → statement M
-known-sifted-spec =
-    tie.close
-    (tie.spec
+known-sifted-spec {M = M} =
+    let closed = tie.spec {M = M}
     Inv-loop
     μ-loop
     (λ c. search counting)
@@ -30,4 +29,5 @@ known-sifted-spec =
     (λ c. search counting)
     (λ c. search counting)
     (λ c. search counting)
-    (λ c. search counting))
+    (λ c. search counting)
+    in tie.close closed

@@ -11,9 +11,8 @@ abbrev μ-loop : tie.MeasureT-loop
 μ-loop keys code low₀ n₀ low n = n
 
 pub nearest-spec : {M : Type 1} → statement M
-nearest-spec =
-    tie.close
-    (tie.spec
+nearest-spec {M = M} =
+    let closed = tie.spec {M = M}
     Inv-loop
     μ-loop
     (λ c. search halving)
@@ -26,4 +25,5 @@ nearest-spec =
     (λ c. search halving)
     (λ c. omega arith)
     (λ c. search halving)
-    (λ c. search halving))
+    (λ c. search halving)
+    in tie.close closed

@@ -11,9 +11,8 @@ abbrev μ-loop : tie.MeasureT-loop
 μ-loop text work₀ n₀ kid₀ work n kid = length (row text kid)
 
 pub gather-spec : {M : Type 1} → statement M
-gather-spec =
-    tie.close
-    (tie.spec
+gather-spec {M = M} =
+    let closed = tie.spec {M = M}
     Inv-loop
     μ-loop
     (λ c. search gathering)
@@ -29,4 +28,5 @@ gather-spec =
     (λ c. search gathering)
     (λ c. search gathering)
     (λ c. search gathering)
-    (λ c. search gathering))
+    (λ c. search gathering)
+    in tie.close closed

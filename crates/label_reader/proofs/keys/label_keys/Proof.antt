@@ -3,9 +3,8 @@ use Rattle.label_reader.proofs.keys.label_keys.Statement.{statement}
 use Rattle.label_reader.proofs.keys.label_keys.Tie as tie
 
 pub label-keys-spec : {M : Type 1} → statement M
-label-keys-spec =
-    tie.close
-    (tie.spec
+label-keys-spec {M = M} =
+    let closed = tie.spec {M = M}
     (λ c κs. search keying)
     (λ c. search keying)
     (λ c. search keying)
@@ -15,4 +14,5 @@ label-keys-spec =
     (λ c. search keying)
     (λ c. search keying)
     (λ c. search keying)
-    (λ c. search keying))
+    (λ c. search keying)
+    in tie.close closed

@@ -10,9 +10,8 @@ abbrev μ-loop : tie.MeasureT-loop
 μ-loop text at keys₀ n₀ kid₀ keys n kid = length (row text kid)
 
 pub fill-keys-spec : {M : Type 1} → statement M
-fill-keys-spec =
-    tie.close
-    (tie.spec
+fill-keys-spec {M = M} =
+    let closed = tie.spec {M = M}
     Inv-loop
     μ-loop
     (λ c κs. search writing)
@@ -29,4 +28,5 @@ fill-keys-spec =
     (λ c. search writing)
     (λ c. search writing)
     (λ c. search writing)
-    (λ c. search writing))
+    (λ c. search writing)
+    in tie.close closed

@@ -11,9 +11,8 @@ abbrev μ-loop : tie.MeasureT-loop
 μ-loop text at n₀ kid₀ n kid = length (row text kid)
 
 pub key-count-spec : {M : Type 1} → statement M
-key-count-spec =
-    tie.close
-    (tie.spec
+key-count-spec {M = M} =
+    let closed = tie.spec {M = M}
     Inv-loop
     μ-loop
     (λ c κs. search counting)
@@ -27,4 +26,5 @@ key-count-spec =
     (λ c. search counting)
     (λ c. search counting)
     (λ c. search counting)
-    (λ c. search counting))
+    (λ c. search counting)
+    in tie.close closed

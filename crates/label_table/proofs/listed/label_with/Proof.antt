@@ -10,9 +10,8 @@ abbrev μ-loop : tie.MeasureT-loop
 μ-loop text at key kid₀ kid = length (row text kid)
 
 pub label-with-spec : {M : Type 1} → statement M
-label-with-spec =
-    tie.close
-    (tie.spec
+label-with-spec {M = M} =
+    let closed = tie.spec {M = M}
     Inv-loop
     μ-loop
     (λ c κs. search finding)
@@ -24,4 +23,5 @@ label-with-spec =
     (λ c. search finding)
     (λ c. search finding)
     (λ c. search finding)
-    (λ c. search finding))
+    (λ c. search finding)
+    in tie.close closed

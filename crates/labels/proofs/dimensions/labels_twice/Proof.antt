@@ -13,9 +13,8 @@ abbrev μ-loop : tie.MeasureT-loop
 μ-loop text maps n₀ i₀ n i = maps .count - i
 
 pub labels-twice-spec : {M : Type 1} → statement M
-labels-twice-spec =
-    tie.close
-    (tie.spec
+labels-twice-spec {M = M} =
+    let closed = tie.spec {M = M}
     Inv-loop
     μ-loop
     (λ c. search tallying)
@@ -26,4 +25,5 @@ labels-twice-spec =
     (λ c. search tallying)
     (λ c. search tallying)
     (λ c. search tallying)
-    (λ c. search tallying))
+    (λ c. search tallying)
+    in tie.close closed

@@ -11,9 +11,8 @@ abbrev μ-loop : tie.MeasureT-loop
 μ-loop text note n₀ d₀ n d = 10 - d
 
 pub listed-spec : {M : Type 1} → statement M
-listed-spec =
-    tie.close
-    (tie.spec
+listed-spec {M = M} =
+    let closed = tie.spec {M = M}
     Inv-loop
     μ-loop
     (λ c. search adding)
@@ -24,4 +23,5 @@ listed-spec =
     (λ c. search adding)
     (λ c. search adding)
     (λ c. search adding)
-    (λ c. search adding))
+    (λ c. search adding)
+    in tie.close closed

@@ -3,11 +3,11 @@ use Rattle.letters.proofs.blanks.feed_end.Statement.{statement}
 use Rattle.letters.proofs.blanks.feed_end.Tie as tie
 
 pub feed-end-spec : {M : Type 1} → statement M
-feed-end-spec =
-    tie.close
-    (tie.spec
+feed-end-spec {M = M} =
+    let closed = tie.spec {M = M}
     (λ c. search feeding)
     (λ c. search feeding)
     (λ c. search feeding)
     (λ c. search feeding)
-    (λ c. search feeding))
+    (λ c. search feeding)
+    in tie.close closed

@@ -4,9 +4,8 @@ use Rattle.markup.proofs.tags.closing_end.Statement.{statement}
 use Rattle.markup.proofs.tags.closing_end.Tie as tie
 
 pub closing-end-spec : {M : Type 1} → statement M
-closing-end-spec =
-    tie.close
-    (tie.spec
+closing-end-spec {M = M} =
+    let closed = tie.spec {M = M}
     (λ c. search closing)
     (λ c. search closing)
     (λ c κs. search closing)
@@ -32,4 +31,5 @@ closing-end-spec =
     (λ c κs. search closing)
     (λ c. search closing)
     (λ c. search closing)
-    (λ c. search closing))
+    (λ c. search closing)
+    in tie.close closed

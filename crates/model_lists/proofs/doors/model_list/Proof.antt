@@ -56,10 +56,10 @@ use Rattle.shortlist.proofs.answer.Listed as S
 use Rattle.shortlist.proofs.answer.Listed.Laws as S′
 use Rattle.shortlist.proofs.state.Made as U
 use Rattle.shortlist.proofs.state.Made.Laws as U′
-use Rattle.runs.proofs.made_of as made-of
-use Rattle.runs.proofs.made_of.Symbol as made-of-def
-use Rattle.runs.proofs.made_of.Symbol.{name as #made-of}
-use Rattle.runs.proofs.made_of.Met as made-of-thm
+use Rattle.shortlisting.proofs.made_of as made-of
+use Rattle.shortlisting.proofs.made_of.Symbol as made-of-def
+use Rattle.shortlisting.proofs.made_of.Symbol.{name as #made-of}
+use Rattle.shortlisting.proofs.made_of.Met as made-of-thm
 use Rattle.model_lists.proofs.entries.fill as fill
 use Rattle.model_lists.proofs.entries.fill.Symbol as fill-def
 use Rattle.model_lists.proofs.entries.fill.Symbol.{name as #fill}
@@ -301,7 +301,7 @@ model-list-spec 𝓤 H 𝓜 𝓖 𝓡 =
     entered 𝓤 H (tripleOf 𝓤 H (𝓖 .A) model-list.signature (model-list.spec 𝓤 H (𝓖 .A) (𝓜 .mem) (𝓡 .run)))
     (tables 𝓤 H 𝓜 𝓡 code.env .C) (tables 𝓤 H 𝓜 𝓡 code.env .Λ) #model-list code.function (code.unfolded 𝓤 H 𝓜 𝓡)
     (model-list-meets 𝓤 H (𝓖 .A) (givenOf 𝓤 H 𝓜 𝓖) (𝓜 .mem) (𝓡 .run) (tablesOf 𝓤 H 𝓜 (tables 𝓤 H 𝓜 𝓡 code.env))
-    (cited 𝓤 H (Make 𝓤 H (𝓖 .A) (𝓜 .mem) (𝓡 .run)) 𝓜 𝓡 code.env #made-of made-of-def.routine code.calls-runs·made-of
+    (cited 𝓤 H (Make 𝓤 H (𝓖 .A) (𝓜 .mem) (𝓡 .run)) 𝓜 𝓡 code.env #made-of made-of-def.routine code.calls-shortlisting·made-of
     (made-of-thm.met 𝓤 H 𝓜 𝓖 𝓡))
     (cited 𝓤 H (Fill 𝓤 H (𝓖 .A) (𝓜 .mem) (𝓡 .run)) 𝓜 𝓡 code.env #fill fill-def.routine code.calls-model-lists·entries·fill (fill-thm.met
     𝓤 H 𝓜 𝓖 𝓡))

@@ -11,9 +11,8 @@ abbrev μ-loop : tie.MeasureT-loop
 μ-loop lengths i₀ i = length lengths - i
 
 pub lengths-wrong-spec : {M : Type 1} → statement M
-lengths-wrong-spec =
-    tie.close
-    (tie.spec
+lengths-wrong-spec {M = M} =
+    let closed = tie.spec {M = M}
     Inv-loop
     μ-loop
     (λ c. search measuring)
@@ -28,4 +27,5 @@ lengths-wrong-spec =
     (λ c. search measuring)
     (λ c. search measuring)
     (λ c. search measuring)
-    (λ c. search measuring))
+    (λ c. search measuring)
+    in tie.close closed

@@ -26,9 +26,8 @@ returns c = shared (c .before .before .before .before .before .before .before .s
     (c .before .before .before .count-matched .ensures)
 
 pub both-in-spec : {M : Type 1} → statement M
-both-in-spec =
-    tie.close
-    (tie.spec
+both-in-spec {M = M} =
+    let closed = tie.spec {M = M}
     (λ c κs. c .before .before .before .pre .beside)
     set-aside-requires
     (λ c. c .before .before .set-aside .ensures .inside)
@@ -36,4 +35,5 @@ both-in-spec =
     (λ c κs. search needs)
     add-result
     (λ c. search needs)
-    returns)
+    returns
+    in tie.close closed

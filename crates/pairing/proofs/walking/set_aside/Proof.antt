@@ -119,9 +119,8 @@ loop-again-3 c = going-two (c .before .before .before .before .before .before .l
     (c .before .enum-told3 .given .1) (c .second-at .ensures .0)
 
 pub set-aside-spec : {M : Type 1} → statement M
-set-aside-spec =
-    tie.close
-    (tie.spec
+set-aside-spec {M = M} =
+    let closed = tie.spec {M = M}
     Inv-loop
     μ-loop
     loop-holds
@@ -154,4 +153,5 @@ set-aside-spec =
     loop-less-3
     loop-again-3
     (λ c. c .before .before .loop .inv .long)
-    (λ c. going-end (c .before .before .loop .inv) (c .if1 .left)))
+    (λ c. going-end (c .before .before .loop .inv) (c .if1 .left))
+    in tie.close closed

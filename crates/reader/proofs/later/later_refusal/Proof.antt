@@ -3,9 +3,8 @@ use Rattle.reader.proofs.later.later_refusal.Statement.{statement}
 use Rattle.reader.proofs.later.later_refusal.Tie as tie
 
 pub later-refusal-spec : {M : Type 1} → statement M
-later-refusal-spec =
-    tie.close
-    (tie.spec
+later-refusal-spec {M = M} =
+    let closed = tie.spec {M = M}
     (λ c. search latering)
     (λ c κs. search latering)
     (λ c. search latering)
@@ -19,4 +18,5 @@ later-refusal-spec =
     (λ c. search latering)
     (λ c. search latering)
     (λ c. search latering)
-    (λ c. search latering))
+    (λ c. search latering)
+    in tie.close closed

@@ -3,10 +3,10 @@ use Rattle.reader.proofs.later.location_twice.Statement.{statement}
 use Rattle.reader.proofs.later.location_twice.Tie as tie
 
 pub location-twice-spec : {M : Type 1} → statement M
-location-twice-spec =
-    tie.close
-    (tie.spec
+location-twice-spec {M = M} =
+    let closed = tie.spec {M = M}
     (λ c. search twicing)
     (λ c κs. search twicing)
     (λ c. search twicing)
-    (λ c. search twicing))
+    (λ c. search twicing)
+    in tie.close closed

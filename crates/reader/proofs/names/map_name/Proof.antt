@@ -3,12 +3,12 @@ use Rattle.reader.proofs.names.map_name.Statement.{statement}
 use Rattle.reader.proofs.names.map_name.Tie as tie
 
 pub map-name-spec : {M : Type 1} → statement M
-map-name-spec =
-    tie.close
-    (tie.spec
+map-name-spec {M = M} =
+    let closed = tie.spec {M = M}
     (λ c κs. search naming-map)
     (λ c. search naming-map)
     (λ c. search naming-map)
     (λ c. search naming-map)
     (λ c. search naming-map)
-    (λ c. search naming-map))
+    (λ c. search naming-map)
+    in tie.close closed

@@ -3,9 +3,9 @@ use Rattle.reader.proofs.names.map_name_place.Statement.{statement}
 use Rattle.reader.proofs.names.map_name_place.Tie as tie
 
 pub map-name-place-spec : {M : Type 1} → statement M
-map-name-place-spec =
-    tie.close
-    (tie.spec
+map-name-place-spec {M = M} =
+    let closed = tie.spec {M = M}
     (λ c κs. search naming-map)
     (λ c κs. search naming-map)
-    (λ c. search naming-map))
+    (λ c. search naming-map)
+    in tie.close closed

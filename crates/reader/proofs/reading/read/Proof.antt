@@ -3,9 +3,8 @@ use Rattle.reader.proofs.reading.read.Statement.{statement}
 use Rattle.reader.proofs.reading.read.Tie as tie
 
 pub read-spec : {M : Type 1} → statement M
-read-spec =
-    tie.close
-    (tie.spec
+read-spec {M = M} =
+    let closed = tie.spec {M = M}
     (λ c κs. search reading)
     (λ c κs. search reading)
     (λ c κs. search reading)
@@ -25,4 +24,5 @@ read-spec =
     (λ c κs. search reading)
     (λ c. search reading)
     (λ c. search reading)
-    (λ c. search reading))
+    (λ c. search reading)
+    in tie.close closed

@@ -7,4 +7,7 @@ use Rattle.record_fields.proofs.record.i_of.Tie as tie
 
 pub i-of-spec : {M : Type 1} → statement M
 unfolding iIn bits parted
-i-of-spec = tie.close (tie.spec (λ c. omega arith))
+i-of-spec {M = M} =
+    let closed = tie.spec {M = M}
+    (λ c. omega arith)
+    in tie.close closed

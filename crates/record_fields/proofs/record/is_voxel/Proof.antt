@@ -7,4 +7,7 @@ use Rattle.record_fields.proofs.record.is_voxel.Tie as tie
 
 pub is-voxel-spec : {M : Type 1} → statement M
 unfolding isVoxelIn bits parted
-is-voxel-spec = tie.close (tie.spec (λ c. refl))
+is-voxel-spec {M = M} =
+    let closed = tie.spec {M = M}
+    (λ c. refl)
+    in tie.close closed

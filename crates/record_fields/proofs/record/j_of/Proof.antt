@@ -7,4 +7,7 @@ use Rattle.record_fields.proofs.record.j_of.Tie as tie
 
 pub j-of-spec : {M : Type 1} → statement M
 unfolding jIn bits parted
-j-of-spec = tie.close (tie.spec (λ c. omega arith))
+j-of-spec {M = M} =
+    let closed = tie.spec {M = M}
+    (λ c. omega arith)
+    in tie.close closed

@@ -7,4 +7,7 @@ use Rattle.record_fields.proofs.record.k_of.Tie as tie
 
 pub k-of-spec : {M : Type 1} → statement M
 unfolding kIn bits parted
-k-of-spec = tie.close (tie.spec (λ c. omega arith))
+k-of-spec {M = M} =
+    let closed = tie.spec {M = M}
+    (λ c. omega arith)
+    in tie.close closed

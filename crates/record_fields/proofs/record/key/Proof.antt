@@ -28,4 +28,7 @@ returns-2 : tie.Need-returns-2
 returns-2 c = volume _ (c .if1 .left)
 
 pub key-spec : {M : Type 1} → statement M
-key-spec = tie.close (tie.spec (λ c. omega arith) returns returns-2)
+key-spec {M = M} =
+    let closed = tie.spec {M = M}
+    (λ c. omega arith) returns returns-2
+    in tie.close closed

@@ -7,4 +7,7 @@ use Rattle.record_fields.proofs.record.structure_of.Tie as tie
 
 pub structure-of-spec : {M : Type 1} → statement M
 unfolding structureIn bits parted
-structure-of-spec = tie.close (tie.spec (λ c. omega arith))
+structure-of-spec {M = M} =
+    let closed = tie.spec {M = M}
+    (λ c. omega arith)
+    in tie.close closed

@@ -7,4 +7,7 @@ use Rattle.record_fields.proofs.record.surface_record.Tie as tie
 
 pub surface-record-spec : {M : Type 1} → statement M
 unfolding recordIn withinIn bits joined
-surface-record-spec = tie.close (tie.spec (λ c. omega arith) (λ c. omega arith) (λ c. omega arith))
+surface-record-spec {M = M} =
+    let closed = tie.spec {M = M}
+    (λ c. omega arith) (λ c. omega arith) (λ c. omega arith)
+    in tie.close closed

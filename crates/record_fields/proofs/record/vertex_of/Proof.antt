@@ -7,4 +7,7 @@ use Rattle.record_fields.proofs.record.vertex_of.Tie as tie
 
 pub vertex-of-spec : {M : Type 1} → statement M
 unfolding payloadIn bits parted
-vertex-of-spec = tie.close (tie.spec (λ c. omega arith))
+vertex-of-spec {M = M} =
+    let closed = tie.spec {M = M}
+    (λ c. omega arith)
+    in tie.close closed

@@ -7,9 +7,8 @@ use Rattle.record_fields.proofs.record.voxel_record.Tie as tie
 
 pub voxel-record-spec : {M : Type 1} → statement M
 unfolding recordIn withinIn bits joined
-voxel-record-spec =
-    tie.close
-    (tie.spec
+voxel-record-spec {M = M} =
+    let closed = tie.spec {M = M}
     (λ c. omega arith)
     (λ c. omega arith)
     (λ c. omega arith)
@@ -17,4 +16,5 @@ voxel-record-spec =
     (λ c. omega arith)
     (λ c. omega arith)
     (λ c. omega arith)
-    (λ c. omega arith))
+    (λ c. omega arith)
+    in tie.close closed

@@ -6,7 +6,7 @@ use Rattle.shortlisting.proofs.search.begin_record.Statement.{statement
 use Rattle.shortlisting.proofs.search.begin_record.Tie as tie
 use Rattle.shortlisting.proofs.search.begin_record.Reads as reads
 use Rattle.shortlisting.proofs.search.begin_record.Lts as lts
-use Rattle.runs.proofs.kind_of.Reads as kind-of-reads
+use Rattle.shortlisting.proofs.kinds.kind_of.Reads as kind-of-reads
 use Rattle.shortlisting.proofs.search.begin.Reads as begin-reads
 
 -- src/search.rt:41:14

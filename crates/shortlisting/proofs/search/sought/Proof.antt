@@ -7,8 +7,8 @@ use Rattle.shortlisting.proofs.search.sought.Statement.{statement}
 use Rattle.shortlisting.proofs.search.sought.Tie as tie
 use Rattle.shortlisting.proofs.search.sought.Reads as reads
 use Rattle.shortlisting.proofs.search.sought.Lts as lts
-use Rattle.finding.proofs.find.Reads as find-reads
-use Rattle.shortlisting.proofs.bits.is_record.Reads as is-record-reads
+use Rattle.record_fields.proofs.find.Reads as find-reads
+use Rattle.shortlisting.proofs.kinds.is_record.Reads as is-record-reads
 use Rattle.shortlisting.proofs.search.is_outside.Reads as is-outside-reads
 
 -- src/search.rt:192:8

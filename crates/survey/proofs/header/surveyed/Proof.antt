@@ -3,9 +3,8 @@ use Rattle.survey.proofs.header.surveyed.Statement.{statement}
 use Rattle.survey.proofs.header.surveyed.Tie as tie
 
 pub surveyed-spec : {M : Type 1} → statement M
-surveyed-spec =
-    tie.close
-    (tie.spec
+surveyed-spec {M = M} =
+    let closed = tie.spec {M = M}
     (λ c κs. search surveyed)
     (λ c κs. search surveyed)
     (λ c. search surveyed)
@@ -14,4 +13,5 @@ surveyed-spec =
     (λ c. search surveyed)
     (λ c κs. search surveyed)
     (λ c. search surveyed)
-    (λ c. search surveyed))
+    (λ c. search surveyed)
+    in tie.close closed

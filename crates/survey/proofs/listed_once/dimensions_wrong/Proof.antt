@@ -10,9 +10,8 @@ abbrev μ-loop : tie.MeasureT-loop
 μ-loop text matrix maps lengths n d₀ d = 10 - d
 
 pub dimensions-wrong-spec : {M : Type 1} → statement M
-dimensions-wrong-spec =
-    tie.close
-    (tie.spec
+dimensions-wrong-spec {M = M} =
+    let closed = tie.spec {M = M}
     Inv-loop
     μ-loop
     (λ c. search listed-once)
@@ -24,4 +23,5 @@ dimensions-wrong-spec =
     (λ c. search listed-once)
     (λ c. once-more (c .before .before .before .before .loop .inv) (c .before .before .listed .ensures)
     (c .before .times-wanted .ensures) (c .if2 .left))
-    (λ c. search listed-once))
+    (λ c. search listed-once)
+    in tie.close closed

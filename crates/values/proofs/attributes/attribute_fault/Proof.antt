@@ -3,9 +3,8 @@ use Rattle.values.proofs.attributes.attribute_fault.Statement.{statemen
 use Rattle.values.proofs.attributes.attribute_fault.Tie as tie
 
 pub attribute-fault-spec : {M : Type 1} → statement M
-attribute-fault-spec =
-    tie.close
-    (tie.spec
+attribute-fault-spec {M = M} =
+    let closed = tie.spec {M = M}
     (λ c κs. search attributing)
     (λ c κs. search attributing)
     (λ c κs. search attributing)
@@ -16,4 +15,5 @@ attribute-fault-spec =
     (λ c. search attributing)
     (λ c κs. search attributing)
     (λ c. search attributing)
-    (λ c. search attributing))
+    (λ c. search attributing)
+    in tie.close closed

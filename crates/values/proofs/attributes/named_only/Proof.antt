@@ -3,9 +3,8 @@ use Rattle.values.proofs.attributes.named_only.Statement.{statement}
 use Rattle.values.proofs.attributes.named_only.Tie as tie
 
 pub named-only-spec : {M : Type 1} → statement M
-named-only-spec =
-    tie.close
-    (tie.spec
+named-only-spec {M = M} =
+    let closed = tie.spec {M = M}
     (λ c. search listed)
     (λ c. search listed)
     (λ c κs. search listed)
@@ -13,4 +12,5 @@ named-only-spec =
     (λ c κs. search listed)
     (λ c. search listed)
     (λ c. search listed)
-    (λ c. search listed))
+    (λ c. search listed)
+    in tie.close closed

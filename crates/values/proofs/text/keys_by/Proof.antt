@@ -3,5 +3,7 @@ use Rattle.values.proofs.text.keys_by.Statement.{statement}
 use Rattle.values.proofs.text.keys_by.Tie as tie
 
 pub keys-by-spec : {M : Type 1} → statement M
-keys-by-spec =
-    tie.close (tie.spec (λ c κs. search keying) (λ c. search keying) (λ c κs. search keying) (λ c. search keying) (λ c. search keying))
+keys-by-spec {M = M} =
+    let closed = tie.spec {M = M}
+    (λ c κs. search keying) (λ c. search keying) (λ c κs. search keying) (λ c. search keying) (λ c. search keying)
+    in tie.close closed

@@ -1,0 +1,29 @@
+use Rattle.table.specs.Stretches.{filling, Fill}
+use Prim.Native.Nat.{_-_}
+use Rattle.maps.specs.Ready.{mapsAt}
+use Rattle.models.specs.Laws.Judged.{OverHeld}
+use Rattle.filling.proofs.stretches.fill_all.Statement.{statement}
+use Rattle.filling.proofs.stretches.fill_all.Tie as tie
+
+abbrev Inv-loop : tie.InvT-loop
+Inv-loop text maps judged records₀ next₀ i₀ records next i =
+    OverHeld text maps judged (Fill (mapsAt text maps) records₀ (next .0) records) i
+
+abbrev μ-loop : tie.MeasureT-loop
+μ-loop text maps judged records₀ next₀ i₀ records next i = maps .count - i
+
+pub fill-all-spec : {M : Type 1} → statement M
+fill-all-spec =
+    tie.close
+    (tie.spec
+    Inv-loop
+    μ-loop
+    (λ c. search filling)
+    (λ c κs. search filling)
+    (λ c κs. search filling)
+    (λ c κs. search filling)
+    (λ c. search filling)
+    (λ c. search filling)
+    (λ c. search filling)
+    (λ c. search filling)
+    (λ c. search filling))
