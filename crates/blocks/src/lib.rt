@@ -2,7 +2,7 @@
 ghost use mathlib.Core.Path.{_≡_};
 ghost use Prim.Native.Nat.{_+_, _≤_};
 ghost use lib.ListN.{length};
-ghost use Rattle.steps.specs.Blocks.{through, Through, other, narrow, shown, quick};
+ghost use Rattle.steps.specs.Blocks.{through, Through, other, shown, quick};
 
 // Whether the byte is none of the sixteen from `at` on.
 pub fn block_lacks(text: &[u8], at: usize, sign: u8) -> bool
@@ -18,21 +18,7 @@ pub fn block_lacks(text: &[u8], at: usize, sign: u8) -> bool
     free
 }
 
-// Whether none of the sixteen is above 127.
-fn block_narrow(text: &[u8], at: usize) -> bool
-    requires { ⌜ at + 16 ≤ length (now text) ⌝ }
-    ensures { λ r. ⌜ r ≡ through narrow (now (text .entry)) at (at + 16) ⌝ }
-{
-    let mut free = true;
-    let mut k = 0;
-    while k < 16 {
-        free = free & (text[at + k] <= 127);
-        k += 1;
-    }
-    free
-}
-
-// Whether none of the sixteen is below 32, but for line feeds.
+// Whether each of the sixteen is from 32 to 127, or a line feed. One range is one comparison; 127 by itself would be a chain of them.
 fn block_shown(text: &[u8], at: usize) -> bool
     requires { ⌜ at + 16 ≤ length (now text) ⌝ }
     ensures { λ r. ⌜ r ≡ through shown (now (text .entry)) at (at + 16) ⌝ }
@@ -41,7 +27,7 @@ fn block_shown(text: &[u8], at: usize) -> bool
     let mut k = 0;
     while k < 16 {
         let b = text[at + k];
-        free = free & ((31 < b) | (b == b'\n'));
+        free = free & (((31 < b) & (b <= 127)) | (b == b'\n'));
         k += 1;
     }
     free
@@ -53,8 +39,7 @@ fn block_quick(text: &[u8], at: usize) -> bool
     ensures { λ r. ⌜ r ≡ through quick (now (text .entry)) at (at + 16) ⌝ }
 {
     block_lacks(text, at, b'<')
-        & (block_lacks(text, at, b'&')
-            & (block_lacks(text, at, b']') & (block_narrow(text, at) & block_shown(text, at))))
+        & (block_lacks(text, at, b'&') & (block_lacks(text, at, b']') & block_shown(text, at)))
 }
 
 // A place up to which all bytes are plain, reached by blocks.

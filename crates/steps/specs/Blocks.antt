@@ -19,14 +19,10 @@ pub record Through (p : ℕ → Bool) (text : List ℕ) (at to : ℕ) : Type 0 w
 unfoldable pub other : (b a : ℕ) → Bool
 other b a = not (eqb a b)
 
--- a byte of ASCII
-unfoldable pub narrow : ℕ → Bool
-narrow a = leb a 127
-
--- no control, but for a line feed
+-- from 32 to 127, or a line feed
 unfoldable pub shown : ℕ → Bool
-shown a = ltb 31 a || eqb a 10
+shown a = (ltb 31 a && leb a 127) || eqb a 10
 
 -- a plain byte of text, and neither a tab nor a carriage return
 unfoldable pub quick : ℕ → Bool
-quick a = other 60 a && (other 38 a && (other 93 a && (narrow a && shown a)))
+quick a = other 60 a && (other 38 a && (other 93 a && shown a))

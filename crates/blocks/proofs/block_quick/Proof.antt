@@ -3,12 +3,11 @@ use Rattle.blocks.proofs.block_quick.Statement.{statement}
 use Rattle.blocks.proofs.block_quick.Tie as tie
 
 pub block-quick-spec : {M : Type 1} → statement M
-block-quick-spec =
-    tie.close
-    (tie.spec
+block-quick-spec {M = M} =
+    let closed = tie.spec {M = M}
     (λ c κs. search quick-blocks)
     (λ c κs. search quick-blocks)
     (λ c κs. search quick-blocks)
     (λ c κs. search quick-blocks)
-    (λ c κs. search quick-blocks)
-    (λ c. search quick-blocks))
+    (λ c. search quick-blocks)
+    in tie.close closed

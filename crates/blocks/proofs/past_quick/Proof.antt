@@ -12,9 +12,8 @@ abbrev μ-loop : tie.MeasureT-loop
 μ-loop text at i₀ i = length text - i
 
 pub past-quick-spec : {M : Type 1} → statement M
-past-quick-spec =
-    tie.close
-    (tie.spec
+past-quick-spec {M = M} =
+    let closed = tie.spec {M = M}
     Inv-loop
     μ-loop
     (λ c. search by-blocks)
@@ -25,4 +24,5 @@ past-quick-spec =
     (λ c. search by-blocks)
     (λ c. search by-blocks)
     (λ c. search by-blocks)
-    (λ c. search by-blocks))
+    (λ c. search by-blocks)
+    in tie.close closed

@@ -18,7 +18,7 @@ use Rattle.grammar.specs.Read.{span}
 use Rattle.steps.specs.Step.{stepped, at-byte}
 use Rattle.steps.specs.Noted.{part}
 use Rattle.steps.specs.Pieces.{plain}
-use Rattle.steps.specs.Blocks.{through, Through, other, narrow, shown, quick}
+use Rattle.steps.specs.Blocks.{through, Through, other, shown, quick}
 use Rattle.steps.specs.Laws.Steps.{Spanning, span-on, span-start, span-all, span-rest, span-more, span-stops}
 
 -- BYTES IN A ROW
@@ -101,34 +101,28 @@ module _ {text : List ℕ} {at k : ℕ} {free : Bool} where
   unfolding other
   other-on b go u = block-on go u
 
-  pub narrow-on : Blocking narrow text at k free → k < 16 → Blocking narrow text at (k + 1) (free && leb (getD text (at + k) 0) 127)
-  unfolding narrow
-  narrow-on go u = block-on go u
-
   pub shown-on : Blocking shown text at k free → k < 16
-      → Blocking shown text at (k + 1) (free && (ltb 31 (getD text (at + k) 0) || eqb (getD text (at + k) 0) 10))
+      → Blocking shown text at (k + 1)
+      (free && ((ltb 31 (getD text (at + k) 0) && leb (getD text (at + k) 0) 127) || eqb (getD text (at + k) 0) 10))
   unfolding shown
   shown-on go u = block-on go u
 
-pub ruleset blocking = (block-start, block-done, block-inside, other-on, narrow-on, shown-on, needs)
+pub ruleset blocking = (block-start, block-done, block-inside, other-on, shown-on, needs)
 
--- five tests of one block
-pub quick-block : (text : List ℕ) (at to : ℕ) {a b c d e : Bool} → a ≡ through (other 60) text at to → b ≡ through (other 38) text at to
-    → c ≡ through (other 93) text at to → d ≡ through narrow text at to → e ≡ through shown text at to
-    → (a && (b && (c && (d && e)))) ≡ through quick text at to
+-- four tests of one block
+pub quick-block : (text : List ℕ) (at to : ℕ) {a b c d : Bool} → a ≡ through (other 60) text at to → b ≡ through (other 38) text at to
+    → c ≡ through (other 93) text at to → d ≡ through shown text at to → (a && (b && (c && d))) ≡ through quick text at to
 unfolding through quick
-quick-block text at to ha hb hc hd he =
+quick-block text at to ha hb hc hd =
     let l = part at to text in
     rw (
       ha,
       hb,
       hc,
       hd,
-      he,
-      all-both (other 60) (λ a. other 38 a && (other 93 a && (narrow a && shown a))) l,
-      all-both (other 38) (λ a. other 93 a && (narrow a && shown a)) l,
-      all-both (other 93) (λ a. narrow a && shown a) l,
-      all-both narrow shown l,
+      all-both (other 60) (λ a. other 38 a && (other 93 a && shown a)) l,
+      all-both (other 38) (λ a. other 93 a && shown a) l,
+      all-both (other 93) shown l,
     )
 
 pub ruleset quick-blocks = (quick-block, needs)
@@ -150,7 +144,7 @@ pub ruleset by-blocks = (through-start, through-on, needs)
 
 -- PLAIN TEXT
 quick-plain : (a : ℕ) → quick a ≡ true → plain a ≡ true
-unfolding quick plain lead1 blank special other narrow shown
+unfolding quick plain lead1 blank special other shown
 quick-plain a h =
     let h₁ = and-right (not (eqb a 60)) _ h in
     let h₂ = and-right (not (eqb a 38)) _ h₁ in
@@ -158,9 +152,8 @@ quick-plain a h =
     let tag = not-true (eqb a 60) (and-left (not (eqb a 60)) _ h) in
     let reference = not-true (eqb a 38) (and-left (not (eqb a 38)) _ h₁) in
     let bracket = not-true (eqb a 93) (and-left (not (eqb a 93)) _ h₂) in
-    let low = and-left (leb a 127) _ h₃ in
-    or-elim (plain a ≡ true) (ltb 31 a) (eqb a 10) (and-right (leb a 127) _ h₃)
-    (λ high. and-both (or-second (blank a) (and-both high low)) (rw (tag, reference, bracket)))
+    or-elim (plain a ≡ true) (ltb 31 a && leb a 127) (eqb a 10) h₃
+    (λ range. and-both (or-second (blank a) range) (rw (tag, reference, bracket)))
     (λ feed. and-both (or-first (blank a) _ (rw (eqb-true a 10 feed))) (rw (tag, reference, bracket)))
 
 pub span-through : {text : List ℕ} {at i : ℕ} → Through quick text at i → Spanning plain text at i
