@@ -1,7 +1,9 @@
 // The records of one list, written one behind the other.
 use models::listing::Triple;
-use models::listing::next_voxel;
-use number_lists::next_number;
+use models::listing::voxel_by;
+use number_lists::number_by;
+use number_lists::quick_behind;
+use number_lists::quick_number;
 use numbers::Next;
 use record_fields::surface_record;
 use record_fields::voxel_record;
@@ -22,7 +24,8 @@ pub(crate) fn fill_vertices(text: &[u8], start: usize, structure: u64, out: &mut
     let mut i = start;
     let mut place = at.0;
     loop {
-        match next_number(text, i) {
+        let quick = quick_number(text, i);
+        match number_by(text, i, quick) {
             Next::Number(v, behind) => {
                 out[place] = surface_record(structure, Vertex(v));
                 place += 1;
@@ -47,7 +50,12 @@ pub(crate) fn fill_voxels(text: &[u8], start: usize, structure: u64, out: &mut [
     let mut i = start;
     let mut next = at.0;
     loop {
-        match next_voxel(text, i) {
+        let first = quick_number(text, i);
+        let two = quick_behind(text, i, first);
+        let second = quick_number(text, two);
+        let three = quick_behind(text, two, second);
+        let third = quick_number(text, three);
+        match voxel_by(text, i, first, second, third) {
             Triple::Voxel(x, y, z, behind) => {
                 out[next] = voxel_record(structure, x, y, z);
                 next += 1;

@@ -7,10 +7,12 @@ use maps::limits::MOST_RECORDS;
 use marks::mark;
 use models::listing::Triple;
 use models::listing::list_start;
-use models::listing::next_voxel;
+use models::listing::voxel_by;
 use models::volume::Sizes;
 use nodes::Found;
-use number_lists::next_number;
+use number_lists::number_by;
+use number_lists::quick_behind;
+use number_lists::quick_number;
 use numbers::Next;
 use records::Vertex;
 ghost use mathlib.Core.Path.{_≡_};
@@ -28,7 +30,7 @@ pub struct Verdict {
     pub apart: bool,
 }
 
-pub(crate) fn number_by(even: bool, out: bool) -> u64
+pub(crate) fn verdict_by(even: bool, out: bool) -> u64
     ensures { λ r. ⌜ r ≡ verdictBy even out ⌝ }
 {
     if !even {
@@ -57,7 +59,8 @@ fn marked_vertices(
     let mut apart = true;
     let mut i = start;
     loop {
-        match next_number(text, i) {
+        let quick = quick_number(text, i);
+        match number_by(text, i, quick) {
             Next::Number(v, j) => {
                 n += 1;
                 out = out | !(v < surface);
@@ -67,7 +70,7 @@ fn marked_vertices(
             }
             Next::End => {
                 return Verdict {
-                    number: number_by(n == length, out),
+                    number: verdict_by(n == length, out),
                     apart: apart,
                 };
             }
@@ -105,7 +108,12 @@ fn marked_voxels(
     let mut apart = true;
     let mut at = start;
     loop {
-        match next_voxel(text, at) {
+        let first = quick_number(text, at);
+        let two = quick_behind(text, at, first);
+        let second = quick_number(text, two);
+        let three = quick_behind(text, two, second);
+        let third = quick_number(text, three);
+        match voxel_by(text, at, first, second, third) {
             Triple::Voxel(i, j, k, behind) => {
                 voxels += 1;
                 out = out | is_outside(i, j, k, sizes);
@@ -115,7 +123,7 @@ fn marked_voxels(
             }
             Triple::End => {
                 return Verdict {
-                    number: number_by(voxels == length, out),
+                    number: verdict_by(voxels == length, out),
                     apart: apart,
                 };
             }

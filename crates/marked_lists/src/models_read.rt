@@ -1,7 +1,7 @@
 // The lists of all models of a map.
 use super::listing::Verdict;
 use super::listing::marked_list;
-use super::listing::number_by;
+use super::listing::verdict_by;
 use super::places::Grid;
 use super::places::grid_for;
 use super::places::surface_start;
@@ -44,7 +44,7 @@ fn all_lists(text: &[u8], models: Models, sizes: Sizes, grid: Grid, work: &mut [
         i += 1;
     }
     Verdict {
-        number: number_by(true, out),
+        number: verdict_by(true, out),
         apart: apart,
     }
 }

@@ -79,7 +79,7 @@ pub(crate) fn run_of(n: u64, at: usize, next: usize) -> Run
 }
 
 // A plain blank stands behind the digits.
-pub(crate) fn ends_plain(text: &[u8], run: Run) -> bool
+fn ends_plain(text: &[u8], run: Run) -> bool
     requires { ⌜ run .next < length (now text) ⌝ }
     ensures { λ r. ⌜ r ≡ blank (getD (now (text .entry)) (run .next) 0) ⌝ }
 {

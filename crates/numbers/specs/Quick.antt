@@ -1,22 +1,33 @@
--- The next number of a list where plain bytes write it: one blank, one to seven digits, a blank.
+-- The next number of a list where plain bytes write it: one blank, one to six digits, a blank.
 use mathlib.Core.Path.{_≡_}
 use mathlib.Core.List.{List}
+use mathlib.Core.Bool.{Bool, _||_}
 use Prim.Native.Nat.{ℕ, _+_, _/_, _%_, _^_, _<_}
+use lib.Dec.{eqb}
 use lib.ListN.{length}
 use Rattle.numbers.specs.Stream.{Plain}
 use Rattle.numbers.specs.Answers.{nextNumber}
 use Rattle.numbers.specs.declared.Run.{Run}
 use Rattle.numbers.specs.declared.Next.the-variants.{Number}
 
--- seven bytes and more stand ahead
-pub record SevenAhead (text : List ℕ) (at : ℕ) : Type 0 where
-  pub inside : at + 7 < length text
-  pub fits : at + 7 < 2 ^ 64
+-- a space or a line feed: the blanks that stand between most numbers
+unfoldable pub spaceOrFeed : ℕ → Bool
+spaceOrFeed b = eqb b 32 || eqb b 10
+
+-- how far a byte is above 48, the first digit, round 256
+pub record FromZero (b r : ℕ) : Type 0 where
+  pub told : r ≡ (b + 208) % 256
+  pub byte : b < 256
+
+-- six bytes and more stand ahead
+pub record SixAhead (text : List ℕ) (at : ℕ) : Type 0 where
+  pub inside : at + 6 < length text
+  pub fits : at + 6 < 2 ^ 64
 
 -- the plain digits there, and something behind them
-pub record Seven (text : List ℕ) (at : ℕ) (run : Run) : Type 0 where
-  pub plain : Plain text at (at + 7) run
-  pub ahead : SevenAhead text at
+pub record Six (text : List ℕ) (at : ℕ) (run : Run) : Type 0 where
+  pub plain : Plain text at (at + 6) run
+  pub ahead : SixAhead text at
   pub behind : run .next < length text
 
 -- the next number in one number, sixteen times its value and how far behind it stands; 0 says nothing

@@ -26,8 +26,8 @@ use Rattle.models.specs.Listings.{numbersOf, StartOf, Known, list-numbers}
 use Rattle.models.specs.Numbers.{valuesAt, InForm, number-passes, number-ends, NextVoxel, voxel-passes, voxels-end}
 use Rattle.models.specs.Verdicts.{verdictBy, verticesVerdict, voxelsVerdict}
 use Rattle.models.specs.Laws.Listings.{judge-stands, judge-none, judge-form, judge-voxels, judge-vertices}
-use Rattle.models.specs.Laws.Verdicts.{Vertices, vertices-start, vertices-done, vertices-bad, vertices-room, vertices-less, vertices-on}
-use Rattle.models.specs.Laws.Verdicts.{Voxels, voxels-start, voxels-done, voxels-short, voxels-room, voxels-less, voxels-on}
+use Rattle.models.specs.Laws.Verdicts.{Vertices, vertices-start, vertices-done, vertices-bad, vertices-less, vertices-on}
+use Rattle.models.specs.Laws.Verdicts.{Voxels, voxels-start, voxels-done, voxels-short, voxels-less, voxels-on}
 use Rattle.models.specs.declared.listing.Triple.{Triple}
 use Rattle.models.specs.declared.listing.Triple.the-variants as triple
 use Rattle.marked_lists.specs.Places.{voxelPlace, vertexPlace}
@@ -74,9 +74,6 @@ module _ {text : List ℕ} {start surface first n i : ℕ} {before now : List �
     }
 
     module _ {v j : ℕ} (q : r ≡ Number v j) where
-      pub read-room : n + 1 ≤ length text
-      read-room = vertices-room (go .counted) e q
-
       pub read-less : left text j < left text i
       read-less = vertices-less (go .counted) e q
 
@@ -125,9 +122,6 @@ module _ {text : List ℕ} {start n at : ℕ} {volume : Voxel} {grid : Grid} {be
     }
 
     module _ {i j k behind : ℕ} (q : r ≡ triple.Voxel i j k behind) where
-      pub threes-room : n + 1 ≤ length text
-      threes-room = voxels-room (go .counted) x q
-
       pub threes-less : left text behind < left text at
       threes-less = voxels-less (go .counted) x q
 

@@ -60,9 +60,6 @@ module _ {text : List ℕ} {start surface n i : ℕ} {out : Bool} (go : Vertices
     here : Passes text i v j
     here = number-passes (go .form) e q
 
-    pub vertices-room : n + 1 ≤ length text
-    vertices-room = omega (arith, go .fewer, here .ahead)
-
     pub vertices-less : left text j < left text i
     vertices-less = here .ahead
 
@@ -141,9 +138,6 @@ module _ {text : List ℕ} {start n at : ℕ} {volume : Voxel} {out : Bool} (go 
 
     pub voxels-form : InForm text behind
     voxels-form = passed .form
-
-    pub voxels-room : n + 1 ≤ length text
-    voxels-room = omega (arith, go .fewer, passed .ahead)
 
     pub voxels-less : left text behind < left text at
     voxels-less = passed .ahead

@@ -1,14 +1,16 @@
--- The next number of a list where plain bytes write it: seven digits counted, a blank on each side, all in one number.
+-- The next number of a list where plain bytes write it: six digits counted, a blank on each side, all in one number.
 use mathlib.Core.Path.{_≡_, refl, sym, ap, _∙_}
 use mathlib.Core.List.{List}
 use mathlib.Core.Bool.{Bool, true, false, not}
-use Prim.Native.Nat.{ℕ, _+_, _*_, _-_, _/_, _%_, _^_, _≤_, _<_}
+use Prim.Native.Nat.{ℕ, zero, suc, _+_, _*_, _-_, _/_, _%_, _^_, _≤_, _<_}
 use native.Mathlib.Omega.{arith}
 use borrow.Author.Needs.{needs}
+use borrow.Author.Tests.{eqb-true, eq-eqb, ne-eqb, not-false}
+use lib.Dec.{eqb}
 use lib.ListN.{length, getD}
 use Rattle.grammar.specs.Bytes.{blank}
 use Rattle.numbers.specs.Stream.{Few, Plain, EightLeft, runOf}
-use Rattle.numbers.specs.Quick.{SevenAhead, Seven, Quick}
+use Rattle.numbers.specs.Quick.{spaceOrFeed, FromZero, SixAhead, Six, Quick}
 use Rattle.numbers.specs.Answers.{nextNumber}
 use Rattle.numbers.specs.Laws.Cuts.{powers}
 use Rattle.numbers.specs.Laws.Next.{skipping-start, skipping-on, quick-number}
@@ -16,44 +18,59 @@ use Rattle.numbers.specs.Laws.Next.{Digging, digging-start, digging-done
 use Rattle.numbers.specs.declared.Run.{Run}
 use Rattle.numbers.specs.declared.Next.the-variants.{Number}
 
--- seven digits, counted
+-- the digits are at most 9 above the first
+module _ {b d : ℕ} (f : FromZero b d) (few : d ≤ 9) where
+  from-low : 48 ≤ b
+  from-low = omega (arith, f .told, f .byte)
+
+  from-high : b ≤ 57
+  from-high = omega (arith, f .told, f .byte)
+
+  from-value : d ≡ b - 48
+  from-value = omega (arith, f .told, f .byte)
+
+-- six digits, counted
 pub record Counted (text : List ℕ) (at n k : ℕ) : Type 0 where
-  pub seven : SevenAhead text at
-  pub few : k ≤ 7
+  pub six : SixAhead text at
+  pub few : k ≤ 6
   pub digs : Digging text at n k (at + k)
 
-pub counted-start : {text : List ℕ} {at : ℕ} → SevenAhead text at → Counted text at 0 0
-counted-start {text} {at} s = let z : at + 0 ≡ at = omega arith in record { seven = s; few = omega arith; digs = rw z digging-start }
+pub counted-start : {text : List ℕ} {at : ℕ} → SixAhead text at → Counted text at 0 0
+counted-start {text} {at} s = let z : at + 0 ≡ at = omega arith in record { six = s; few = omega arith; digs = rw z digging-start }
 
 module _ {text : List ℕ} {at n k : ℕ} (go : Counted text at n k) where
   pub counted-fits : at + k < 2 ^ 64
-  counted-fits = omega (arith, go .few, go .seven .fits)
+  counted-fits = omega (arith, go .few, go .six .fits)
 
-  pub counted-done : {r : Run} → r ≡ runOf n at (at + k) → Seven text at r
+  pub counted-done : {r : Run} → r ≡ runOf n at (at + k) → Six text at r
   counted-done e =
       let z : at + k - at ≡ k = omega arith in
       let f = go .few in
       rw (e, z) (record {
         plain = digging-done (go .digs) (omega arith) (sym z) (λ _. omega arith);
-        ahead = go .seven;
-        behind = omega (arith, go .seven .inside);
+        ahead = go .six;
+        behind = omega (arith, go .six .inside);
       })
 
-  module _ (u : k < 7) where
+  module _ (u : k < 6) where
     pub counted-inside : at + k < length text
-    counted-inside = omega (arith, go .seven .inside)
+    counted-inside = omega (arith, go .six .inside)
 
     pub counted-times : n * 10 < 2 ^ 64
-    counted-times = digging-times (go .digs) u
+    counted-times = digging-times (go .digs) (omega arith)
 
-    module _ {b : ℕ} (is : b ≡ getD text (at + k) 0) (lo : 48 ≤ b) (hi : b ≤ 57) where
-      pub counted-room : n * 10 + (b - 48) < 2 ^ 64
-      counted-room = digging-room (go .digs) u counted-inside is lo hi refl
+    module _ {d : ℕ} (f : FromZero (getD text (at + k) 0) d) (few : d ≤ 9) where
+      pub counted-room : n * 10 + d < 2 ^ 64
+      counted-room = digging-room (go .digs) (omega arith) counted-inside refl (from-low f few) (from-high f few) (from-value f few)
 
-      pub counted-on : Counted text at (n * 10 + (b - 48)) (k + 1)
+      pub counted-on : Counted text at (n * 10 + d) (k + 1)
       counted-on =
           let e : at + (k + 1) ≡ at + k + 1 = omega arith in
-          record { seven = go .seven; few = omega arith; digs = rw e (digging-on (go .digs) u counted-inside is lo hi refl) }
+          record {
+            six = go .six;
+            few = omega arith;
+            digs = rw e (digging-on (go .digs) (omega arith) counted-inside refl (from-low f few) (from-high f few) (from-value f few));
+          }
 
 pub ruleset counting = (counted-start, counted-fits, counted-done, counted-inside, counted-times, counted-room, counted-on, needs)
 
@@ -73,6 +90,26 @@ module _ {run : Run} (f : Few run) where
 
 pub ruleset packing = (packed-count, packed-times, packed-sum, needs)
 
+-- a space or a line feed
+module _ (b : ℕ) where
+  pub by-space : b ≡ 32 → true ≡ spaceOrFeed b
+  unfolding spaceOrFeed
+  by-space e = rw (eq-eqb b 32 e) refl
+
+  pub by-feed : (b ≡ 32 → ⊥) → eqb b 10 ≡ spaceOrFeed b
+  unfolding spaceOrFeed
+  by-feed n = rw (ne-eqb b 32 n) refl
+
+  pub space-or-feed-blank : spaceOrFeed b ≡ true → blank b ≡ true
+  unfolding spaceOrFeed blank
+  space-or-feed-blank h = go (eqb b 32) refl
+    where
+      go : (t : Bool) → eqb b 32 ≡ t → blank b ≡ true
+      go true e = rw e refl
+      go false e = rw (eqb-true b 10 (rw e at h)) refl
+
+pub ruleset spacing = (by-space, by-feed, needs)
+
 -- one blank, digits, a blank
 pub quickly-not : {text : List ℕ} {at : ℕ} → Quick text at 0
 quickly-not = record { told = λ h. absurd (h refl); fits = λ h. absurd (h refl) }
@@ -84,30 +121,33 @@ module _ {text : List ℕ} {last : ℕ} (b : EightLeft text last) {at : ℕ} (be
   pub quickly-fits : at + 1 < 2 ^ 64
   quickly-fits = omega (arith, b .fits)
 
-  pub quickly-seven : SevenAhead text (at + 1)
-  quickly-seven = let h = b .ahead (omega arith) in record { inside = omega arith; fits = omega (arith, b .fits) }
+  pub quickly-six : SixAhead text (at + 1)
+  quickly-six = let h = b .ahead (omega arith) in record { inside = omega arith; fits = omega (arith, b .fits) }
 
-module _ {text : List ℕ} {from : ℕ} {run : Run} (p : Seven text from run) where
+module _ {text : List ℕ} {from : ℕ} {run : Run} (p : Six text from run) where
   pub quickly-behind : run .next < length text
   quickly-behind = p .behind
 
   pub quickly-few : Few run
   quickly-few = p .plain .seven
 
-  pub quickly-told : {at : ℕ} → from ≡ at + 1 → {t : Bool} → t ≡ blank (getD text at 0) → not t ≡ false → (run .count ≡ 0 → ⊥)
-      → {u : Bool} → u ≡ blank (getD text (run .next) 0) → u ≡ true → {r : ℕ} → r ≡ run .value * 16 + (run .count + 1) → Quick text at r
+  pub quickly-told : {at : ℕ} → from ≡ at + 1 → {t : Bool} → t ≡ spaceOrFeed (getD text at 0) → not t ≡ false → (run .count ≡ 0 → ⊥)
+      → {u : Bool} → u ≡ spaceOrFeed (getD text (run .next) 0) → u ≡ true → {r : ℕ} → r ≡ run .value * 16 + (run .count + 1)
+      → Quick text at r
   quickly-told {at} ef {t} e n some {u} e₂ h₂ {r} er =
       let here : at < length text = omega (arith, p .ahead .inside) in
       let all : length text ≤ length text = omega arith in
-      let over : nextNumber text at ≡ nextNumber text (at + 1) = skipping-on (skipping-start all) here e n .same in
+      let b : blank (getD text at 0) ≡ true = space-or-feed-blank _ (sym e ∙ not-false t n) in
+      let b₂ : blank (getD text (run .next) 0) ≡ true = space-or-feed-blank _ (sym e₂ ∙ h₂) in
+      let over : nextNumber text at ≡ nextNumber text (at + 1) = skipping-on (skipping-start all) here (sym b) refl .same in
       let same : nextNumber text at ≡ nextNumber text from = over ∙ ap (nextNumber text) (sym ef) in
-      let q : Number (run .value) (run .next) ≡ nextNumber text at = quick-number (p .plain) (p .behind) (sym e₂ ∙ h₂) at same some in
+      let q : Number (run .value) (run .next) ≡ nextNumber text at = quick-number (p .plain) (p .behind) b₂ at same some in
       let few = p .plain .seven .few in
       let d : r / 16 ≡ run .value = omega arith in
       let m : at + r % 16 ≡ run .next = omega (arith, p .plain .spans, p .plain .ahead) in
       record { told = λ _. rw (d, m) q; fits = λ _. omega (arith, m, p .plain .within (omega arith), p .ahead .fits) }
 
-pub ruleset quickly = (quickly-not, quickly-inside, quickly-fits, quickly-seven, quickly-behind, quickly-few, quickly-told, needs)
+pub ruleset quickly = (quickly-not, quickly-inside, quickly-fits, quickly-six, quickly-behind, quickly-few, quickly-told, needs)
 
 -- what is told so
 module _ {text : List ℕ} {at q : ℕ} (h : Quick text at q) (n : q ≡ 0 → ⊥) where
@@ -118,3 +158,11 @@ module _ {text : List ℕ} {at q : ℕ} (h : Quick text at q) (n : q ≡ 0 → �
   telling-fits = h .fits n
 
 pub ruleset telling-on = (telling, telling-fits, needs)
+
+-- the place behind it, whatever it says
+pub quick-behind : {text : List ℕ} {at : ℕ} → at < 2 ^ 64 → {q : ℕ} → Quick text at q → at + q % 16 < 2 ^ 64
+quick-behind {text} {at} f {q} = go q
+  where
+    go : (q : ℕ) → Quick text at q → at + q % 16 < 2 ^ 64
+    go zero h = omega arith
+    go (suc n) h = h .fits (λ z. omega arith)

@@ -12,13 +12,13 @@ abbrev μ-loop : tie.MeasureT-loop
 μ-loop text start structure out₀ i₀ place₀ out i place = left text i
 
 pub fill-vertices-spec : {M : Type 1} → statement M
-fill-vertices-spec =
-    tie.close
-    (tie.spec
+fill-vertices-spec {M = M} =
+    let closed = tie.spec {M = M}
     Inv-loop
     μ-loop
     (λ c. search overVertices)
     (λ c κs. search overVertices)
+    (λ c κs. search overVertices)
     (λ c. search overVertices)
     (λ c κs. search overVertices)
     (λ c. search overVertices)
@@ -31,4 +31,5 @@ fill-vertices-spec =
     (λ c. search overVertices)
     (λ c. search overVertices)
     (λ c. search overVertices)
-    (λ c. search overVertices))
+    (λ c. search overVertices)
+    in tie.close closed

@@ -12,9 +12,8 @@ abbrev μ-loop : tie.MeasureT-loop
 μ-loop text out₀ start models n₀ i₀ out n i = models .count - i
 
 pub fill-models-spec : {M : Type 1} → statement M
-fill-models-spec =
-    tie.close
-    (tie.spec
+fill-models-spec {M = M} =
+    let closed = tie.spec {M = M}
     Inv-loop
     μ-loop
     (λ c. search placing)
@@ -41,4 +40,5 @@ fill-models-spec =
     (λ c. search placing)
     (λ c. search placing)
     (λ c. search placing)
-    (λ c. search placing))
+    (λ c. search placing)
+    in tie.close closed

@@ -13,9 +13,8 @@ abbrev μ-loop : tie.MeasureT-loop
 μ-loop text maps judged records₀ next₀ i₀ records next i = maps .count - i
 
 pub fill-all-spec : {M : Type 1} → statement M
-fill-all-spec =
-    tie.close
-    (tie.spec
+fill-all-spec {M = M} =
+    let closed = tie.spec {M = M}
     Inv-loop
     μ-loop
     (λ c. search filling)
@@ -26,4 +25,5 @@ fill-all-spec =
     (λ c. search filling)
     (λ c. search filling)
     (λ c. search filling)
-    (λ c. search filling))
+    (λ c. search filling)
+    in tie.close closed

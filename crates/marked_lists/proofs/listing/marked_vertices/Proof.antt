@@ -1,6 +1,5 @@
 use Rattle.nodes.specs.Texts.{left}
-use native.Mathlib.Omega.{arith}
-use Rattle.marked_lists.specs.Laws.Listing.{VerticesRead, overVertices, read-room}
+use Rattle.marked_lists.specs.Laws.Listing.{VerticesRead, overVertices}
 use Rattle.marked_lists.proofs.listing.marked_vertices.Statement.{statement}
 use Rattle.marked_lists.proofs.listing.marked_vertices.Tie as tie
 
@@ -12,19 +11,15 @@ abbrev μ-loop : tie.MeasureT-loop
 μ-loop text start length surface first work₀ n₀ out₀ apart₀ i₀ work n out apart i = left text i
 
 pub marked-vertices-spec : {M : Type 1} → statement M
-marked-vertices-spec =
-    tie.close
-    (tie.spec
+marked-vertices-spec {M = M} =
+    let closed = tie.spec {M = M}
     Inv-loop
     μ-loop
     (λ c. search overVertices)
     (λ c κs. search overVertices)
+    (λ c κs. search overVertices)
     (λ c. search overVertices)
-    (λ c. omega (
-      arith,
-      read-room (c .before .before .before .before .loop .inv) (c .before .before .before .next-number .ensures)
-          (c .before .v .given .1),
-    ))
+    (λ c. search overVertices)
     (λ c κs. search overVertices)
     (λ c κs. search overVertices)
     (λ c. search overVertices)
@@ -35,4 +30,5 @@ marked-vertices-spec =
     (λ c. search overVertices)
     (λ c. search overVertices)
     (λ c. search overVertices)
-    (λ c. search overVertices))
+    (λ c. search overVertices)
+    in tie.close closed

@@ -12,9 +12,8 @@ abbrev μ-loop : tie.MeasureT-loop
 μ-loop text sizes grid work₀ models out₀ apart₀ i₀ work out apart i = models .count - i
 
 pub all-lists-spec : {M : Type 1} → statement M
-all-lists-spec =
-    tie.close
-    (tie.spec
+all-lists-spec {M = M} =
+    let closed = tie.spec {M = M}
     Inv-loop
     μ-loop
     (λ c. search overModels)
@@ -35,4 +34,5 @@ all-lists-spec =
     (λ c. search overModels)
     (λ c κs. search overModels)
     (λ c. search overModels)
-    (λ c. search overModels))
+    (λ c. search overModels)
+    in tie.close closed

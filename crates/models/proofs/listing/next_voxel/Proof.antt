@@ -1,5 +1,4 @@
 use Rattle.models.specs.Laws.Numbers.{inThrees}
-use borrow.Author.Needs.{needs}
 use Rattle.models.proofs.listing.next_voxel.Statement.{statement}
 use Rattle.models.proofs.listing.next_voxel.Tie as tie
 
@@ -7,18 +6,21 @@ pub next-voxel-spec : {M : Type 1} → statement M
 next-voxel-spec =
     tie.close
     (tie.spec
-    (λ c κs. search needs)
-    (λ c. search needs)
-    (λ c κs. search needs)
-    (λ c. search needs)
-    (λ c κs. search needs)
-    (λ c. search needs)
-    (λ c. search needs)
-    (λ c. search needs)
-    (λ c. search needs)
-    (λ c. search needs)
-    (λ c. search needs)
-    (λ c. search needs)
+    (λ c κs. search inThrees)
+    (λ c κs. search inThrees)
+    (λ c. search inThrees)
+    (λ c κs. search inThrees)
+    (λ c κs. search inThrees)
+    (λ c. search inThrees)
+    (λ c κs. search inThrees)
+    (λ c κs. search inThrees)
+    (λ c. search inThrees)
+    (λ c. search inThrees)
+    (λ c. search inThrees)
+    (λ c. search inThrees)
+    (λ c. search inThrees)
+    (λ c. search inThrees)
+    (λ c. search inThrees)
     (λ c. search inThrees)
     (λ c. search inThrees)
     (λ c. search inThrees)

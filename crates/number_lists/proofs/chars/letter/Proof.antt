@@ -3,9 +3,8 @@ use Rattle.number_lists.proofs.chars.letter.Statement.{statement}
 use Rattle.number_lists.proofs.chars.letter.Tie as tie
 
 pub letter-spec : {M : Type 1} → statement M
-letter-spec =
-    tie.close
-    (tie.spec
+letter-spec {M = M} =
+    let closed = tie.spec {M = M}
     (λ c κs. search reading-itself)
     (λ c. search reading-itself)
     (λ c. search reading-itself)
@@ -13,4 +12,5 @@ letter-spec =
     (λ c κs. search reading-itself)
     (λ c. search reading-itself)
     (λ c. search reading-itself)
-    (λ c. search reading-itself))
+    (λ c. search reading-itself)
+    in tie.close closed

@@ -3,9 +3,8 @@ use Rattle.number_lists.proofs.listed.any_number.Statement.{statement}
 use Rattle.number_lists.proofs.listed.any_number.Tie as tie
 
 pub any-number-spec : {M : Type 1} → statement M
-any-number-spec =
-    tie.close
-    (tie.spec
+any-number-spec {M = M} =
+    let closed = tie.spec {M = M}
     (λ c κs. search hurrying-on)
     (λ c κs. search hurrying-on)
     (λ c κs. search hurrying-on)
@@ -17,4 +16,5 @@ any-number-spec =
     (λ c κs. search hurrying-on)
     (λ c. search hurrying-on)
     (λ c κs. search hurrying-on)
-    (λ c. search hurrying-on))
+    (λ c. search hurrying-on)
+    in tie.close closed

@@ -3,9 +3,8 @@ use Rattle.number_lists.proofs.within.late_number.Statement.{statement}
 use Rattle.number_lists.proofs.within.late_number.Tie as tie
 
 pub late-number-spec : {M : Type 1} → statement M
-late-number-spec =
-    tie.close
-    (tie.spec
+late-number-spec {M = M} =
+    let closed = tie.spec {M = M}
     (λ c κs. search coming-late)
     (λ c. search coming-late)
     (λ c. search coming-late)
@@ -13,4 +12,5 @@ late-number-spec =
     (λ c κs. search coming-late)
     (λ c. search coming-late)
     (λ c κs. search coming-late)
-    (λ c. search coming-late))
+    (λ c. search coming-late)
+    in tie.close closed

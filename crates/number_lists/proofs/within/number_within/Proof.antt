@@ -3,9 +3,8 @@ use Rattle.number_lists.proofs.within.number_within.Statement.{statemen
 use Rattle.number_lists.proofs.within.number_within.Tie as tie
 
 pub number-within-spec : {M : Type 1} → statement M
-number-within-spec =
-    tie.close
-    (tie.spec
+number-within-spec {M = M} =
+    let closed = tie.spec {M = M}
     (λ c κs. search taking)
     (λ c κs. search taking)
     (λ c κs. search taking)
@@ -20,4 +19,5 @@ number-within-spec =
     (λ c. search taking)
     (λ c. search taking)
     (λ c κs. search taking)
-    (λ c. search taking))
+    (λ c. search taking)
+    in tie.close closed

@@ -1,18 +1,17 @@
 use Prim.Native.Nat.{_-_}
 use Rattle.numbers.specs.Laws.Quick.{Counted, counting}
-use Rattle.number_lists.proofs.quick.seven_digits.Statement.{statement}
-use Rattle.number_lists.proofs.quick.seven_digits.Tie as tie
+use Rattle.number_lists.proofs.quick.six_digits.Statement.{statement}
+use Rattle.number_lists.proofs.quick.six_digits.Tie as tie
 
 abbrev Inv-loop : tie.InvT-loop
 Inv-loop text at n₀ k₀ n k = Counted text at n k
 
 abbrev μ-loop : tie.MeasureT-loop
-μ-loop text at n₀ k₀ n k = 7 - k
+μ-loop text at n₀ k₀ n k = 6 - k
 
-pub seven-digits-spec : {M : Type 1} → statement M
-seven-digits-spec =
-    tie.close
-    (tie.spec
+pub six-digits-spec : {M : Type 1} → statement M
+six-digits-spec {M = M} =
+    let closed = tie.spec {M = M}
     Inv-loop
     μ-loop
     (λ c. search counting)
@@ -23,13 +22,11 @@ seven-digits-spec =
     (λ c κs. search counting)
     (λ c. search counting)
     (λ c. search counting)
-    (λ c κs. search counting)
-    (λ c. search counting)
-    (λ c. search counting)
     (λ c. search counting)
     (λ c. search counting)
     (λ c. search counting)
     (λ c. search counting)
     (λ c. search counting)
     (λ c κs. search counting)
-    (λ c. search counting))
+    (λ c. search counting)
+    in tie.close closed
