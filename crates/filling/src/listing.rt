@@ -1,8 +1,7 @@
 // The records of one list, written one behind the other.
 use models::listing::Triple;
-use models::listing::voxel_by;
+use models::listing::next_voxel;
 use number_lists::number_by;
-use number_lists::quick_behind;
 use number_lists::quick_number;
 use numbers::Next;
 use record_fields::surface_record;
@@ -50,12 +49,7 @@ pub(crate) fn fill_voxels(text: &[u8], start: usize, structure: u64, out: &mut [
     let mut i = start;
     let mut next = at.0;
     loop {
-        let first = quick_number(text, i);
-        let two = quick_behind(text, i, first);
-        let second = quick_number(text, two);
-        let three = quick_behind(text, two, second);
-        let third = quick_number(text, three);
-        match voxel_by(text, i, first, second, third) {
+        match next_voxel(text, i) {
             Triple::Voxel(x, y, z, behind) => {
                 out[next] = voxel_record(structure, x, y, z);
                 next += 1;

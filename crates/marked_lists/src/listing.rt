@@ -7,11 +7,10 @@ use maps::limits::MOST_RECORDS;
 use marks::mark;
 use models::listing::Triple;
 use models::listing::list_start;
-use models::listing::voxel_by;
+use models::listing::next_voxel;
 use models::volume::Sizes;
 use nodes::Found;
 use number_lists::number_by;
-use number_lists::quick_behind;
 use number_lists::quick_number;
 use numbers::Next;
 use records::Vertex;
@@ -108,12 +107,7 @@ fn marked_voxels(
     let mut apart = true;
     let mut at = start;
     loop {
-        let first = quick_number(text, at);
-        let two = quick_behind(text, at, first);
-        let second = quick_number(text, two);
-        let three = quick_behind(text, two, second);
-        let third = quick_number(text, three);
-        match voxel_by(text, at, first, second, third) {
+        match next_voxel(text, at) {
             Triple::Voxel(i, j, k, behind) => {
                 voxels += 1;
                 out = out | is_outside(i, j, k, sizes);

@@ -2,7 +2,7 @@
 use mathlib.Core.Path.{_≡_, sym, ap, _∙_}
 use mathlib.Core.List.{List, [], _∷_}
 use mathlib.Core.Bool.{true, true≢false}
-use Prim.Native.Nat.{ℕ, _+_, _%_, _<_}
+use Prim.Native.Nat.{ℕ, _<_}
 use native.Mathlib.Omega.{arith}
 use lib.ListN.{length}
 use Rattle.lists.specs.Lists.{all, each}
@@ -10,7 +10,6 @@ use Rattle.grammar.specs.Laws.Facts.{and-left, and-right}
 use Rattle.nodes.specs.Texts.{saysAt, left}
 use Rattle.numbers.specs.Numbers.{digits, value, words, values}
 use Rattle.numbers.specs.Answers.{nextNumber}
-use Rattle.numbers.specs.Quick.{Quick}
 use Rattle.numbers.specs.Laws.Walk.{Handed, number-law, end-law, bad-law}
 use Rattle.numbers.specs.declared.Next.{Next}
 use Rattle.numbers.specs.declared.Next.the-variants.{Number, End, Bad}
@@ -72,12 +71,6 @@ pub data Threes (text : List ℕ) (at : ℕ) : Triple → Type 0 where
 -- what a reader of voxels answers where the numbers are in form
 pub record NextVoxel (text : List ℕ) (at : ℕ) (r : Triple) : Type 0 where
   pub told : InForm text at → Threes text at r
-
--- what quick readings say of three numbers, one behind the other
-pub record QuickVoxel (text : List ℕ) (at first second third : ℕ) : Type 0 where
-  pub one : Quick text at first
-  pub two : Quick text (at + first % 16) second
-  pub three : Quick text (at + first % 16 + second % 16) third
 
 -- by answer
 module _ {text : List ℕ} {at : ℕ} {r : Triple} (e : Threes text at r) where

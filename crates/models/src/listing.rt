@@ -2,11 +2,11 @@ use elements::children::first_child;
 use inside::texts::text_start;
 use nodes::Found;
 use nodes::Kid;
-use number_lists::number_by;
+use number_lists::next_number;
 use number_lists::quick_number;
 use numbers::Next;
 ghost use Rattle.models.specs.Listings.{StartOf};
-ghost use Rattle.models.specs.Numbers.{NextVoxel, QuickVoxel};
+ghost use Rattle.models.specs.Numbers.{NextVoxel};
 
 // The next voxel of a list and the place behind it, or the end; `Cut`: one or two numbers are left.
 pub enum Triple {
@@ -15,49 +15,50 @@ pub enum Triple {
     Cut,
 }
 
-// The next voxel from `at` on, in a list that is in form. The quick readings stand here to make it big, so that it is a call in `voxel_by`
-// and the loops stay small.
-pub fn next_voxel(text: &[u8], at: usize) -> Triple
+// The next voxel from `at` on, in a list that is in form, whatever stands before, between and behind its numbers.
+fn any_voxel(text: &[u8], at: usize) -> Triple
     ensures { λ r. ⌜ NextVoxel (now (text .entry)) at r ⌝ }
 {
-    let first = quick_number(text, at);
-    match number_by(text, at, first) {
-        Next::Number(i, two) => {
-            let second = quick_number(text, two);
-            match number_by(text, two, second) {
-                Next::Number(j, three) => {
-                    let third = quick_number(text, three);
-                    match number_by(text, three, third) {
-                        Next::Number(k, behind) => Triple::Voxel(i, j, k, behind),
-                        Next::End => Triple::Cut,
-                        Next::Bad => Triple::Cut,
-                    }
-                }
+    match next_number(text, at) {
+        Next::Number(i, second) => match next_number(text, second) {
+            Next::Number(j, third) => match next_number(text, third) {
+                Next::Number(k, behind) => Triple::Voxel(i, j, k, behind),
                 Next::End => Triple::Cut,
                 Next::Bad => Triple::Cut,
-            }
-        }
+            },
+            Next::End => Triple::Cut,
+            Next::Bad => Triple::Cut,
+        },
         Next::End => Triple::End,
         Next::Bad => Triple::End,
     }
 }
 
-// The next voxel from `at` on, by what `quick_number` says of three numbers, one behind the other.
-pub fn voxel_by(text: &[u8], at: usize, first: u64, second: u64, third: u64) -> Triple
-    requires { ⌜ QuickVoxel (now text) at first second third ⌝ }
+// The next voxel from `at` on, in a list that is in form: three quick readings first, one behind the other. Each is left where it says
+// nothing, before the place behind it is asked for, so that this place does not wait for the number's value.
+pub fn next_voxel(text: &[u8], at: usize) -> Triple
     ensures { λ r. ⌜ NextVoxel (now (text .entry)) at r ⌝ }
 {
+    let first = quick_number(text, at);
     if first == 0 {
-        return next_voxel(text, at);
+        return any_voxel(text, at);
     }
+    let two = at + (first % 16) as usize;
+    let second = quick_number(text, two);
     if second == 0 {
-        return next_voxel(text, at);
+        return any_voxel(text, at);
     }
+    let three = two + (second % 16) as usize;
+    let third = quick_number(text, three);
     if third == 0 {
-        return next_voxel(text, at);
+        return any_voxel(text, at);
     }
-    let behind = at + (first % 16) as usize + (second % 16) as usize + (third % 16) as usize;
-    Triple::Voxel(first / 16, second / 16, third / 16, behind)
+    Triple::Voxel(
+        first / 16,
+        second / 16,
+        third / 16,
+        three + (third % 16) as usize,
+    )
 }
 
 // Where the list of the model at `at` begins, where a model stands there.

@@ -76,14 +76,6 @@ pub fn quick_number(text: &[u8], at: usize) -> u64
     0
 }
 
-// The place behind what `quick_number` says at `at`: `at` itself where it says nothing.
-pub fn quick_behind(text: &[u8], at: usize, quick: u64) -> usize
-    requires { ⌜ Quick (now text) at quick ⌝ }
-    ensures { λ r. ⌜ r ≡ at + quick % 16 ⌝ }
-{
-    at + (quick % 16) as usize
-}
-
 // The next number of the list in a text, from `at` on, by what `quick_number` says there.
 pub fn number_by(text: &[u8], at: usize, quick: u64) -> Next
     requires { ⌜ Quick (now text) at quick ⌝ }

@@ -10,7 +10,7 @@ use Rattle.numbers.specs.declared.Next.{Next}
 use Rattle.numbers.specs.declared.Next.the-variants.{Number, End, Bad}
 use Rattle.models.specs.declared.listing.Triple.the-variants as triple
 use Rattle.models.specs.Numbers.{valuesAt, InForm, Passes, Threes, voxel-ahead, none-ahead, cut-ahead, number-passes, number-ends}
-use Rattle.models.specs.Numbers.{number-bad, NextVoxel, QuickVoxel}
+use Rattle.models.specs.Numbers.{number-bad, NextVoxel}
 
 module _ {text : List ℕ} {at : ℕ} (f : InForm text at) {r₁ : Next} (e₁ : r₁ ≡ nextNumber text at) where
   pub three-none : r₁ ≡ End → Threes text at triple.End
@@ -63,24 +63,20 @@ module _ {text : List ℕ} {at : ℕ} (f : InForm text at) {r₁ : Next} (e₁ :
 pub ruleset inThrees = (three-none, three-bad, three-one, three-bad-second, three-two, three-bad-third, three-voxel, needs)
 
 -- three quick readings, one behind the other
-module _ {text : List ℕ} {at first second third : ℕ} where
-  pub three-quick : Quick text at first → {j : ℕ} → j ≡ at + first % 16 → Quick text j second → {k : ℕ} → k ≡ j + second % 16
-      → Quick text k third → QuickVoxel text at first second third
-  three-quick one e two f three = record { one = one; two = rw e at two; three = rw (f, e) at three }
+module _ {text : List ℕ} {at first : ℕ} (one : Quick text at first) (n₁ : first ≡ 0 → ⊥) where
+  pub second-fits : at + first % 16 < 2 ^ 64
+  second-fits = one .fits n₁
 
-  module _ (v : QuickVoxel text at first second third) (n₁ : first ≡ 0 → ⊥) (n₂ : second ≡ 0 → ⊥) (n₃ : third ≡ 0 → ⊥) where
-    pub second-fits : at + first % 16 < 2 ^ 64
-    second-fits = v .one .fits n₁
-
+  module _ {second : ℕ} (two : Quick text (at + first % 16) second) (n₂ : second ≡ 0 → ⊥) where
     pub third-fits : at + first % 16 + second % 16 < 2 ^ 64
-    third-fits = v .two .fits n₂
+    third-fits = two .fits n₂
 
-    pub behind-fits : at + first % 16 + second % 16 + third % 16 < 2 ^ 64
-    behind-fits = v .three .fits n₃
+    module _ {third : ℕ} (three : Quick text (at + first % 16 + second % 16) third) (n₃ : third ≡ 0 → ⊥) where
+      pub behind-fits : at + first % 16 + second % 16 + third % 16 < 2 ^ 64
+      behind-fits = three .fits n₃
 
-    pub quick-voxel : NextVoxel text at (triple.Voxel (first / 16) (second / 16) (third / 16) (at + first % 16 + second % 16 + third % 16))
-    quick-voxel = record {
-      told = λ f. three-voxel f (v .one .told n₁) refl (v .two .told n₂) refl (v .three .told n₃) refl;
-    }
+      pub quick-voxel
+          : NextVoxel text at (triple.Voxel (first / 16) (second / 16) (third / 16) (at + first % 16 + second % 16 + third % 16))
+      quick-voxel = record { told = λ f. three-voxel f (one .told n₁) refl (two .told n₂) refl (three .told n₃) refl }
 
 pub ruleset quickThrees = (second-fits, third-fits, behind-fits, quick-voxel, needs)

@@ -2,7 +2,7 @@
 use mathlib.Core.Path.{_≡_, refl, sym, ap, _∙_}
 use mathlib.Core.List.{List}
 use mathlib.Core.Bool.{Bool, true, false, not}
-use Prim.Native.Nat.{ℕ, zero, suc, _+_, _*_, _-_, _/_, _%_, _^_, _≤_, _<_}
+use Prim.Native.Nat.{ℕ, _+_, _*_, _-_, _/_, _%_, _^_, _≤_, _<_}
 use native.Mathlib.Omega.{arith}
 use borrow.Author.Needs.{needs}
 use borrow.Author.Tests.{eqb-true, eq-eqb, ne-eqb, not-false}
@@ -158,11 +158,3 @@ module _ {text : List ℕ} {at q : ℕ} (h : Quick text at q) (n : q ≡ 0 → �
   telling-fits = h .fits n
 
 pub ruleset telling-on = (telling, telling-fits, needs)
-
--- the place behind it, whatever it says
-pub quick-behind : {text : List ℕ} {at : ℕ} → at < 2 ^ 64 → {q : ℕ} → Quick text at q → at + q % 16 < 2 ^ 64
-quick-behind {text} {at} f {q} = go q
-  where
-    go : (q : ℕ) → Quick text at q → at + q % 16 < 2 ^ 64
-    go zero h = omega arith
-    go (suc n) h = h .fits (λ z. omega arith)

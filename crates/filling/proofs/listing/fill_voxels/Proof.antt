@@ -1,7 +1,6 @@
 -- The invariant is that of `fill_vertices`.
 use mathlib.Core.Bool.{true}
 use Rattle.nodes.specs.Texts.{left}
-use Rattle.models.specs.Laws.Numbers.{three-quick}
 use Rattle.table.specs.Listing.{Writing, overVoxels}
 use Rattle.filling.proofs.listing.fill_voxels.Statement.{statement}
 use Rattle.filling.proofs.listing.fill_voxels.Tie as tie
@@ -20,11 +19,6 @@ fill-voxels-spec =
     μ-loop
     (λ c. search overVoxels)
     (λ c κs. search overVoxels)
-    (λ c κs. search overVoxels)
-    (λ c κs. search overVoxels)
-    (λ c κs. search overVoxels)
-    (λ c κs. search overVoxels)
-    (λ c κs. search (three-quick, overVoxels))
     (λ c. search overVoxels)
     (λ c κs. search overVoxels)
     (λ c. search overVoxels)
