@@ -1,7 +1,6 @@
 use Rattle.nodes.specs.Texts.{left}
-use native.Mathlib.Omega.{arith}
 use Rattle.models.specs.Verdicts.{volumeFrom}
-use Rattle.marked_lists.specs.Laws.Listing.{VoxelsRead, overVoxels, threes-room}
+use Rattle.marked_lists.specs.Laws.Listing.{VoxelsRead, overVoxels}
 use Rattle.marked_lists.proofs.listing.marked_voxels.Statement.{statement}
 use Rattle.marked_lists.proofs.listing.marked_voxels.Tie as tie
 
@@ -13,19 +12,14 @@ abbrev μ-loop : tie.MeasureT-loop
 μ-loop text start length sizes grid work₀ voxels₀ out₀ apart₀ at₀ work voxels out apart at = left text at
 
 pub marked-voxels-spec : {M : Type 1} → statement M
-marked-voxels-spec =
-    tie.close
-    (tie.spec
+marked-voxels-spec {M = M} =
+    let closed = tie.spec {M = M}
     Inv-loop
     μ-loop
     (λ c. search overVoxels)
     (λ c κs. search overVoxels)
     (λ c. search overVoxels)
-    (λ c. omega (
-      arith,
-      threes-room (c .before .before .before .before .loop .inv) (c .before .before .before .next-voxel .ensures)
-          (c .before .i .given .1),
-    ))
+    (λ c. search overVoxels)
     (λ c κs. search overVoxels)
     (λ c κs. search overVoxels)
     (λ c κs. search overVoxels)
@@ -37,4 +31,5 @@ marked-voxels-spec =
     (λ c. search overVoxels)
     (λ c. search overVoxels)
     (λ c. search overVoxels)
-    (λ c. search overVoxels))
+    (λ c. search overVoxels)
+    in tie.close closed
