@@ -40,25 +40,19 @@ pub fn next_voxel(text: &[u8], at: usize) -> Triple
     ensures { λ r. ⌜ NextVoxel (now (text .entry)) at r ⌝ }
 {
     let first = quick_number(text, at);
-    if first == 0 {
-        return any_voxel(text, at);
+    if first != 0 {
+        let two = at + (first % 16) as usize;
+        let second = quick_number(text, two);
+        if second != 0 {
+            let three = two + (second % 16) as usize;
+            let third = quick_number(text, three);
+            if third != 0 {
+                let behind = three + (third % 16) as usize;
+                return Triple::Voxel(first / 16, second / 16, third / 16, behind);
+            }
+        }
     }
-    let two = at + (first % 16) as usize;
-    let second = quick_number(text, two);
-    if second == 0 {
-        return any_voxel(text, at);
-    }
-    let three = two + (second % 16) as usize;
-    let third = quick_number(text, three);
-    if third == 0 {
-        return any_voxel(text, at);
-    }
-    Triple::Voxel(
-        first / 16,
-        second / 16,
-        third / 16,
-        three + (third % 16) as usize,
-    )
+    any_voxel(text, at)
 }
 
 // Where the list of the model at `at` begins, where a model stands there.
