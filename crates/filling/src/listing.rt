@@ -1,7 +1,7 @@
 // The records of one list, written one behind the other.
 use models::listing::Triple;
 use models::listing::next_voxel;
-use number_lists::number_by;
+use number_lists::any_number;
 use number_lists::quick_number;
 use numbers::Next;
 use record_fields::surface_record;
@@ -24,17 +24,23 @@ pub(crate) fn fill_vertices(text: &[u8], start: usize, structure: u64, out: &mut
     let mut place = at.0;
     loop {
         let quick = quick_number(text, i);
-        match number_by(text, i, quick) {
-            Next::Number(v, behind) => {
-                out[place] = surface_record(structure, Vertex(v));
-                place += 1;
-                i = behind;
-            }
-            Next::End => {
-                return;
-            }
-            Next::Bad => {
-                return;
+        if quick != 0 {
+            out[place] = surface_record(structure, Vertex(quick / 16));
+            place += 1;
+            i = i + (quick % 16) as usize;
+        } else {
+            match any_number(text, i) {
+                Next::Number(v, behind) => {
+                    out[place] = surface_record(structure, Vertex(v));
+                    place += 1;
+                    i = behind;
+                }
+                Next::End => {
+                    return;
+                }
+                Next::Bad => {
+                    return;
+                }
             }
         }
     }

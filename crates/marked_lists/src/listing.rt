@@ -10,7 +10,7 @@ use models::listing::list_start;
 use models::listing::next_voxel;
 use models::volume::Sizes;
 use nodes::Found;
-use number_lists::number_by;
+use number_lists::any_number;
 use number_lists::quick_number;
 use numbers::Next;
 use records::Vertex;
@@ -59,25 +59,33 @@ fn marked_vertices(
     let mut i = start;
     loop {
         let quick = quick_number(text, i);
-        match number_by(text, i, quick) {
-            Next::Number(v, j) => {
-                n += 1;
-                out = out | !(v < surface);
-                let new = mark(work, vertex_place(first, Vertex(v)));
-                apart = apart & new;
-                i = j;
-            }
-            Next::End => {
-                return Verdict {
-                    number: verdict_by(n == length, out),
-                    apart: apart,
-                };
-            }
-            Next::Bad => {
-                return Verdict {
-                    number: 0,
-                    apart: false,
-                };
+        if quick != 0 {
+            n += 1;
+            out = out | !(quick / 16 < surface);
+            let new = mark(work, vertex_place(first, Vertex(quick / 16)));
+            apart = apart & new;
+            i = i + (quick % 16) as usize;
+        } else {
+            match any_number(text, i) {
+                Next::Number(v, j) => {
+                    n += 1;
+                    out = out | !(v < surface);
+                    let new = mark(work, vertex_place(first, Vertex(v)));
+                    apart = apart & new;
+                    i = j;
+                }
+                Next::End => {
+                    return Verdict {
+                        number: verdict_by(n == length, out),
+                        apart: apart,
+                    };
+                }
+                Next::Bad => {
+                    return Verdict {
+                        number: 0,
+                        apart: false,
+                    };
+                }
             }
         }
     }

@@ -11,5 +11,4 @@ mod within;
 
 pub use listed::any_number;
 pub use quick::next_number;
-pub use quick::number_by;
 pub use quick::quick_number;

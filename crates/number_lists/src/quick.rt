@@ -6,7 +6,7 @@ use super::listed::run_of;
 use numbers::Next;
 use numbers::Run;
 ghost use mathlib.Core.Path.{_≡_};
-ghost use Prim.Native.Nat.{_+_, _*_, _%_};
+ghost use Prim.Native.Nat.{_+_, _*_};
 ghost use Rattle.numbers.specs.Stream.{Few};
 ghost use Rattle.numbers.specs.Quick.{spaceOrFeed, FromZero, SixAhead, Six, Quick};
 ghost use Rattle.numbers.specs.Answers.{nextNumber};
@@ -76,21 +76,13 @@ pub fn quick_number(text: &[u8], at: usize) -> u64
     0
 }
 
-// The next number of the list in a text, from `at` on, by what `quick_number` says there.
-pub fn number_by(text: &[u8], at: usize, quick: u64) -> Next
-    requires { ⌜ Quick (now text) at quick ⌝ }
-    ensures { λ r. ⌜ r ≡ nextNumber (now (text .entry)) at ⌝ }
-{
-    if quick == 0 {
-        return any_number(text, at);
-    }
-    Next::Number(quick / 16, at + (quick % 16) as usize)
-}
-
 // The next number of the list in a text, from `at` on.
 pub fn next_number(text: &[u8], at: usize) -> Next
     ensures { λ r. ⌜ r ≡ nextNumber (now (text .entry)) at ⌝ }
 {
     let quick = quick_number(text, at);
-    number_by(text, at, quick)
+    if quick == 0 {
+        return any_number(text, at);
+    }
+    Next::Number(quick / 16, at + (quick % 16) as usize)
 }

@@ -2,7 +2,7 @@
 use mathlib.Core.Path.{_≡_, refl, sym, ap, _∙_}
 use mathlib.Core.List.{List, [], _∷_}
 use mathlib.Core.Bool.{Bool, true, false}
-use Prim.Native.Nat.{ℕ, _+_, _<_, _≤_}
+use Prim.Native.Nat.{ℕ, _+_, _/_, _%_, _^_, _<_, _≤_}
 use native.Mathlib.Omega.{arith}
 use lib.ListN.{length, set, length-set}
 use borrow.Author.Needs.{needs}
@@ -13,6 +13,7 @@ use Rattle.records.specs.Fill.{wrote, wrote-none, wrote-one, wrote-on}
 use Rattle.cifti.specs.Maps.{threes, voxelAt}
 use Rattle.nodes.specs.Texts.{left}
 use Rattle.numbers.specs.Answers.{nextNumber}
+use Rattle.numbers.specs.Quick.{Quick}
 use Rattle.numbers.specs.declared.Next.{Next}
 use Rattle.numbers.specs.declared.Next.the-variants.{Number, End, Bad}
 use Rattle.models.specs.Numbers.{valuesAt, InForm, Passes, number-passes, number-ends, number-bad, Threes, NextVoxel, Passes3}
@@ -118,7 +119,36 @@ module _ {s : ℕ} {text : List ℕ} {start at : ℕ} {before : List ℕ} {i p :
     pub vertex-on : {n : ℕ} → n ≡ recordOf (wrapped (onSurface s x)) → Writing false s text start at before j (p + 1) (set out p n)
     vertex-on h = goes-on go splits-vertex (here .form) h
 
-pub ruleset overVertices = (writing-start, writing-kept, vertices-end, vertices-bad, vertex-room, vertex-less, vertex-on, needs)
+-- the same, by a quick reading
+module _ {s : ℕ} {text : List ℕ} {start at : ℕ} {before : List ℕ} {i p : ℕ} {out : List ℕ}
+    (go : Writing false s text start at before i p out) {quick : ℕ} (h : Quick text i quick) (n : quick ≡ 0 → ⊥) where
+  pub quick-room : p < length out
+  quick-room = vertex-room go (h .told n) refl
+
+  pub quick-fits : i + quick % 16 < 2 ^ 64
+  quick-fits = h .fits n
+
+  pub quick-less : left text (i + quick % 16) < left text i
+  quick-less = vertex-less go (h .told n) refl
+
+  pub quick-on : {r : ℕ} → r ≡ recordOf (wrapped (onSurface s (quick / 16)))
+      → Writing false s text start at before (i + quick % 16) (p + 1) (set out p r)
+  quick-on x = vertex-on go (h .told n) refl x
+
+pub ruleset overVertices = (
+  writing-start,
+  writing-kept,
+  vertices-end,
+  vertices-bad,
+  vertex-room,
+  vertex-less,
+  vertex-on,
+  quick-room,
+  quick-fits,
+  quick-less,
+  quick-on,
+  needs,
+)
 
 -- ---- Voxels.
 

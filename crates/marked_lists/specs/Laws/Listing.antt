@@ -2,7 +2,7 @@
 use mathlib.Core.Path.{_≡_, refl, sym, ap, _∙_, subst}
 use mathlib.Core.List.{List, [], _∷_}
 use mathlib.Core.Bool.{Bool, true, false, not, _||_, _&&_}
-use Prim.Native.Nat.{ℕ, _+_, _<_, _≤_}
+use Prim.Native.Nat.{ℕ, _+_, _/_, _%_, _^_, _<_, _≤_}
 use native.Mathlib.Omega.{arith}
 use lib.Dec.{eqb, ltb}
 use lib.ListN.{length}
@@ -14,6 +14,7 @@ use Rattle.nodes.specs.Texts.{left}
 use Rattle.nodes.specs.declared.Found.{Found}
 use Rattle.nodes.specs.declared.Found.the-variants.{At, Nothing}
 use Rattle.numbers.specs.Answers.{nextNumber}
+use Rattle.numbers.specs.Quick.{Quick}
 use Rattle.numbers.specs.declared.Next.{Next}
 use Rattle.numbers.specs.declared.Next.the-variants.{Number, End, Bad}
 use Rattle.cifti.specs.Maps.{Voxel, voxel, Listed, vertices, voxels, modelOf, threes, vertexNumbers, voxelsOf, sameVoxel}
@@ -85,7 +86,21 @@ module _ {text : List ℕ} {start surface first n i : ℕ} {before now : List �
             (rw (number-passes (go .counted .form) e q .splits) at (go .marks)) (rw x at m);
       }
 
-pub ruleset overVertices = (read-start, read-kept, read-done, read-bad, read-less, read-on, needs)
+-- the same, by a quick reading
+module _ {text : List ℕ} {start surface first n i : ℕ} {before now : List ℕ} {out apart : Bool}
+    (go : VerticesRead text start surface first before n out apart i now) {quick : ℕ} (h : Quick text i quick) (not-0 : quick ≡ 0 → ⊥)
+  where
+    pub quick-fits : i + quick % 16 < 2 ^ 64
+    quick-fits = h .fits not-0
+
+    pub quick-less : left text (i + quick % 16) < left text i
+    quick-less = read-less go (h .told not-0) refl
+
+    pub quick-on : {p : ℕ} → p ≡ vertexPlace first (quick / 16) → {new : Bool} {after : List ℕ} → Marked now p new after
+        → VerticesRead text start surface first before (n + 1) (out || not (ltb (quick / 16) surface)) (apart && new) (i + quick % 16) after
+    quick-on x m = read-on go (h .told not-0) refl x m
+
+pub ruleset overVertices = (read-start, read-kept, read-done, read-bad, read-less, read-on, quick-fits, quick-less, quick-on, needs)
 
 -- ---- Voxels, three numbers at a time.
 

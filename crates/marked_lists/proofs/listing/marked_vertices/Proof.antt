@@ -17,6 +17,12 @@ marked-vertices-spec {M = M} =
     μ-loop
     (λ c. search overVertices)
     (λ c κs. search overVertices)
+    (λ c. search overVertices)
+    (λ c κs. search overVertices)
+    (λ c κs. search overVertices)
+    (λ c. search overVertices)
+    (λ c. search overVertices)
+    (λ c. search overVertices)
     (λ c κs. search overVertices)
     (λ c. search overVertices)
     (λ c. search overVertices)
