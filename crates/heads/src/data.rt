@@ -1,5 +1,6 @@
 // CDATA.
 use super::characters::character_end;
+use blocks::past_quick;
 use letters::blanks::feed_end;
 use letters::blanks::mark_end;
 use letters::blanks::starts;
@@ -46,11 +47,11 @@ fn is_data_plain(a: u8) -> bool
         & (!(a == b']') & !(a == b'\r'))
 }
 
-// Where such bytes end.
-fn data_plain_end(text: &[u8], at: usize) -> usize
+// Where such bytes end: by blocks, and one by one behind the last block.
+fn far_data_plain_end(text: &[u8], at: usize) -> usize
     ensures { λ r. ⌜ Step.To r ≡ stepped (length (now (text .entry))) (span data-plain (drop at (now (text .entry)))) ⌝ }
 {
-    let mut i = at;
+    let mut i = past_quick(text, at);
     while i < text.len() {
         if !is_data_plain(text[i]) {
             return i;
@@ -58,6 +59,25 @@ fn data_plain_end(text: &[u8], at: usize) -> usize
         i += 1;
     }
     text.len()
+}
+
+// Where such bytes end. The first sixteen are read one by one, as those of plain text are.
+fn data_plain_end(text: &[u8], at: usize) -> usize
+    ensures { λ r. ⌜ Step.To r ≡ stepped (length (now (text .entry))) (span data-plain (drop at (now (text .entry)))) ⌝ }
+{
+    let mut i = at;
+    let mut k: usize = 0;
+    while k < 16 {
+        if text.len() <= i {
+            return text.len();
+        }
+        if !is_data_plain(text[i]) {
+            return i;
+        }
+        i += 1;
+        k += 1;
+    }
+    far_data_plain_end(text, i)
 }
 
 // The rest of CDATA, with its end.

@@ -6,7 +6,7 @@ use native.Mathlib.Omega.{arith}
 use mathlib.Core.Bool.{Bool, true, false, not, _&&_, _||_}
 use lib.Dec.{eqb, leb, ltb}
 use borrow.Author.Needs.{needs}
-use borrow.Author.Tests.{eqb-true, not-false, not-true}
+use borrow.Author.Tests.{eqb-true, ltb-true, ne-eqb, not-false, not-true}
 use lib.ListN.{length, take, drop, getD, take-append-drop}
 use lib.Seq.{take-add, drop-drop}
 use Rattle.lists.specs.Lists.{all}
@@ -17,6 +17,7 @@ use Rattle.grammar.specs.Characters.{lead1}
 use Rattle.grammar.specs.Read.{span}
 use Rattle.steps.specs.Step.{stepped, at-byte}
 use Rattle.steps.specs.Noted.{part}
+use Rattle.steps.specs.Leaves.{data-plain}
 use Rattle.steps.specs.Pieces.{plain}
 use Rattle.steps.specs.Blocks.{through, Through, other, shown, quick}
 use Rattle.steps.specs.Laws.Steps.{Spanning, span-on, span-start, span-all, span-rest, span-more, span-stops}
@@ -142,7 +143,7 @@ through-on {p} {text} {at} {i} k {t} e n =
 
 pub ruleset by-blocks = (through-start, through-on, needs)
 
--- PLAIN TEXT
+-- PLAIN TEXT AND CDATA
 quick-plain : (a : ℕ) → quick a ≡ true → plain a ≡ true
 unfolding quick plain lead1 blank special other shown
 quick-plain a h =
@@ -156,12 +157,35 @@ quick-plain a h =
     (λ range. and-both (or-second (blank a) range) (rw (tag, reference, bracket)))
     (λ feed. and-both (or-first (blank a) _ (rw (eqb-true a 10 feed))) (rw (tag, reference, bracket)))
 
-pub span-through : {text : List ℕ} {at i : ℕ} → Through quick text at i → Spanning plain text at i
-span-through {text} k = record {
-  same-end = through-passed quick (λ s. stepped (length text) (span plain s)) (λ a s h. span-on plain (length text) a s (quick-plain a h)) k;
+quick-data : (a : ℕ) → quick a ≡ true → data-plain a ≡ true
+unfolding quick data-plain lead1 blank other shown
+quick-data a h =
+    let h₂ = and-right (not (eqb a 38)) _ (and-right (not (eqb a 60)) _ h) in
+    let h₃ = and-right (not (eqb a 93)) _ h₂ in
+    let bracket = not-true (eqb a 93) (and-left (not (eqb a 93)) _ h₂) in
+    or-elim (data-plain a ≡ true) (ltb 31 a && leb a 127) (eqb a 10) h₃
+    (λ range.
+    let above = ltb-true 31 a (and-left (ltb 31 a) _ range) in
+    let return = ne-eqb a 13 (λ e. omega arith) in
+    and-both (or-second (blank a) range) (rw (bracket, return)))
+    (λ feed. rw (eqb-true a 10 feed))
+
+-- what each quick byte passes, blocks of them pass
+quick-through : (p : ℕ → Bool) → ((a : ℕ) → quick a ≡ true → p a ≡ true) → {text : List ℕ} {at i : ℕ} → Through quick text at i
+    → Spanning p text at i
+quick-through p q {text} k = record {
+  same-end = through-passed quick (λ s. stepped (length text) (span p s)) (λ a s h. span-on p (length text) a s (q a h)) k;
 }
+
+pub span-through : {text : List ℕ} {at i : ℕ} → Through quick text at i → Spanning plain text at i
+span-through = quick-through plain quick-plain
+
+pub data-through : {text : List ℕ} {at i : ℕ} → Through quick text at i → Spanning data-plain text at i
+data-through = quick-through data-plain quick-data
 
 -- behind the blocks, and before them
 pub ruleset far-spanning = (span-through, span-all, span-more, span-stops, needs)
+
+pub ruleset far-data-spanning = (data-through, span-all, span-more, span-stops, needs)
 
 pub ruleset near-spanning = (span-start, span-rest, span-more, span-stops, needs)
