@@ -15,13 +15,9 @@ pub fn is_name_start(b: u8) -> bool
     (((b'A' <= b) & (b <= b'Z')) | ((b'a' <= b) & (b <= b'z'))) | (b == b'_')
 }
 
-// Most bytes of names are small letters: the first test serves for speed alone.
 pub fn is_name_byte(b: u8) -> bool
     ensures { λ r. ⌜ r ≡ nameByte b ⌝ }
 {
-    if (b'a' <= b) & (b <= b'z') {
-        return true;
-    }
     (((b'A' <= b) & (b <= b'Z')) | ((b'a' <= b) & (b <= b'z')))
         | (((b'0' <= b) & (b <= b'9'))
             | ((b == b'_') | ((b == b'-') | ((b == b'.') | (b == b':')))))
