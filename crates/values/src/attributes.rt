@@ -4,6 +4,7 @@ use crate::value::value_fault;
 use heads::attributes::key_at;
 use heads::values::value_end;
 use letters::blanks::tag_ends;
+use letters::names::equal;
 use letters::names::name_end;
 use lookup::table;
 use nodes::Found;
@@ -13,30 +14,99 @@ ghost use mathlib.Core.Path.{_≡_};
 ghost use Prim.Native.Nat.{_<_};
 ghost use lib.ListN.{length, drop};
 ghost use Rattle.lists.specs.Lists.{all};
-ghost use Rattle.grammar.specs.Look.{attributesOf};
-ghost use Rattle.nodes.specs.Places.{the};
 ghost use Rattle.nodes.specs.Attributes.{keys-at, keys};
-ghost use Rattle.shape.specs.Table.{attributesBetween, attributesOfKind};
-ghost use Rattle.shape.specs.Parts.{attributeFault, attributesFault, nameListed, keyListed};
+ghost use Rattle.shape.specs.Table.{attributesBetween};
+ghost use Rattle.shape.specs.Parts.{nameListed, keyListed};
 ghost use Rattle.shape.specs.Asked.{Known};
+ghost use Rattle.values.specs.InTurn.{keysFrom, Within, Placed, Asking, Asked, Walked};
+
+// Where an attribute stands, and a place in the tag.
+struct Sought {
+    place: Found,
+    at: usize,
+}
+
+// The attribute with the name: it is met at `i`, and passed; or it is searched in the whole tag.
+fn seek(text: &[u8], at: usize, i: usize, name: &[u8]) -> Sought
+    requires { ⌜ Within (now text) at i ⌝ }
+    ensures { λ r. ⌜ Placed (now (text .entry)) at i (now (name .entry)) (r .place) (r .at) ⌝ }
+{
+    match key_at(text, i) {
+        Key::Is { from, to, end } => {
+            if equal(&text[from..to], name) {
+                match value_end(text, end) {
+                    Step::To(j) => {
+                        return Sought {
+                            place: Found::At(end),
+                            at: j,
+                        };
+                    }
+                    Step::No => {}
+                }
+            }
+        }
+        Key::No => {}
+    }
+    Sought {
+        place: inside::attributes::attribute(text, at, name),
+        at: i,
+    }
+}
+
+// A fault of attributes, and a place in the tag: those before it are of the row.
+pub(crate) struct Walk {
+    pub(crate) fault: u8,
+    pub(crate) at: usize,
+}
 
 // The fault of an attribute: it is missing, or its value is not of its form.
-fn attribute_fault(text: &[u8], at: usize, table: &[u32], letters: &[u8], a: usize) -> u8
-    requires { ⌜ Known (now text) at a ⌝ }
-    ensures { λ r. ⌜ r ≡ attributeFault (now (table .entry)) (now (letters .entry)) a (the (now (text .entry)) at) ⌝ }
+fn attribute_fault(
+    text: &[u8],
+    at: usize,
+    table: &[u32],
+    letters: &[u8],
+    a: usize,
+    i: usize,
+) -> Walk
+    requires { ⌜ Asking (now text) at a i ⌝ }
+    ensures { λ r. ⌜ Asked (now (table .entry)) (now (letters .entry)) (now (text .entry)) at a i (r .fault) (r .at) ⌝ }
 {
     let w = table::attribute_cell(table, a, 0);
-    match inside::attributes::attribute(text, at, table::word(table, letters, w)) {
+    let here = seek(text, at, i, table::word(table, letters, w));
+    let place = here.place;
+    match place {
         Found::At(v) => {
             let form = table::attribute_cell(table, a, 1);
-            return value_fault(text, v, table, letters, form);
+            Walk {
+                fault: value_fault(text, v, table, letters, form),
+                at: here.at,
+            }
         }
         Found::Nothing => {
             if table::attribute_cell(table, a, 2) == 0 {
-                return 6;
+                return Walk {
+                    fault: 6,
+                    at: here.at,
+                };
             }
-            return 0;
+            Walk {
+                fault: 0,
+                at: here.at,
+            }
         }
+    }
+}
+
+// Where the attributes of the tag at `at` begin.
+fn attributes_from(text: &[u8], at: usize) -> usize
+    ensures { λ r. ⌜ keys (now (text .entry)) at ≡ keysFrom (now (text .entry)) r ⌝ }
+{
+    if text.len() <= at {
+        return text.len();
+    }
+    match name_end(text, at + 1) {
+        Step::To(i) => i,
+        Step::No => text.len(),
     }
 }
 
@@ -47,19 +117,24 @@ pub(crate) fn attributes_fault(
     table: &[u32],
     letters: &[u8],
     kind: usize,
-) -> u8
+) -> Walk
     requires { ⌜ Known (now text) at kind ⌝ }
-    ensures { λ r. ⌜ r ≡ attributesFault (attributesOfKind (now (table .entry)) (now (letters .entry)) kind)
-        (attributesOf (the (now (text .entry)) at)) ⌝ }
+    ensures { λ r. ⌜ Walked (now (table .entry)) (now (letters .entry)) (now (text .entry)) at kind (r .fault) (r .at) ⌝ }
 {
     let to = table::kind_cell(table, kind, 1);
     let mut worst = 0;
     let mut w = table::kind_cell(table, kind, 0);
+    let mut i = attributes_from(text, at);
     while w < to {
-        worst = sooner(worst, attribute_fault(text, at, table, letters, w));
+        let next = attribute_fault(text, at, table, letters, w, i);
+        worst = sooner(worst, next.fault);
+        i = next.at;
         w += 1;
     }
-    worst
+    Walk {
+        fault: worst,
+        at: i,
+    }
 }
 
 // A name is that of one of the attributes from `from` up to `to`.
@@ -71,7 +146,7 @@ fn name_listed(name: &[u8], table: &[u32], letters: &[u8], from: usize, to: usiz
 }
 
 // Every attribute from `at` on is one of them.
-fn listed_from(
+pub(crate) fn listed_from(
     text: &[u8],
     at: usize,
     table: &[u32],
@@ -110,27 +185,5 @@ fn listed_from(
                 return true;
             }
         }
-    }
-}
-
-// Every attribute of the element at `at` is one of them.
-pub(crate) fn named_only(
-    text: &[u8],
-    at: usize,
-    table: &[u32],
-    letters: &[u8],
-    from: usize,
-    to: usize,
-) -> bool
-    requires { ⌜ to < 4294967296 ⌝ }
-    ensures { λ r. ⌜ r ≡ all (keyListed (attributesBetween (now (table .entry)) (now (letters .entry)) from to))
-        (keys (now (text .entry)) at) ⌝ }
-{
-    if text.len() <= at {
-        return true;
-    }
-    match name_end(text, at + 1) {
-        Step::To(i) => listed_from(text, i, table, letters, from, to),
-        Step::No => true,
     }
 }

@@ -1,6 +1,6 @@
 // An element's own part, by a lent table: the faults of its attributes and of the numbers in its text.
 use attributes::attributes_fault;
-use attributes::named_only;
+use attributes::listed_from;
 use faults::sooner;
 use lookup::table;
 use text::text_fault;
@@ -23,17 +23,17 @@ pub fn own_fault(text: &[u8], at: usize, table: &[u32], letters: &[u8], kind: us
     requires { ⌜ Known (now text) at kind ⌝ }
     ensures { λ r. ⌜ r ≡ ownFault (now (table .entry)) (now (letters .entry)) kind (the (now (text .entry)) at) ⌝ }
 {
-    let a = attributes_fault(text, at, table, letters, kind);
-    if a == 6 {
+    let walk = attributes_fault(text, at, table, letters, kind);
+    if walk.fault == 6 {
         return 6;
     }
     let from = table::kind_cell(table, kind, 0);
     let to = table::kind_cell(table, kind, 1);
-    if !named_only(text, at, table, letters, from, to) {
+    if !listed_from(text, walk.at, table, letters, from, to) {
         return 6;
     }
     sooner(
-        a,
+        walk.fault,
         text_fault(text, at, table, table::kind_cell(table, kind, 4)),
     )
 }

@@ -57,15 +57,19 @@ fn number_by(text: &[u8], v: usize, form: usize, a: usize, b: usize, c: usize) -
     label_by(text, v, form)
 }
 
-// The value is a number or numbers of its form.
+// The value is a number or numbers of its form; those of labels have no limits.
 fn number_right(text: &[u8], v: usize, table: &[u32], letters: &[u8], form: usize) -> bool
     requires { ⌜ form < 4294967296 ⌝ }
     ensures { λ r. ⌜ r ≡ isNumber (formAt (now (table .entry)) (now (letters .entry)) form) (value-there (now (text .entry)) v) ⌝ }
 {
+    let f = table::form_cell(table, form, 0);
+    if 6 < f {
+        return label_by(text, v, f);
+    }
     let a = table::form_cell(table, form, 1);
     let b = table::form_cell(table, form, 2);
     let c = table::form_cell(table, form, 3);
-    number_by(text, v, table::form_cell(table, form, 0), a, b, c)
+    number_by(text, v, f, a, b, c)
 }
 
 // The fault of a value.

@@ -3,10 +3,9 @@ use mathlib.Core.Path.{_≡_, refl, ap, sym, _∙_}
 use mathlib.Core.List.{List}
 use mathlib.Core.Option.{Option, some}
 use mathlib.Core.Option
-use mathlib.Core.Bool.{Bool, true, false, _&&_, not}
+use mathlib.Core.Bool.{Bool, true, false, not}
 use Prim.Native.Nat.{ℕ, zero, suc, _+_, _-_, _<_, _≤_}
 use native.Mathlib.Omega.{arith}
-use borrow.Author.Needs.{needs}
 use borrow.Author.Tests.{not-true, not-false}
 use Rattle.lists.specs.Lists.{all, countUp, there, ifThere}
 use Rattle.lists.specs.Laws.Tables.{up-one, up-done}
@@ -25,7 +24,6 @@ use Rattle.shape.specs.Table.{attributesTo, textAt}
 use Rattle.shape.specs.Faults.{fault, sooner}
 use Rattle.shape.specs.Parts.{namedOnly, valueFault, attributeFault, attributesFault, textFault, ownFault, keyListed}
 use Rattle.shape.specs.Asked.{Known}
-use Rattle.shape.specs.Laws.Asked.{known-small, known-stands, known-other}
 use Rattle.shape.specs.Laws.Faults.{fault-and, IsFault, is-fault, is-none, is-six, sooner-fault, sooner-turned, sooner-three}
 use Rattle.shape.specs.Laws.Faults.{none-sooner, sooner-none, six-first}
 use Rattle.shape.specs.Laws.Keys.{listed-law}
@@ -103,8 +101,6 @@ module _ (t l : List ℕ) {text : List ℕ} {at a : ℕ} (p : Known text at a) {
             (formAt t l (attributeCell t a 1)) (attributeCell t a 2) o,
       )
 
-pub ruleset attributing = (attribute-missing, attribute-spared, attribute-there, known-small, needs)
-
 -- THE ATTRIBUTES OF A KIND
 pub record Fitting (t l text : List ℕ) (at kind to worst w : ℕ) : Type 0 where
   pub of-kind : Known text at kind
@@ -147,8 +143,6 @@ module _ {t l text : List ℕ} {at kind to worst w : ℕ} (go : Fitting t l text
   unfolding attributesFault all fault
   fitting-end h = sym (go .same-fault ∙ rw (up-done (attributeAt t l) w to h) (sooner-none worst))
 
-pub ruleset fitting = (fitting-start, fitting-attributed, fitting-room, fitting-on, fitting-end, known-small, known-stands, needs)
-
 -- THE ELEMENT'S OWN PART
 attributes-faulty : (r : List AttributeRow) (l : List Attribute) → IsFault (attributesFault r l)
 unfolding attributesFault
@@ -190,5 +184,3 @@ module _ (t l : List ℕ) {text : List ℕ} {at kind : ℕ} (p : Known text at k
         → s ≡ sooner a r → s ≡ ownFault t l kind (the text at)
     unfolding ownFault fault textAt
     own-text h u r s = s ∙ rw (r, u) (sym (rw (named-as, not-false b h, ← i) (none-sooner _)))
-
-pub ruleset owning = (own-six, own-other, own-text, known-other, known-small, known-stands, needs)

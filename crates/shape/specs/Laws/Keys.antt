@@ -1,31 +1,27 @@
 -- Attributes by their names: every one is listed. The walk over keys is that of nodes.
 use mathlib.Core.Path.{_≡_, refl, ap, sym, _∙_}
-use mathlib.Core.List.{List, [], _∷_}
+use mathlib.Core.List.{List}
 use Prim.Native.String.{String}
 use Prim.Native.Nat.{ℕ, zero, suc, _+_, _-_, _≤_, _<_}
-use native.Mathlib.Omega.{arith}
 use mathlib.Core.Bool.{Bool, true, false, not, _&&_, _||_}
 use borrow.Author.Needs.{needs}
 use borrow.Author.Tests.{not-true, not-false}
 use lib.Dec.{ltb}
-use lib.ListN.{length, drop, length-drop}
+use lib.ListN.{length, drop}
 use Rattle.lists.specs.Lists.{all, any, countUp}
-use Rattle.grammar.specs.Bytes.{ascii}
-use Rattle.grammar.specs.Document.{Attribute, attribute}
+use Rattle.grammar.specs.Document.{Attribute}
 use Rattle.grammar.specs.Look.{Word, is, attributesOf}
-use Rattle.grammar.specs.Read.{Read, fail, got, bind, byte, ok-got}
-use Rattle.grammar.specs.Parser.{name-at, gap-at, equals-at, value-at, ends, closing, same}
-use Rattle.steps.specs.Step.{stepped, at-end, fell, Went, went}
-use Rattle.steps.specs.Leaves.{name-tails, value-tails}
+use Rattle.grammar.specs.Parser.{value-at, ends, closing}
+use Rattle.steps.specs.Step.{stepped}
 use Rattle.steps.specs.Noted.{part}
 use Rattle.steps.specs.Keys as tokens-keys
-use Rattle.steps.specs.Keys.{keyed, Keyed}
+use Rattle.steps.specs.Keys.{keyed}
 use Rattle.steps.specs.declared.Step.{Step}
 use Rattle.steps.specs.declared.Step.the-variants.{To, No}
 use Rattle.steps.specs.declared.attributes.Key as token-key
 use Rattle.steps.specs.declared.attributes.Key.the-variants as key-is
-use Rattle.nodes.specs.Places.{Stands, the, pick}
-use Rattle.nodes.specs.Attributes.{Key, key-bytes, key, keys-at, keys-by, keys-then, keys-step, key-eats, value-keeps, keys, keys-in}
+use Rattle.nodes.specs.Places.{Stands, the}
+use Rattle.nodes.specs.Attributes.{Key, keys-at, keys}
 use Rattle.nodes.specs.Attributes.{Hold, no-key, one-key, keys-law}
 use Rattle.nodes.specs.Laws.Attributes.{keys-end, keys-none, keys-more, keys-stuck, keys-go, keys-fall}
 use Rattle.schema.specs.Schema.{Form, AttributeRow, rowName, isNamed}
@@ -115,28 +111,6 @@ pub ruleset listing = (
   key-inside,
   needs,
 )
-
--- OF AN ELEMENT
-module _ (r : List AttributeRow) (text : List ℕ) (at : ℕ) where
-  no-tag : length text ≤ at → keys text at ≡ []
-  unfolding keys keys-in name-at bind byte
-  no-tag h = let k : length text ≤ at + 1 = omega arith in rw (at-end text (at + 1) k)
-
-  pub listed-past : length text ≤ at → true ≡ all (keyListed r) (keys text at)
-  unfolding all
-  listed-past h = rw (no-tag h)
-
-  module _ {x : Step} (ex : x ≡ stepped (length text) (name-at (drop (at + 1) text))) where
-    pub listed-unnamed : x ≡ No → true ≡ all (keyListed r) (keys text at)
-    unfolding all keys keys-in
-    listed-unnamed w = rw (fell (length text) (name-at (drop (at + 1) text)) (sym w ∙ ex))
-
-    pub listed-there : {i : ℕ} → x ≡ To i → {b : Bool} → b ≡ all (keyListed r) (keys-at (length text) (drop i text))
-        → b ≡ all (keyListed r) (keys text at)
-    unfolding keys keys-in
-    listed-there {i} w e = e ∙ rw (went name-at text (at + 1) i (name-tails (drop (at + 1) text)) (sym w ∙ ex) .reads)
-
-pub ruleset listed = (listed-past, listed-unnamed, listed-there, needs)
 
 -- THE LAW
 held-listed : (r : List AttributeRow) {text : List ℕ} {ks : List Key} {l : List Attribute} → Hold text ks l

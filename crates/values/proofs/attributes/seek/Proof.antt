@@ -1,0 +1,21 @@
+use Rattle.values.specs.Laws.InTurn.{seeking}
+use Rattle.values.proofs.attributes.seek.Statement.{statement}
+use Rattle.values.proofs.attributes.seek.Tie as tie
+
+pub seek-spec : {M : Type 1} → statement M
+seek-spec {M = M} =
+    let closed = tie.spec {M = M}
+    (λ c κs. search seeking)
+    (λ c. search seeking)
+    (λ c. search seeking)
+    (λ c. search seeking)
+    (λ c. search seeking)
+    (λ c κs. search seeking)
+    (λ c κs. search seeking)
+    (λ c. search seeking)
+    (λ c. search seeking)
+    (λ c. search seeking)
+    (λ c. search seeking)
+    (λ c κs. search seeking)
+    (λ c. search seeking)
+    in tie.close closed

@@ -1,0 +1,49 @@
+-- The attributes of a tag, met one by one in the order of a row.
+use mathlib.Core.Path.{_≡_}
+use mathlib.Core.List.{List, _∷_, _++_}
+use Prim.Native.Nat.{ℕ}
+use lib.ListN.{length, drop}
+use Rattle.nodes.specs.Places.{the, Stands}
+use Rattle.nodes.specs.Attributes.{Key, key, keys-at, keys, place}
+use Rattle.nodes.specs.declared.Found.{Found}
+use Rattle.lists.specs.Lists.{all}
+use Rattle.grammar.specs.Bytes.{ascii}
+use Rattle.grammar.specs.Look.{attributesOf}
+use Rattle.shape.specs.Table.{wordAt, attributeCell, attributesOfKind}
+use Rattle.shape.specs.Parts.{attributeFault, attributesFault, keyListed}
+use Rattle.shape.specs.Asked.{Known}
+
+-- the attributes from a place of the text on
+abbrev pub keysFrom : List ℕ → ℕ → List Key
+keysFrom text i = keys-at (length text) (drop i text)
+
+-- from one place to another, over no attribute or over one, which has the name
+pub data Over (text name : List ℕ) (from : ℕ) : ℕ → Type 0 where
+  none-passed : Over text name from from
+  one-passed : {value to : ℕ} → keysFrom text from ≡ key name value ∷ keysFrom text to → Over text name from to
+
+-- the attributes of the tag of the element at `at` go on at a place
+pub record Within (text : List ℕ) (at i : ℕ) : Type 0 where
+  pub stands : Stands text at
+  pub before : List Key
+  pub parts : keys text at ≡ before ++ keysFrom text i
+
+-- where the attribute with the name stands, and a place to which the attributes were passed
+pub record Placed (text : List ℕ) (at i : ℕ) (name : List ℕ) (found : Found) (to : ℕ) : Type 0 where
+  pub there : found ≡ place text at name
+  pub passed : Over text name i to
+
+-- an attribute of a row is asked for at a place
+pub record Asking (text : List ℕ) (at a i : ℕ) : Type 0 where
+  pub known : Known text at a
+  pub within : Within text at i
+
+-- its fault, and a place to which the attributes were passed
+pub record Asked (t l text : List ℕ) (at a i fault to : ℕ) : Type 0 where
+  pub right : fault ≡ attributeFault t l a (the text at)
+  pub passed : Over text (ascii (wordAt t l (attributeCell t a 0))) i to
+
+-- the fault of all attributes of a kind's row; those of the tag are all of the row if those from the place on are
+pub record Walked (t l text : List ℕ) (at kind fault i : ℕ) : Type 0 where
+  pub right : fault ≡ attributesFault (attributesOfKind t l kind) (attributesOf (the text at))
+  pub named : all (keyListed (attributesOfKind t l kind)) (keys text at) ≡ all (keyListed (attributesOfKind t l kind)) (keysFrom text i)
