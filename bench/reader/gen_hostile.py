@@ -161,16 +161,18 @@ def named_maps():
                   + b"</MatrixIndicesMap>"), [len(names) // len(one), 1], 0
 
 
-def labels(order):
-    """One table of labels as long as the text allows; `order` puts its keys in order."""
+def labels(order, keys=None):
+    """One table of labels as long as the text allows, with keys from 0 up or the first of those given; `order` puts them in order."""
     start = MAP % (b"0", b"LABELS") + b"<NamedMap><MapName>a</MapName><LabelTable>"
     end = b"</LabelTable></NamedMap></MatrixIndicesMap>" + BRAIN + surface(0, [0]) + b"</MatrixIndicesMap>"
-    label, left, keys = b'<Label Key="%d" Red="0" Green="0" Blue="0" Alpha="1"/>', LIMIT - len(matrix(start + end)), []
-    while left >= len(label % len(keys)):
-        left -= len(label % len(keys))
-        keys.append(len(keys))
-    order(keys)
-    return matrix(start + b"".join(label % key for key in keys) + end), [1, 1], 0
+    label, left, used = b'<Label Key="%d" Red="0" Green="0" Blue="0" Alpha="1"/>', LIMIT - len(matrix(start + end)), []
+    for key in keys or range(LIMIT):
+        left -= len(label % key)
+        if left < 0:
+            break
+        used.append(key)
+    order(used)
+    return matrix(start + b"".join(label % key for key in used) + end), [1, 1], 0
 
 
 def labels_rising():
@@ -183,6 +185,11 @@ def labels_falling():
 
 def labels_random():
     return labels(random.Random(4).shuffle)
+
+
+def labels_far():
+    """Keys so far apart that no small table of marks tells them apart."""
+    return labels(list, random.Random(5).sample(range(2147483648), 400000))
 
 
 def metadata():
@@ -217,7 +224,7 @@ def siblings_then_fault():
 
 TEXTS = [bare_models, alike_models, one_tag_of_attributes, tags_of_attributes, long_names, comments_between,
          comments_in_numbers, references, late_repeat_vertices, descending_vertices, woven_vertices,
-         late_repeat_voxels, late_overlap, named_maps, labels_rising, labels_falling, labels_random, metadata, maps,
+         late_repeat_voxels, late_overlap, named_maps, labels_rising, labels_falling, labels_random, labels_far, metadata, maps,
          dimensions, blanks, open_tags, open_comment, siblings_then_fault, numbers_plain, numbers_in_data, data_round_digits,
          empty_data_in_list, empty_data_between, brackets_in_data]
 

@@ -14,7 +14,7 @@ ghost use Rattle.nodes.specs.Fronts.{behind-quote, begins-at};
 ghost use Rattle.nodes.specs.Found.{value-at-name};
 
 // The decoded byte at `at` in a value between two quotes.
-pub fn decoded(text: &[u8], at: usize, quote: u8) -> Char
+fn any_decoded(text: &[u8], at: usize, quote: u8) -> Char
     ensures { λ r. ⌜ r ≡ decoded-at (now (text .entry)) at quote ⌝ }
 {
     if text.len() <= at {
@@ -39,6 +39,23 @@ pub fn decoded(text: &[u8], at: usize, quote: u8) -> Char
     }
     if is_blank(b) {
         return Char::Byte(b' ', at + 1);
+    }
+    Char::Byte(b, at + 1)
+}
+
+// The same, quick where the byte is the quote, or reads as itself: those above the ampersand do.
+pub fn decoded(text: &[u8], at: usize, quote: u8) -> Char
+    ensures { λ r. ⌜ r ≡ decoded-at (now (text .entry)) at quote ⌝ }
+{
+    if text.len() <= at {
+        return any_decoded(text, at, quote);
+    }
+    let b = text[at];
+    if b == quote {
+        return Char::End;
+    }
+    if b <= b'&' {
+        return any_decoded(text, at, quote);
     }
     Char::Byte(b, at + 1)
 }

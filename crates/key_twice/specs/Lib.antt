@@ -1,3 +1,3 @@
-pub mod Rising
+pub mod Marked
 pub mod Parts
 pub mod Laws

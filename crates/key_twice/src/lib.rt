@@ -1,17 +1,17 @@
-// Whether a key stands twice in the table of labels at a place, with no memory lent: a table whose keys rise, or fall, is told in one walk,
-// any other by parts, each as long as there is room for.
+// Whether a key stands twice in the table of labels at a place, with no memory lent: a small table is told by its keys in their order, a
+// large one by marks where the place of each key is new, and else by parts, each as long as there is room for.
 
-// Keys that rise, or fall.
-mod rising;
+// The keys, each marked in a place of its own.
+mod marked;
 // A part of the keys in their order, and what comes behind it.
 mod parts;
 
 use known_keys::taken;
 use label_table::labels::first_label;
+use marked::all_new;
 use nodes::Kid;
+use parts::neighbours_alike;
 use parts::part_twice;
-use rising::falls;
-use rising::rises;
 ghost use mathlib.Core.Path.{_≡_};
 ghost use Prim.Native.Nat.{_<_};
 ghost use lib.ListN.{length};
@@ -40,23 +40,27 @@ fn search_in(text: &[u8], at: usize, work: &mut [u64]) -> bool
     }
 }
 
-// The same, with room for 32,768 keys.
+// The same, with room for 32,768 keys or for 2,097,152 marks.
 fn searched(text: &[u8], at: usize) -> bool
     ensures { λ r. ⌜ r ≡ twiceAt (now (text .entry)) at ⌝ }
 {
     let mut work = [0u64; 32768];
+    if all_new(text, at, &mut work[..]) {
+        return false;
+    }
     search_in(text, at, &mut work[..])
 }
 
-// A key stands twice in the table at `at`.
+// A key stands twice in the table at `at`. A small table is one part, in little room: to clear much for it would take longer.
 pub fn key_twice(text: &[u8], at: usize) -> bool
     ensures { λ r. ⌜ r ≡ twiceAt (now (text .entry)) at ⌝ }
 {
-    if rises(text, at) {
-        return false;
+    let mut work = [0u64; 256];
+    let turn = taken(text, first_label(text, at), &mut work[..]);
+    let n = turn.n;
+    let next = turn.next;
+    match next {
+        Kid::Child(_) => searched(text, at),
+        Kid::Done => neighbours_alike(&work[..n]),
     }
-    if falls(text, at) {
-        return false;
-    }
-    searched(text, at)
 }

@@ -12,7 +12,7 @@ ghost use Rattle.known_keys.specs.Order.{inOrder};
 ghost use Rattle.key_twice.specs.Parts.{someIn, partTwice};
 
 // Two numbers are equal. Those in order are so next to each other.
-fn neighbours_alike(keys: &[u64]) -> bool
+pub(crate) fn neighbours_alike(keys: &[u64]) -> bool
     requires { ⌜ inOrder (now keys) ≡ true ⌝ }
     ensures { λ r. ⌜ r ≡ twoOf eqb (now (keys .entry)) ⌝ }
 {

@@ -18,10 +18,10 @@ fn label_from(text: &[u8], from: Kid) -> Kid
     loop {
         match kid {
             Kid::Child(k) => {
-                kid = next_child(text, k);
                 if name_is(text, k, b"Label") {
                     return Kid::Child(k);
                 }
+                kid = next_child(text, k);
             }
             Kid::Done => {
                 return Kid::Done;

@@ -3,6 +3,7 @@
 use nodes::Char;
 use number_lists::chars::char_at;
 use number_lists::chars::digits;
+use number_lists::chars::wide;
 use numbers::Exponent;
 use numbers::Lengths;
 use numbers::Part;
@@ -19,6 +20,7 @@ ghost use Rattle.numbers.specs.Stream.{stream};
 ghost use Rattle.grammar.specs.Bytes.{between};
 ghost use Rattle.numbers.specs.Answers.{wholeIn, listedIn, betweenIn, threeIn, exponentIn, exponentFrom, signIf};
 ghost use Rattle.numbers.specs.Parted.{Parted};
+ghost use Rattle.numbers.specs.declared.Source.the-variants.{Value};
 
 // The number at `at` up to a comma or the end.
 pub fn part_at(text: &[u8], at: usize, source: Source, most: u64, lo: u64, hi: u64) -> Part
@@ -95,6 +97,23 @@ fn is_within(d: u64, lo: u64, hi: u64) -> u64
     1
 }
 
+// One digit up to a comma or the end of a value; quick where a digit and a comma stand plain.
+fn dimension_at(text: &[u8], at: usize, quote: u8) -> Part
+    ensures { λ r. ⌜ Parted (Value quote) (now (text .entry)) 1 0 9 at r ⌝ }
+{
+    if text.len() <= at {
+        return part_at(text, at, Source::Value(quote), 1, 0, 9);
+    }
+    if text.len() - at < 2 {
+        return part_at(text, at, Source::Value(quote), 1, 0, 9);
+    }
+    let d = text[at];
+    if (quote < b',') & ((text[at + 1] == b',') & ((b'0' <= d) & (d <= b'9'))) {
+        return Part::Comma(wide(d - b'0'), at + 2);
+    }
+    part_at(text, at, Source::Value(quote), 1, 0, 9)
+}
+
 // How many of the dimensions that the value at `at` lists are from `lo` to `hi`.
 pub fn dimensions_between(text: &[u8], at: usize, lo: u64, hi: u64) -> Whole
     ensures { λ r. ⌜ r ≡ betweenIn lo hi (value-there (now (text .entry)) at) ⌝ }
@@ -102,11 +121,11 @@ pub fn dimensions_between(text: &[u8], at: usize, lo: u64, hi: u64) -> Whole
     if text.len() <= at {
         return Whole::No;
     }
-    let source = Source::Value(text[at]);
+    let quote = text[at];
     let mut n: u64 = 0;
     let mut i = at + 1;
     loop {
-        match part_at(text, i, source, 1, 0, 9) {
+        match dimension_at(text, i, quote) {
             Part::Comma(d, j) => {
                 n += is_within(d, lo, hi);
                 i = j;

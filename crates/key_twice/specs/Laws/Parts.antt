@@ -1,6 +1,6 @@
 -- Numbers in order are twice there where two neighbours are equal; a table is told part by part.
 use mathlib.Core.Path.{_≡_, refl, sym, ap, _∙_}
-use mathlib.Core.List.{List, [], _∷_, _++_}
+use mathlib.Core.List.{List, [], _∷_, _++_, append-nil}
 use mathlib.Core.Bool.{Bool, true, false, _&&_, _||_, cond, true≢false}
 use Prim.Native.Nat.{ℕ, _+_, _^_, _≤_, _<_}
 use native.Mathlib.Omega.{arith}
@@ -18,7 +18,7 @@ use Rattle.nodes.specs.declared.Kid.{Kid}
 use Rattle.nodes.specs.declared.Kid.the-variants.{Child, Done}
 use Rattle.comparison.specs.Matched.{member, Reordered}
 use Rattle.label_table.specs.Labels.{twiceAt, firstLabel, nextLabel}
-use Rattle.key_codes.specs.Codes.{codeHere}
+use Rattle.key_codes.specs.Codes.{codeHere, codesAt}
 use Rattle.key_codes.specs.Laws.Codes.{twice-codes}
 use Rattle.key_codes.specs.Laws.Walks.{toCome, walk-less, come-more, come-first, come-done}
 use Rattle.known_keys.specs.Order.{orderedFrom, inOrder}
@@ -233,3 +233,12 @@ pub ruleset searching = (
   searching-on,
   needs,
 )
+
+-- ---- A table that is one part.
+
+pub whole-told : (text : List ℕ) (at : ℕ) {kid : Kid} → kid ≡ firstLabel text at → {work : List ℕ} {n : ℕ} {next : Kid}
+    → Taken text kid work n next → next ≡ Done → {b : Bool} → b ≡ twoOf eqb (take n work) → b ≡ twiceAt text at
+whole-told text at e t d h =
+    let all : t .codes ≡ codesAt text at =
+    sym (append-nil (t .codes)) ∙ ap (λ l. t .codes ++ l) (sym (come-done text d)) ∙ t .parts ∙ come-first text at e in
+    h ∙ two-kept (t .reordered) ∙ ap (twoOf eqb) all ∙ sym (twice-codes text at)

@@ -10,18 +10,18 @@ abbrev μ-loop : tie.MeasureT-loop
 μ-loop text kid₀ t5 kid = ahead text kid
 
 pub label-from-spec : {M : Type 1} → statement M
-label-from-spec =
-    tie.close
-    (tie.spec
+label-from-spec {M = M} =
+    let closed = tie.spec {M = M}
     Inv-loop
     μ-loop
     (λ c. search searching)
     (λ c. search searching)
-    (λ c κs. search searching)
     (λ c. search searching)
     (λ c κs. search searching)
     (λ c. search searching)
+    (λ c κs. search searching)
     (λ c. search searching)
     (λ c. search searching)
     (λ c. search searching)
-    (λ c. search searching))
+    (λ c. search searching)
+    in tie.close closed
