@@ -2,6 +2,12 @@ use Rattle.key_lists.specs.Laws.KeyLists.{key-texts}
 use Rattle.key_lists.proofs.are_keys.Statement.{statement}
 use Rattle.key_lists.proofs.are_keys.Tie as tie
 
+returns : tie.Need-returns
+returns c = search key-texts
+
+returns-2 : tie.Need-returns-2
+returns-2 c = search key-texts
+
 pub are-keys-spec : {M : Type 1} → statement M
 are-keys-spec {M = M} =
     let closed = tie.spec {M = M}
@@ -9,6 +15,6 @@ are-keys-spec {M = M} =
     (λ c. search key-texts)
     (λ c κs. search key-texts)
     (λ c. search key-texts)
-    (λ c. search key-texts)
-    (λ c. search key-texts)
+    returns
+    returns-2
     in tie.close closed

@@ -11,6 +11,12 @@ Inv-loop answer records n left₀ at₀ round₀ left at round = Seeking (answer
 abbrev μ-loop : tie.MeasureT-loop
 μ-loop answer records n left₀ at₀ round₀ left at round = 3 - round
 
+returns : tie.Need-returns Inv-loop μ-loop
+returns c = search seekSteps
+
+loop-again : tie.Need-loop-again Inv-loop μ-loop
+loop-again c = search seekSteps
+
 pub record-line-at-spec : {M : Type 1} → statement M
 record-line-at-spec {M = M} =
     let closed = tie.spec {M = M}
@@ -24,10 +30,10 @@ record-line-at-spec {M = M} =
     (λ c. search seekSteps)
     (λ c. omega arith)
     (λ c κs. omega arith)
-    (λ c. search seekSteps)
+    returns
     (λ c. omega arith)
     (λ c. omega arith)
     (λ c. omega arith)
-    (λ c. search seekSteps)
+    loop-again
     (λ c. search seekSteps)
     in tie.close closed

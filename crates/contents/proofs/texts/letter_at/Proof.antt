@@ -2,6 +2,12 @@ use Rattle.nodes.specs.Laws.Texts.{lettering}
 use Rattle.contents.proofs.texts.letter_at.Statement.{statement}
 use Rattle.contents.proofs.texts.letter_at.Tie as tie
 
+returns-2 : tie.Need-returns-2
+returns-2 c = search lettering
+
+returns-4 : tie.Need-returns-4
+returns-4 c = search lettering
+
 pub letter-at-spec : {M : Type 1} → statement M
 letter-at-spec {M = M} =
     let closed = tie.spec {M = M}
@@ -9,13 +15,13 @@ letter-at-spec {M = M} =
     (λ c. search lettering)
     (λ c κs. search lettering)
     (λ c. search lettering)
-    (λ c. search lettering)
+    returns-2
     (λ c. search lettering)
     (λ c. search lettering)
     (λ c. search lettering)
     (λ c. search lettering)
     (λ c κs. search lettering)
-    (λ c. search lettering)
+    returns-4
     (λ c. search lettering)
     (λ c. search lettering)
     in tie.close closed

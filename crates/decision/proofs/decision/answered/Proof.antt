@@ -6,6 +6,12 @@ use borrow.Author.Needs.{needs}
 use Rattle.decision.proofs.decision.answered.Statement.{statement}
 use Rattle.decision.proofs.decision.answered.Tie as tie
 
+returns : tie.Need-returns
+returns c = search chooseSteps
+
+returns-3 : tie.Need-returns-3
+returns-3 c = search chooseSteps
+
 pub answered-spec : {M : Type 1} → statement M
 answered-spec {M = M} =
     let closed = tie.spec {M = M}
@@ -15,7 +21,7 @@ answered-spec {M = M} =
     (λ c κs. search needs)
     (λ c. search needs)
     (λ c. search needs)
-    (λ c. search chooseSteps)
+    returns
     (λ c κs. search needs)
     (λ c. search needs)
     (λ c. search needs)
@@ -24,5 +30,5 @@ answered-spec {M = M} =
     (λ c κs. search needs)
     (λ c. search needs)
     (λ c. search needs)
-    (λ c. search chooseSteps)
+    returns-3
     in tie.close closed

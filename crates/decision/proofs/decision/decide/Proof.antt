@@ -3,6 +3,9 @@ use borrow.Author.Needs.{needs}
 use Rattle.decision.proofs.decision.decide.Statement.{statement}
 use Rattle.decision.proofs.decision.decide.Tie as tie
 
+returns-3 : tie.Need-returns-3
+returns-3 c = search decideSteps
+
 pub decide-spec : {M : Type 1} → statement M
 decide-spec {M = M} =
     let closed = tie.spec {M = M}
@@ -23,5 +26,5 @@ decide-spec {M = M} =
     (λ c. search needs)
     (λ c. search decideSteps)
     (λ c. search needs)
-    (λ c. search decideSteps)
+    returns-3
     in tie.close closed

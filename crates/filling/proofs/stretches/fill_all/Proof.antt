@@ -12,15 +12,21 @@ Inv-loop text maps judged records₀ next₀ i₀ records next i =
 abbrev μ-loop : tie.MeasureT-loop
 μ-loop text maps judged records₀ next₀ i₀ records next i = maps .count - i
 
+loop-holds : tie.Need-loop-holds Inv-loop μ-loop
+loop-holds c = search filling
+
+fill-one-requires : tie.Need-fill-one-requires Inv-loop μ-loop
+fill-one-requires c κs = search filling
+
 pub fill-all-spec : {M : Type 1} → statement M
 fill-all-spec {M = M} =
     let closed = tie.spec {M = M}
     Inv-loop
     μ-loop
-    (λ c. search filling)
+    loop-holds
     (λ c κs. search filling)
     (λ c κs. search filling)
-    (λ c κs. search filling)
+    fill-one-requires
     (λ c. search filling)
     (λ c. search filling)
     (λ c. search filling)

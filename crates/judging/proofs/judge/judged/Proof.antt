@@ -10,9 +10,8 @@ abbrev μ-loop : tie.MeasureT-loop
 μ-loop text maps work₀ all₀ i₀ work all i = maps .count - i
 
 pub judged-spec : {M : Type 1} → statement M
-judged-spec =
-    tie.close
-    (tie.spec
+judged-spec {M = M} =
+    let closed = tie.spec {M = M}
     Inv-loop
     μ-loop
     (λ c κs. search judging)
@@ -24,4 +23,5 @@ judged-spec =
     (λ c. search judging)
     (λ c. search judging)
     (λ c. search judging)
-    (λ c. search judging))
+    (λ c. search judging)
+    in tie.close closed
