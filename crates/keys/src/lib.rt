@@ -17,6 +17,7 @@ ghost use Rattle.nodes.specs.Values.{value-there};
 ghost use Rattle.numbers.specs.Numbers.{key, colour};
 ghost use Rattle.numbers.specs.Answers.{keyIn, keyFrom, keyLimit, signIf};
 ghost use Rattle.numbers.specs.Stream.{stream};
+ghost use Rattle.keys.specs.Colours.{AtSight};
 
 // The greatest number behind a sign.
 pub fn key_limit(negative: bool) -> u64
@@ -68,10 +69,28 @@ pub fn is_key(text: &[u8], at: usize) -> bool
     }
 }
 
+// Whether the value at `at` is 0 or 1 and nothing else, as most colours are; no says nothing.
+fn is_zero_or_one(text: &[u8], at: usize) -> bool
+    ensures { λ r. ⌜ AtSight (now (text .entry)) at r ⌝ }
+{
+    if text.len() <= at {
+        return false;
+    }
+    if text.len() - at < 3 {
+        return false;
+    }
+    let q = text[at];
+    let d = text[at + 1];
+    ((q < b'0') & (text[at + 2] == q)) & ((d == b'0') | (d == b'1'))
+}
+
 // The value at `at` is a colour.
 pub fn is_colour(text: &[u8], at: usize) -> bool
     ensures { λ r. ⌜ r ≡ colour (value-there (now (text .entry)) at) ⌝ }
 {
+    if is_zero_or_one(text, at) {
+        return true;
+    }
     match decimals::decimal_value(text, at) {
         Decimals::Is(d) => in_shade(d.amount, d.power),
         Decimals::No => false,

@@ -20,7 +20,7 @@ use Rattle.numbers.specs.Laws.Stream.{Moves, char-byte}
 use Rattle.numbers.specs.declared.Source.the-variants.{Value}
 use Rattle.numbers.specs.declared.Part.the-variants.{Comma}
 
-plain : (q : ℕ) (text : List ℕ) (i : ℕ) → i < length text → 38 < getD text i 0 → (getD text i 0 ≡ q → ⊥)
+pub plain : (q : ℕ) (text : List ℕ) (i : ℕ) → i < length text → 38 < getD text i 0 → (getD text i 0 ≡ q → ⊥)
     → Moves (Value q) text i (getD text i 0) (i + 1)
 unfolding charAt
 plain q text i h a n = char-byte (Value q) text i
