@@ -2,12 +2,6 @@ use Rattle.key_lists.specs.Laws.KeyLists.{key-digits}
 use Rattle.key_lists.proofs.key_from.Statement.{statement}
 use Rattle.key_lists.proofs.key_from.Tie as tie
 
-returns-3 : tie.Need-returns-3
-returns-3 c = search key-digits
-
-cast-t10 : tie.Need-cast-t10
-cast-t10 c = search key-digits
-
 pub key-from-spec : {M : Type 1} → statement M
 key-from-spec {M = M} =
     let closed = tie.spec {M = M}
@@ -16,8 +10,8 @@ key-from-spec {M = M} =
     (λ c κs. search key-digits)
     (λ c. search key-digits)
     (λ c κs. search key-digits)
-    returns-3
+    (λ c. search key-digits)
     (λ c κs. search key-digits)
-    cast-t10
+    (λ c. search key-digits)
     (λ c. search key-digits)
     in tie.close closed

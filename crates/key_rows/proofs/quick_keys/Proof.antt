@@ -13,12 +13,6 @@ Inv-loop text from values little first keys₀ at₀ n₀ keys at n = Run (encod
 abbrev μ-loop : tie.MeasureT-loop
 μ-loop text from values little first keys₀ at₀ n₀ keys at n = left text at
 
-loop-less : tie.Need-loop-less Inv-loop μ-loop
-loop-less c = search quickening
-
-loop-again : tie.Need-loop-again Inv-loop μ-loop
-loop-again c = search quickening
-
 pub quick-keys-spec : {M : Type 1} → statement M
 quick-keys-spec {M = M} =
     let closed = tie.spec {M = M}
@@ -38,8 +32,8 @@ quick-keys-spec {M = M} =
           (c .before .before .before .before .if1 .taken),
     ))
     (λ c. omega (arith, quick-inside (c .before .before .three-keys .ensures) (c .if2 .left)))
-    loop-less
-    loop-again
+    (λ c. search quickening)
+    (λ c. search quickening)
     (λ c κs. search quickening)
     (λ c. search quickening)
     (λ c. search quickening)

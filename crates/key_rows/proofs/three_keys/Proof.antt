@@ -5,9 +5,8 @@ use Rattle.key_rows.proofs.three_keys.Statement.{statement}
 use Rattle.key_rows.proofs.three_keys.Tie as tie
 
 pub three-keys-spec : {M : Type 1} → statement M
-three-keys-spec =
-    tie.close
-    (tie.spec
+three-keys-spec {M = M} =
+    let closed = tie.spec {M = M}
     (λ c κs. search sixteen)
     (λ c. search sixteen)
     (λ c κs. search sixteen)
@@ -38,4 +37,5 @@ three-keys-spec =
     (λ c. search sixteen)
     (λ c κs. search sixteen)
     (λ c. search sixteen)
-    (λ c. search sixteen))
+    (λ c. search sixteen)
+    in tie.close closed

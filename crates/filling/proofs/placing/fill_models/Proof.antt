@@ -11,16 +11,6 @@ Inv-loop text out₀ start models n₀ i₀ out n i = PlacedTo text models out�
 abbrev μ-loop : tie.MeasureT-loop
 μ-loop text out₀ start models n₀ i₀ out n i = models .count - i
 
-add-t23 : tie.Need-add-t23 Inv-loop μ-loop
-add-t23 c = omega (
-  arith,
-  placed-offset (c .before .before .before .before .before .before .loop .inv)
-      (c .before .before .before .before .before .loop-test .taken),
-)
-
-fill-model-requires : tie.Need-fill-model-requires Inv-loop μ-loop
-fill-model-requires c κs = search placing
-
 pub fill-models-spec : {M : Type 1} → statement M
 fill-models-spec {M = M} =
     let closed = tie.spec {M = M}
@@ -33,8 +23,12 @@ fill-models-spec {M = M} =
     (λ c. search placing)
     (λ c. search placing)
     (λ c. search placing)
-    add-t23
-    fill-model-requires
+    (λ c. omega (
+      arith,
+      placed-offset (c .before .before .before .before .before .before .loop .inv)
+          (c .before .before .before .before .before .loop-test .taken),
+    ))
+    (λ c κs. search placing)
     (λ c. search placing)
     (λ c. search placing)
     (λ c. omega (
