@@ -7,7 +7,8 @@ use reader::read;
 use repeats::clear;
 ghost use Prim.Native.Nat.{_≤_};
 ghost use lib.ListN.{length};
-ghost use Rattle.decision.specs.Decision.{mostText, Decides, Chooses};
+ghost use Rattle.first_line.specs.Limits.{mostText};
+ghost use Rattle.decision.specs.Decision.{Decides, Chooses};
 
 // With the lengths in good form. A text that is too long is told only where the lengths are right.
 fn answered(

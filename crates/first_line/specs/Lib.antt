@@ -1,3 +1,4 @@
+pub mod Limits
 pub mod Lengths
 pub mod Parted
 pub mod Laws

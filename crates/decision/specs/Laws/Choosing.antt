@@ -20,7 +20,8 @@ use Rattle.cifti.specs.Laws.Text.{answers-is}
 use Rattle.cifti.specs.declared.answer.Answer.{Answer}
 use Rattle.first_line.specs.Lengths.{lengthsIn, firstBy}
 use Rattle.first_line.specs.Laws.Lengths.{two-of, three-of}
-use Rattle.decision.specs.Decision.{mostText, Chooses, bad-lengths, too-long, as-read, Decides, bad-form, good-form}
+use Rattle.first_line.specs.Limits.{mostText}
+use Rattle.decision.specs.Decision.{Chooses, bad-lengths, too-long, as-read, Decides, bad-form, good-form}
 use Rattle.first_line.specs.declared.lengths.FirstLine.{FirstLine}
 use Rattle.first_line.specs.declared.lengths.FirstLine.the-variants.{Two, Three, Other}
 

@@ -15,7 +15,8 @@ use Rattle.cifti.specs.Laws.Theorems.{reads-unique}
 use Rattle.cifti.specs.declared.answer.Answer.{Answer}
 use Rattle.first_line.specs.Lengths.{lengthsIn}
 use Rattle.first_line.specs.Laws.Lengths.{many-lengths}
-use Rattle.decision.specs.Decision.{mostText, Chooses, bad-lengths, too-long, as-read, Decides, bad-form, good-form}
+use Rattle.first_line.specs.Limits.{mostText}
+use Rattle.decision.specs.Decision.{Chooses, bad-lengths, too-long, as-read, Decides, bad-form, good-form}
 
 module _ {lengths buffer : List ℕ} {came : ℕ} {records work : List ℕ} where
   pub chooses-unique : {a b : Answer} {s t v w : List ℕ}

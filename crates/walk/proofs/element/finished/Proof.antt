@@ -3,4 +3,7 @@ use Rattle.walk.proofs.element.finished.Statement.{statement}
 use Rattle.walk.proofs.element.finished.Tie as tie
 
 pub finished-spec : {M : Type 1} → statement M
-finished-spec = tie.close (tie.spec (λ c κs. search finishing) (λ c. search finishing) (λ c κs. search finishing) (λ c. search finishing))
+finished-spec {M = M} =
+    let closed = tie.spec {M = M}
+    (λ c κs. search finishing) (λ c. search finishing) (λ c κs. search finishing) (λ c. search finishing)
+    in tie.close closed
