@@ -69,7 +69,7 @@ pub fn is_key(text: &[u8], at: usize) -> bool
     }
 }
 
-// Whether the value at `at` is 0 or 1 and nothing else, as most colours are; no says nothing.
+// Whether the value at `at` is 0 or 1 and nothing else; no says nothing.
 fn is_zero_or_one(text: &[u8], at: usize) -> bool
     ensures { λ r. ⌜ AtSight (now (text .entry)) at r ⌝ }
 {
