@@ -9,7 +9,9 @@ ghost use Rattle.grammar.specs.Bytes.{blank};
 ghost use Rattle.numbers.specs.Numbers.{withSign};
 ghost use Rattle.numbers.specs.Stream.{letterAt, charAt, stream, wordEnds, digitsAt, behind, leading};
 ghost use Rattle.numbers.specs.Answers.{signIf};
-ghost use Rattle.numbers.specs.declared.Source.the-variants.{Contents};
+ghost use Rattle.numbers.specs.Laws.Read.{Running};
+ghost use Rattle.numbers.specs.declared.Source.the-variants.{Contents, Value};
+ghost use Rattle.number_lists.specs.Digits.{plainDigit};
 ghost use Rattle.number_lists.specs.Letters.{odd};
 
 // A byte that may read as something else than itself.
@@ -69,14 +71,72 @@ pub fn wide(b: u8) -> u64
     b as u64
 }
 
+// A digit that reads as itself in a value between two quotes.
+fn is_plain_digit(b: u8, quote: u8) -> bool
+    ensures { λ r. ⌜ r ≡ plainDigit quote b ⌝ }
+{
+    ((b'0' <= b) & (b <= b'9')) & !(b == quote)
+}
+
+// The plain digits at `at` in a value, as far as they go.
+fn plain_digits(text: &[u8], at: usize, quote: u8, most: u64, before: u64) -> Run
+    requires { ⌜ (most ≤ 15) × (before < 10 ^ (15 - most)) ⌝ }
+    ensures { λ r. ⌜ Running (Value quote) (now (text .entry)) most before at (r .value) (r .count) (r .next) ⌝ }
+{
+    let mut n = before;
+    let mut k: u64 = 0;
+    let mut i = at;
+    while k < most {
+        if text.len() <= i {
+            return Run {
+                value: n,
+                count: k,
+                next: i,
+            };
+        }
+        let b = text[i];
+        if !is_plain_digit(b, quote) {
+            return Run {
+                value: n,
+                count: k,
+                next: i,
+            };
+        }
+        n = n * 10 + wide(b - b'0');
+        k += 1;
+        i += 1;
+    }
+    Run {
+        value: n,
+        count: k,
+        next: i,
+    }
+}
+
+// The same of any source; none of a text, whose numbers have a quick reader of their own.
+fn first_digits(text: &[u8], at: usize, source: Source, most: u64, before: u64) -> Run
+    requires { ⌜ (most ≤ 15) × (before < 10 ^ (15 - most)) ⌝ }
+    ensures { λ r. ⌜ Running source (now (text .entry)) most before at (r .value) (r .count) (r .next) ⌝ }
+{
+    match source {
+        Source::Value(q) => plain_digits(text, at, q, most, before),
+        Source::Contents => Run {
+            value: before,
+            count: 0,
+            next: at,
+        },
+    }
+}
+
 // The digits at `at`, at most so many, behind those that write `before`.
 pub fn digits(text: &[u8], at: usize, source: Source, most: u64, before: u64) -> Run
     requires { ⌜ (most ≤ 15) × (before < 10 ^ (15 - most)) ⌝ }
     ensures { λ r. ⌜ r ≡ digitsAt source (now (text .entry)) most before 0 at ⌝ }
 {
-    let mut n = before;
-    let mut k: u64 = 0;
-    let mut i = at;
+    let first = first_digits(text, at, source, most, before);
+    let mut n = first.value;
+    let mut k = first.count;
+    let mut i = first.next;
     while k < most {
         match char_at(text, i, source) {
             Char::Byte(b, j) => {

@@ -11,11 +11,11 @@ abbrev μ-loop : tie.MeasureT-loop
 μ-loop text at source most before n₀ k₀ i₀ n k i = most - k
 
 pub digits-spec : {M : Type 1} → statement M
-digits-spec =
-    tie.close
-    (tie.spec
+digits-spec {M = M} =
+    let closed = tie.spec {M = M}
     Inv-loop
     μ-loop
+    (λ c κs. search running)
     (λ c. search running)
     (λ c κs. search running)
     (λ c. search running)
@@ -29,4 +29,5 @@ digits-spec =
     (λ c. search running)
     (λ c. search running)
     (λ c. search running)
-    (λ c. search running))
+    (λ c. search running)
+    in tie.close closed
