@@ -59,7 +59,7 @@ pub fn noted(text: &[u8], at: usize) -> ArrayNote
     }
 }
 
-pub(crate) fn array_told(text: &[u8], at: usize, codes: &[u64]) -> ArrayTold
+pub(crate) fn array_told(text: &[u8], at: usize, codes: &[u32]) -> ArrayTold
     requires { ⌜ ArrayAsked (now text) at (now codes) ⌝ }
     ensures { λ r. ⌜ ToldArray (now (text .entry)) (the (now (text .entry)) at) (now (codes .entry)) r ⌝ }
 {

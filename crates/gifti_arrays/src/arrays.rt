@@ -17,7 +17,7 @@ pub struct Told {
     pub known: usize,
 }
 
-pub fn arrays_told(text: &[u8], root: usize, codes: &[u64]) -> Told
+pub fn arrays_told(text: &[u8], root: usize, codes: &[u32]) -> Told
     requires { ⌜ ArraysAsked (now text) root (now codes) ⌝ }
     ensures { λ r. ⌜ ToldAll (the (now (text .entry)) root) (now (codes .entry)) r ⌝ }
 {

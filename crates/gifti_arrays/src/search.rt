@@ -10,7 +10,7 @@ ghost use Rattle.gifti_arrays.specs.Ready.{TableHere};
 ghost use Rattle.gifti_arrays.specs.Arrays.{ToldAll, Room};
 
 // As many keys of the table at a time as there is room for. A key stands in one turn at most, so that those found add up.
-fn search_in(text: &[u8], root: usize, table: usize, work: &mut [u64]) -> Told
+fn search_in(text: &[u8], root: usize, table: usize, work: &mut [u32]) -> Told
     requires { ⌜ (TableHere (now text) root table) × (Room (now work)) ⌝ }
     ensures { λ r. ⌜ ToldAll (the (now (text .entry)) root) (codesAt (now (text .entry)) table) r ⌝ }
 {
@@ -41,6 +41,6 @@ pub fn searched(text: &[u8], root: usize, table: usize) -> Told
     requires { ⌜ TableHere (now text) root table ⌝ }
     ensures { λ r. ⌜ ToldAll (the (now (text .entry)) root) (codesAt (now (text .entry)) table) r ⌝ }
 {
-    let mut work = [0u64; 32768];
+    let mut work = [0u32; 32768];
     search_in(text, root, table, &mut work[..])
 }

@@ -19,7 +19,7 @@ pub struct Tally {
 }
 
 // The keys that the Data at `from` writes, as many at a time as the row has room for.
-fn count_rows(text: &[u8], from: usize, encoding: Encoding, codes: &[u64], row: &mut [i32]) -> Tally
+fn count_rows(text: &[u8], from: usize, encoding: Encoding, codes: &[u32], row: &mut [i32]) -> Tally
     requires { ⌜ (inOrder (now codes) ≡ true) × (RowRoom (now row)) ⌝ }
     ensures { λ r. ⌜ Tallied encoding (now (text .entry)) (keysStart (now (text .entry)) from) (now (codes .entry)) r ⌝ }
 {
@@ -44,7 +44,7 @@ fn count_rows(text: &[u8], from: usize, encoding: Encoding, codes: &[u64], row: 
 }
 
 // The keys that the Data at `from` writes, against codes of keys in their order.
-pub(crate) fn count_keys(text: &[u8], from: usize, encoding: Encoding, codes: &[u64]) -> Tally
+pub(crate) fn count_keys(text: &[u8], from: usize, encoding: Encoding, codes: &[u32]) -> Tally
     requires { ⌜ inOrder (now codes) ≡ true ⌝ }
     ensures { λ r. ⌜ Tallied encoding (now (text .entry)) (keysStart (now (text .entry)) from) (now (codes .entry)) r ⌝ }
 {

@@ -27,7 +27,7 @@ fn number_twice(text: &[u8], root: usize) -> u64
     requires { ⌜ FileHere (now text) root ⌝ }
     ensures { λ r. ⌜ r ≡ numberTwice (the (now (text .entry)) root) ⌝ }
 {
-    let none = [0u64; 1];
+    let none = [0u32; 1];
     let told = arrays_told(text, root, &none[..0]);
     if told.arrays as u64 != attribute_number(text, root, b"NumberOfDataArrays", 0, 9999999) {
         return 9;

@@ -1,6 +1,8 @@
 // A part of the keys of a table, in their order, and the Labels behind it.
 use key_codes::codes::code_at;
 use known_keys::place_in;
+use known_keys::sieve::passes;
+use known_keys::sieve::sieve;
 use label_table::labels::next_label;
 use nodes::Kid;
 ghost use mathlib.Core.Path.{_≡_};
@@ -9,10 +11,11 @@ ghost use lib.Dec.{eqb};
 ghost use Rattle.lists.specs.Lists.{twoOf};
 ghost use Rattle.key_codes.specs.Laws.Walks.{toCome};
 ghost use Rattle.known_keys.specs.Order.{inOrder};
+ghost use Rattle.known_keys.specs.Sieve.{Sifting};
 ghost use Rattle.key_twice.specs.Parts.{someIn, partTwice};
 
 // Two numbers are equal. Those in order are so next to each other.
-pub(crate) fn neighbours_alike(keys: &[u64]) -> bool
+pub(crate) fn neighbours_alike(keys: &[u32]) -> bool
     requires { ⌜ inOrder (now keys) ≡ true ⌝ }
     ensures { λ r. ⌜ r ≡ twoOf eqb (now (keys .entry)) ⌝ }
 {
@@ -32,19 +35,21 @@ pub(crate) fn neighbours_alike(keys: &[u64]) -> bool
     false
 }
 
-// A key from a Label on is one of the numbers.
-fn one_of_later(text: &[u8], from: Kid, keys: &[u64]) -> bool
-    requires { ⌜ inOrder (now keys) ≡ true ⌝ }
+// A key from a Label on is one of the numbers. Most that are none are told by the sieve.
+fn one_sifted(text: &[u8], from: Kid, keys: &[u32], words: &[u64]) -> bool
+    requires { ⌜ Sifting (now keys) (now words) ⌝ }
     ensures { λ r. ⌜ r ≡ someIn (now (keys .entry)) (toCome (now (text .entry)) from) ⌝ }
 {
     let mut kid = from;
     loop {
         match kid {
             Kid::Child(k) => {
-                let at = place_in(keys, keys.len(), code_at(text, k));
+                let code = code_at(text, k);
                 kid = next_label(text, k);
-                if at < keys.len() {
-                    return true;
+                if passes(words, code) {
+                    if place_in(keys, keys.len(), code) < keys.len() {
+                        return true;
+                    }
                 }
             }
             Kid::Done => {
@@ -54,8 +59,29 @@ fn one_of_later(text: &[u8], from: Kid, keys: &[u64]) -> bool
     }
 }
 
+// With a sieve of its own.
+fn one_by_sieve(text: &[u8], from: Kid, keys: &[u32]) -> bool
+    requires { ⌜ inOrder (now keys) ≡ true ⌝ }
+    ensures { λ r. ⌜ r ≡ someIn (now (keys .entry)) (toCome (now (text .entry)) from) ⌝ }
+{
+    let mut words = [0u64; 8192];
+    sieve(keys, &mut words[..]);
+    one_sifted(text, from, keys, &words[..])
+}
+
+// The same; no sieve is made where no Label is left.
+fn one_of_later(text: &[u8], from: Kid, keys: &[u32]) -> bool
+    requires { ⌜ inOrder (now keys) ≡ true ⌝ }
+    ensures { λ r. ⌜ r ≡ someIn (now (keys .entry)) (toCome (now (text .entry)) from) ⌝ }
+{
+    match from {
+        Kid::Child(_) => one_by_sieve(text, from, keys),
+        Kid::Done => false,
+    }
+}
+
 // A key of the part stands in it twice, or once more from the Label on.
-pub(crate) fn part_twice(text: &[u8], next: Kid, part: &[u64]) -> bool
+pub(crate) fn part_twice(text: &[u8], next: Kid, part: &[u32]) -> bool
     requires { ⌜ inOrder (now part) ≡ true ⌝ }
     ensures { λ r. ⌜ r ≡ partTwice (now (part .entry)) (toCome (now (text .entry)) next) ⌝ }
 {

@@ -10,7 +10,7 @@ ghost use Rattle.known_keys.specs.Known.{KnownAmong};
 ghost use Rattle.known_keys.specs.Sieve.{Sifting};
 
 // Each key is searched by halves, the place last found being asked first, where it passes the sieve.
-fn known_sifted(keys: &[i32], codes: &[u64], words: &[u64]) -> usize
+fn known_sifted(keys: &[i32], codes: &[u32], words: &[u64]) -> usize
     requires { ⌜ Sifting (now codes) (now words) ⌝ }
     ensures { λ r. ⌜ KnownAmong (now (keys .entry)) (now (codes .entry)) r ⌝ }
 {
@@ -32,7 +32,7 @@ fn known_sifted(keys: &[i32], codes: &[u64], words: &[u64]) -> usize
 }
 
 // With a sieve of its own.
-fn known_by_sieve(keys: &[i32], codes: &[u64]) -> usize
+fn known_by_sieve(keys: &[i32], codes: &[u32]) -> usize
     requires { ⌜ inOrder (now codes) ≡ true ⌝ }
     ensures { λ r. ⌜ KnownAmong (now (keys .entry)) (now (codes .entry)) r ⌝ }
 {
@@ -42,15 +42,16 @@ fn known_by_sieve(keys: &[i32], codes: &[u64]) -> usize
 }
 
 // A sieve pays where the part is long, and the row is not much shorter.
-pub fn known_among(keys: &[i32], codes: &[u64]) -> usize
+pub fn known_among(keys: &[i32], codes: &[u32]) -> usize
     requires { ⌜ inOrder (now codes) ≡ true ⌝ }
     ensures { λ r. ⌜ KnownAmong (now (keys .entry)) (now (codes .entry)) r ⌝ }
 {
+    let none = [0u64; 1];
     if codes.len() < 1024 {
-        return known_sifted(keys, codes, &codes[..0]);
+        return known_sifted(keys, codes, &none[..0]);
     }
     if keys.len() < codes.len() / 4 {
-        return known_sifted(keys, codes, &codes[..0]);
+        return known_sifted(keys, codes, &none[..0]);
     }
     known_by_sieve(keys, codes)
 }

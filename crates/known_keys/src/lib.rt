@@ -6,7 +6,7 @@ mod order;
 // A number searched among numbers in order.
 mod search;
 // Marks by which most numbers that do not stand there are told.
-mod sieve;
+pub mod sieve;
 // A row of keys, counted.
 mod among;
 // The keys of a table, so many at a time.

@@ -7,7 +7,7 @@ ghost use Rattle.known_keys.specs.Order.{inOrder};
 ghost use Rattle.known_keys.specs.Known.{Nearest, Placed};
 
 // By halves: where the number stands, if it stands there.
-fn nearest(keys: &[u64], code: u64) -> usize
+fn nearest(keys: &[u32], code: u32) -> usize
     requires { ⌜ (inOrder (now keys) ≡ true) × (0 < length (now keys)) ⌝ }
     ensures { λ r. ⌜ Nearest (now (keys .entry)) code r ⌝ }
 {
@@ -24,7 +24,7 @@ fn nearest(keys: &[u64], code: u64) -> usize
 }
 
 // A place of the number, the last one found asked first, since labels come in runs; past the end where it stands nowhere.
-pub fn place_in(keys: &[u64], last: usize, code: u64) -> usize
+pub fn place_in(keys: &[u32], last: usize, code: u32) -> usize
     requires { ⌜ inOrder (now keys) ≡ true ⌝ }
     ensures { λ r. ⌜ Placed (now (keys .entry)) code r ⌝ }
 {
@@ -37,7 +37,7 @@ pub fn place_in(keys: &[u64], last: usize, code: u64) -> usize
     sought(keys, code)
 }
 
-fn sought(keys: &[u64], code: u64) -> usize
+fn sought(keys: &[u32], code: u32) -> usize
     requires { ⌜ inOrder (now keys) ≡ true ⌝ }
     ensures { λ r. ⌜ Placed (now (keys .entry)) code r ⌝ }
 {

@@ -7,14 +7,14 @@ ghost use lib.ListN.{length};
 ghost use Rattle.known_keys.specs.Sieve.{sievePlace, sifted, Sieve};
 
 // The place of a number among 524,288 marks.
-fn sieve_place(code: u64) -> u64
+fn sieve_place(code: u32) -> u64
     ensures { λ r. ⌜ r ≡ sievePlace code ⌝ }
 {
-    code % 524288
+    code as u64 % 524288
 }
 
 // Marks the numbers, in 8,192 words.
-pub(crate) fn sieve(codes: &[u64], words: &mut [u64])
+pub fn sieve(codes: &[u32], words: &mut [u64])
     requires { ⌜ 8192 ≤ length (now words) ⌝ }
     ensures { λ _. ⌜ Sieve (now (codes .entry)) (now (words .exit)) ⌝ }
 {
@@ -26,7 +26,7 @@ pub(crate) fn sieve(codes: &[u64], words: &mut [u64])
 }
 
 // Whether the number is marked; without so many words every number passes.
-pub(crate) fn passes(words: &[u64], code: u64) -> bool
+pub fn passes(words: &[u64], code: u32) -> bool
     ensures { λ r. ⌜ r ≡ sifted (now (words .entry)) code ⌝ }
 {
     if words.len() < 8192 {

@@ -12,7 +12,7 @@ pub struct Turn {
 }
 
 // The codes of the keys from a Label on are written from the start, as many as there is room for.
-fn gather(text: &[u8], from: Kid, work: &mut [u64]) -> Turn
+fn gather(text: &[u8], from: Kid, work: &mut [u32]) -> Turn
     ensures { λ r. ⌜ Gathered (now (text .entry)) from (now (work .exit)) (r .n) (r .next) ⌝ }
 {
     let mut n = 0;
@@ -33,7 +33,7 @@ fn gather(text: &[u8], from: Kid, work: &mut [u64]) -> Turn
 }
 
 // The same, in their order.
-pub fn taken(text: &[u8], from: Kid, work: &mut [u64]) -> Turn
+pub fn taken(text: &[u8], from: Kid, work: &mut [u32]) -> Turn
     ensures { λ r. ⌜ Taken (now (text .entry)) from (now (work .exit)) (r .n) (r .next) ⌝ }
 {
     let turn = gather(text, from, work);

@@ -87,7 +87,7 @@ record Wide (z : ℤ) : Type 0 where
   wide : toZ w32 (ofZ w32 z) ≡ z
   wide-fits : SFits w64 z
   sum : z +ℤ pos 2147483648 ≡ pos (codeOf z)
-  small-sum : codeOf z < 2 ^ 33
+  small-sum : codeOf z < 2 ^ 32
 
 wide-above : (n : ℕ) → SFits w32 (pos n) → Wide (pos n)
 unfolding codeOf
@@ -132,7 +132,7 @@ module _ {z : ℤ} (f : SFits w32 z) where
   back : toZ w64 (ofZ w64 summed) ≡ pos (codeOf z)
   back = toZ-ofZ w64 summed code-summed ∙ total-is
 
-  pub code-cast : T (nonNeg (toZ w64 (ofZ w64 summed))) × Fits w64 (natAbs (toZ w64 (ofZ w64 summed)))
+  pub code-cast : T (nonNeg (toZ w64 (ofZ w64 summed))) × Fits w32 (natAbs (toZ w64 (ofZ w64 summed)))
   code-cast = let s = wide-of z f .small-sum in rw back (tt, record { fits = omega arith })
 
   pub code-is : natAbs (toZ w64 (ofZ w64 summed)) ≡ codeOf z

@@ -1,7 +1,7 @@
 -- Numbers in order are twice there where two neighbours are equal; a table is told part by part.
 use mathlib.Core.Path.{_≡_, refl, sym, ap, _∙_}
 use mathlib.Core.List.{List, [], _∷_, _++_, append-nil}
-use mathlib.Core.Bool.{Bool, true, false, _&&_, _||_, cond, true≢false}
+use mathlib.Core.Bool.{Bool, true, false, _&&_, _||_, cond, true≢false, false≢true}
 use Prim.Native.Nat.{ℕ, _+_, _^_, _≤_, _<_}
 use native.Mathlib.Omega.{arith}
 use native.Mathlib.Numerals.{add-one}
@@ -12,7 +12,7 @@ use borrow.Author.Needs.{needs}
 use borrow.Author.Tests.{leb-true, eq-eqb, ne-eqb}
 use Rattle.lists.specs.Lists.{any, count, twoOf}
 use Rattle.lists.specs.Laws.Lists.{any-same, two-append}
-use Rattle.lists.specs.Laws.Booleans.{and-left, and-right, or-first, or-neither, or-true}
+use Rattle.lists.specs.Laws.Booleans.{and-left, and-right, or-first, or-neither, or-true, refute, clash}
 use Rattle.lists.specs.Permuted.{two-permuted, append-turned}
 use Rattle.nodes.specs.declared.Kid.{Kid}
 use Rattle.nodes.specs.declared.Kid.the-variants.{Child, Done}
@@ -23,9 +23,12 @@ use Rattle.key_codes.specs.Laws.Codes.{twice-codes}
 use Rattle.key_codes.specs.Laws.Walks.{toCome, walk-less, come-more, come-first, come-done}
 use Rattle.known_keys.specs.Order.{orderedFrom, inOrder}
 use Rattle.known_keys.specs.Known.{Placed, Taken}
+use Rattle.known_keys.specs.Sieve.{sifted, Sieve, Sifting}
 use Rattle.known_keys.specs.Laws.Search.{placed-member}
 use Rattle.known_keys.specs.Laws.Turns.{once, turned, member-any, taken-less}
-use Rattle.key_twice.specs.Parts.{someIn, partTwice}
+use Rattle.key_twice.specs.Parts.{someIn, partTwice, InOne}
+use Rattle.key_twice.specs.declared.OnePart.{OnePart}
+use Rattle.key_twice.specs.declared.OnePart.the-variants.{Told, Longer}
 
 -- ---- Neighbours.
 
@@ -93,35 +96,52 @@ pub ruleset looking = (looking-none, looking-start, looking-done, looking-alike,
 
 -- ---- The Labels behind a part.
 
-pub record Meeting (text keys : List ℕ) (from kid : Kid) : Type 0 where
-  pub ordered : inOrder keys ≡ true
+pub record Meeting (text keys words : List ℕ) (from kid : Kid) : Type 0 where
+  pub sifting : Sifting keys words
   pub so-far : someIn keys (toCome text from) ≡ someIn keys (toCome text kid)
 
-pub meeting-start : (text : List ℕ) {keys : List ℕ} (from : Kid) → inOrder keys ≡ true → Meeting text keys from from
-meeting-start text from o = record { ordered = o; so-far = refl }
+pub meeting-start : (text : List ℕ) {keys words : List ℕ} (from : Kid) → Sifting keys words → Meeting text keys words from from
+meeting-start text from s = record { sifting = s; so-far = refl }
 
-module _ {text keys : List ℕ} {from kid : Kid} (go : Meeting text keys from kid) where
+module _ {text keys words : List ℕ} {from kid : Kid} (go : Meeting text keys words from kid) where
   pub meeting-ordered : inOrder keys ≡ true
-  meeting-ordered = go .ordered
+  meeting-ordered = go .sifting .in-order
 
   pub meeting-done : kid ≡ Done → false ≡ someIn keys (toCome text from)
   unfolding someIn any
   meeting-done e = sym (go .so-far ∙ ap (someIn keys) (come-done text e))
 
   module _ {k : ℕ} (is-child : kid ≡ Child k) {kid₁ : Kid} (e : kid₁ ≡ nextLabel text k) {c : ℕ}
-      (q : (c ≡ codeHere text k) × (c < 2 ^ 32)) {at : ℕ} (p : Placed keys c at) where
+      (q : (c ≡ codeHere text k) × (c < 2 ^ 32)) where
     splits : someIn keys (toCome text from) ≡ (member c keys || someIn keys (toCome text kid₁))
     unfolding someIn any
     splits = go .so-far ∙ ap (someIn keys) (come-more text is-child e)
         ∙ ap (λ i. member i keys || someIn keys (toCome text kid₁)) (sym (q .0))
 
-    pub meeting-found : at < length keys → true ≡ someIn keys (toCome text from)
-    meeting-found h = sym (splits ∙ rw (placed-member p h) refl)
+    missing : member c keys ≡ false → Meeting text keys words from kid₁
+    missing m = record { sifting = go .sifting; so-far = splits ∙ rw m refl }
 
-    pub meeting-more : length keys ≤ at → Meeting text keys from kid₁
-    meeting-more h = record { ordered = go .ordered; so-far = splits ∙ rw (p .missed h) refl }
+    pub meeting-sifted : {b : Bool} → b ≡ sifted words c → b ≡ false → Meeting text keys words from kid₁
+    meeting-sifted h f = missing (refute (member c keys) (λ m. false≢true (sym f ∙ h ∙ go .sifting .passes .passing c m)))
 
-pub ruleset meeting = (meeting-start, meeting-ordered, meeting-done, walk-less, meeting-found, meeting-more, needs)
+    module _ {at : ℕ} (p : Placed keys c at) where
+      pub meeting-found : at < length keys → true ≡ someIn keys (toCome text from)
+      meeting-found h = sym (splits ∙ rw (placed-member p h) refl)
+
+      pub meeting-more : length keys ≤ at → Meeting text keys words from kid₁
+      meeting-more h = missing (p .missed h)
+
+pub ruleset meeting = (meeting-start, meeting-ordered, meeting-done, walk-less, meeting-sifted, meeting-found, meeting-more, needs)
+
+-- a sieve of the numbers
+pub with-sieve : {keys words : List ℕ} → inOrder keys ≡ true → Sieve keys words → Sifting keys words
+with-sieve o s = record { in-order = o; passes = s }
+
+pub none-later : (text keys : List ℕ) {from : Kid} → from ≡ Done → false ≡ someIn keys (toCome text from)
+unfolding someIn any
+none-later text keys e = sym (ap (someIn keys) (come-done text e))
+
+pub ruleset sieved = (with-sieve, none-later, needs)
 
 -- ---- A part.
 
@@ -236,9 +256,20 @@ pub ruleset searching = (
 
 -- ---- A table that is one part.
 
-pub whole-told : (text : List ℕ) (at : ℕ) {kid : Kid} → kid ≡ firstLabel text at → {work : List ℕ} {n : ℕ} {next : Kid}
-    → Taken text kid work n next → next ≡ Done → {b : Bool} → b ≡ twoOf eqb (take n work) → b ≡ twiceAt text at
-whole-told text at e t d h =
-    let all : t .codes ≡ codesAt text at =
-    sym (append-nil (t .codes)) ∙ ap (λ l. t .codes ++ l) (sym (come-done text d)) ∙ t .parts ∙ come-first text at e in
-    h ∙ two-kept (t .reordered) ∙ ap (twoOf eqb) all ∙ sym (twice-codes text at)
+pub one-longer : (text : List ℕ) (at : ℕ) → InOne text at Longer
+one-longer text at = record { right = λ e. clash (cc) }
+
+pub one-told : (text : List ℕ) (at : ℕ) {kid : Kid} → kid ≡ firstLabel text at → {work : List ℕ} {n : ℕ} {next : Kid}
+    → Taken text kid work n next → next ≡ Done → {b : Bool} → b ≡ twoOf eqb (take n work) → InOne text at (Told b)
+one-told text at e t d {b} h = record { right = λ {b = c} q. let z : c ≡ b = cc in z ∙ so }
+  where
+    all : t .codes ≡ codesAt text at
+    all = sym (append-nil (t .codes)) ∙ ap (λ l. t .codes ++ l) (sym (come-done text d)) ∙ t .parts ∙ come-first text at e
+
+    so : b ≡ twiceAt text at
+    so = h ∙ two-kept (t .reordered) ∙ ap (twoOf eqb) all ∙ sym (twice-codes text at)
+
+pub told-right : {text : List ℕ} {at : ℕ} {r : OnePart} → InOne text at r → {b : Bool} → r ≡ Told b → b ≡ twiceAt text at
+told-right i e = i .right e
+
+pub ruleset telling = (one-longer, one-told, told-right, needs)
