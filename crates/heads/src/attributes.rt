@@ -84,8 +84,8 @@ fn is_noted(
     false
 }
 
-// Attributes, 16 at most, no name twice.
-pub fn attributes_end(text: &[u8], at: usize) -> Step
+// Attributes, 16 at most, no name twice, with what is noted of them.
+fn some_attributes_end(text: &[u8], at: usize) -> Step
     ensures { λ r. ⌜ r ≡ stepped (length (now (text .entry))) (attributes-at (drop at (now (text .entry)))) ⌝ }
 {
     let mut starts = [0usize; 16];
@@ -112,6 +112,18 @@ pub fn attributes_end(text: &[u8], at: usize) -> Step
         }
     }
     Step::To(i)
+}
+
+// Attributes, 16 at most, no name twice. Most tags have none, and end right here: nothing is noted of them.
+pub fn attributes_end(text: &[u8], at: usize) -> Step
+    ensures { λ r. ⌜ r ≡ stepped (length (now (text .entry))) (attributes-at (drop at (now (text .entry)))) ⌝ }
+{
+    if at < text.len() {
+        if text[at] == b'>' {
+            return Step::To(at);
+        }
+    }
+    some_attributes_end(text, at)
 }
 
 // A tag up to its `>` or `/>`.

@@ -1,60 +1,36 @@
+use mathlib.Core.Path.{_≡_, refl}
+use mathlib.Core.List.{List, [], _∷_}
+use mathlib.Core.Bool.{true}
+use Prim.Native.Nat.{ℕ, _+_, _<_}
 use borrow.Author.Needs.{needs}
-use Rattle.steps.specs.Laws.Attributes.{list-start, list-within, list-ends, list-many, list-bad, list-twice, list-more, Listing, list-less}
-use Prim.Native.Nat.{_-_}
-use lib.ListN.{length}
+use lib.ListN.{length, drop, getD}
+use Rattle.grammar.specs.Bytes.{blank}
+use Rattle.grammar.specs.Parser.{attributes-at, ends, closing}
+use Rattle.steps.specs.Step.{stepped, at-byte}
+use Rattle.steps.specs.declared.Step.the-variants.{To}
+use Rattle.steps.specs.Laws.Attributes.{list-start, list-ends}
 use Rattle.heads.proofs.attributes.attributes_end.Statement.{statement}
 use Rattle.heads.proofs.attributes.attributes_end.Tie as tie
 
-abbrev Inv-loop : tie.InvT-loop
-Inv-loop text at starts₀ ends₀ n₀ i₀ starts ends n i = Listing text at starts ends n i
+ends-now : (s : List ℕ) → true ≡ ends closing (62 ∷ s)
+unfolding ends closing blank
+ends-now s = refl
 
-abbrev μ-loop : tie.MeasureT-loop
-μ-loop text at starts₀ ends₀ n₀ i₀ starts ends n i = length text - i
-
-loop-holds : tie.Need-loop-holds Inv-loop μ-loop
-loop-holds c = search (list-start, needs)
-
-returns : tie.Need-returns Inv-loop μ-loop
-returns c = search (list-many, needs)
-
-is-noted-requires : tie.Need-is-noted-requires Inv-loop μ-loop
-is-noted-requires c κs = search (list-within, needs)
-
-returns-2 : tie.Need-returns-2 Inv-loop μ-loop
-returns-2 c = search (list-twice, needs)
-
-loop-less : tie.Need-loop-less Inv-loop μ-loop
-loop-less c = search (list-less, needs)
-
-loop-again : tie.Need-loop-again Inv-loop μ-loop
-loop-again c = search (list-more, needs)
-
-returns-3 : tie.Need-returns-3 Inv-loop μ-loop
-returns-3 c = search (list-bad, needs)
-
-returns-4 : tie.Need-returns-4 Inv-loop μ-loop
-returns-4 c = search (list-ends, needs)
+-- as the list ends where nothing is noted yet
+none-there : (text : List ℕ) (at : ℕ) → at < length text → getD text at 0 ≡ 62
+    → To at ≡ stepped (length text) (attributes-at (drop at text))
+none-there text at h e =
+    let stops : true ≡ ends closing (drop at text) = rw (at-byte text at h, e) (ends-now (drop (at + 1) text)) in
+    list-ends text at sixteen sixteen 0 at (list-start text at sixteen sixteen refl refl) stops refl
+  where
+    sixteen : List ℕ
+    sixteen = 0 ∷ 0 ∷ 0 ∷ 0 ∷ 0 ∷ 0 ∷ 0 ∷ 0 ∷ 0 ∷ 0 ∷ 0 ∷ 0 ∷ 0 ∷ 0 ∷ 0 ∷ 0 ∷ []
 
 pub attributes-end-spec : {M : Type 1} → statement M
 attributes-end-spec =
     tie.close
     (tie.spec
-    Inv-loop
-    μ-loop
-    loop-holds
+    (λ c. search needs)
+    (λ c. search (none-there, needs))
     (λ c κs. search needs)
-    returns
-    (λ c κs. search needs)
-    (λ c. search needs)
-    is-noted-requires
-    returns-2
-    (λ c. search needs)
-    (λ c. search needs)
-    (λ c. search needs)
-    (λ c. search needs)
-    (λ c. search needs)
-    loop-less
-    loop-again
-    (λ c. search needs)
-    returns-3
-    returns-4)
+    (λ c. search needs))
