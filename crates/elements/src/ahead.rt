@@ -1,6 +1,6 @@
 // What stands ahead in the contents of an element: each gap between children is passed over once.
 use super::scan::past_tag;
-use super::scan::tag_end;
+use super::scan::tag_left;
 use super::scan::to_tag;
 use heads::comments::comment_end;
 use heads::data::data_end;
@@ -14,7 +14,7 @@ use steps::pieces::Front;
 ghost use mathlib.Core.Path.{_≡_};
 ghost use Prim.Native.Nat.{_-_};
 ghost use lib.ListN.{length, drop};
-ghost use Rattle.nodes.specs.Ahead.{past-gap, gap-data, ending, ahead-at, first-ahead};
+ghost use Rattle.nodes.specs.Ahead.{past-gap, gap-data, ending, ahead-at, first-ahead, ahead-in-tag};
 ghost use Rattle.nodes.specs.Scan.{past-tag};
 ghost use Rattle.nodes.specs.Laws.BlankData.{blank-data-at};
 ghost use Rattle.grammar.specs.Parser.{data-at};
@@ -97,13 +97,23 @@ pub fn ahead_from(text: &[u8], at: usize, words: bool) -> Ahead
     }
 }
 
-// The same for the contents of the element at `at`, from their start.
-pub fn ahead_first(text: &[u8], at: usize, words: bool) -> Ahead
-    ensures { λ r. ⌜ r ≡ first-ahead words (now (text .entry)) at ⌝ }
+// The same for an element's contents, from their start: `at` is a place in its start tag, outside of quotes.
+pub fn ahead_in_tag(text: &[u8], at: usize, words: bool) -> Ahead
+    ensures { λ r. ⌜ r ≡ ahead-in-tag words (now (text .entry)) at ⌝ }
 {
-    match tag_end(text, at) {
+    match tag_left(text, at) {
         Tag::Open(i) => ahead_from(text, i, words),
         Tag::Bare(i) => Ahead::End(i),
         Tag::No => Ahead::Stray,
     }
+}
+
+// The same for the element at `at`.
+pub fn ahead_first(text: &[u8], at: usize, words: bool) -> Ahead
+    ensures { λ r. ⌜ r ≡ first-ahead words (now (text .entry)) at ⌝ }
+{
+    if text.len() <= at {
+        return Ahead::Stray;
+    }
+    ahead_in_tag(text, at + 1, words)
 }

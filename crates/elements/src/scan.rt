@@ -14,7 +14,7 @@ ghost use lib.ListN.{length, drop, getD};
 ghost use Rattle.grammar.specs.Parser.{closing};
 ghost use Rattle.steps.specs.Step.{stepped};
 ghost use Rattle.steps.specs.Blocks.{Through, other};
-ghost use Rattle.nodes.specs.Scan.{to-tag, past-tag, finish, tag-at, scan, leave-at, skip-at};
+ghost use Rattle.nodes.specs.Scan.{to-tag, past-tag, finish, tag-from, tag-at, scan, leave-at, skip-at};
 ghost use Rattle.nodes.specs.ScanSteps.{tagged, signed, sign};
 ghost use Rattle.elements.specs.Tags.{turns, Turning, Nearby};
 
@@ -192,14 +192,11 @@ fn to_quote(text: &[u8], at: usize, q: u8) -> usize
     far_quote(text, at + 16, q)
 }
 
-// The start tag at `at`: signs outside of quotes and values by turns.
-pub fn tag_end(text: &[u8], at: usize) -> Tag
-    ensures { λ r. ⌜ r ≡ tagged (length (now (text .entry))) (tag-at (drop at (now (text .entry)))) ⌝ }
+// The start tag that goes on at `at`, outside of quotes: signs and values by turns.
+pub fn tag_rest(text: &[u8], at: usize) -> Tag
+    ensures { λ r. ⌜ r ≡ tagged (length (now (text .entry))) (tag-from 0 (drop at (now (text .entry)))) ⌝ }
 {
-    if text.len() <= at {
-        return Tag::No;
-    }
-    let mut i = at + 1;
+    let mut i = at;
     loop {
         let j = to_sign(text, i);
         if text.len() <= j {
@@ -215,6 +212,28 @@ pub fn tag_end(text: &[u8], at: usize) -> Tag
         }
         i = k + 1;
     }
+}
+
+// The same, quick where the tag ends at `at`.
+pub fn tag_left(text: &[u8], at: usize) -> Tag
+    ensures { λ r. ⌜ r ≡ tagged (length (now (text .entry))) (tag-from 0 (drop at (now (text .entry)))) ⌝ }
+{
+    if at < text.len() {
+        if ends_tag(text[at]) {
+            return finish_at(text, at);
+        }
+    }
+    tag_rest(text, at)
+}
+
+// The start tag at `at`.
+pub fn tag_end(text: &[u8], at: usize) -> Tag
+    ensures { λ r. ⌜ r ≡ tagged (length (now (text .entry))) (tag-at (drop at (now (text .entry)))) ⌝ }
+{
+    if text.len() <= at {
+        return Tag::No;
+    }
+    tag_rest(text, at + 1)
 }
 
 // What stands at a place where contents go on with a tag.

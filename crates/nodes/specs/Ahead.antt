@@ -12,7 +12,7 @@ use Rattle.grammar.specs.Read.{Read, fail, got, span, span-sound, Ok, failed, g
 use Rattle.grammar.specs.Parser.{Look, at-close, at-comment, at-data, at-element, at-text, look, comment-at, data-at}
 use Rattle.nodes.specs.Laws.Depth.{comment-eats, data-eats}
 use Rattle.nodes.specs.Places.{pick}
-use Rattle.nodes.specs.Scan.{to-tag, to-tag-short, past-tag, tag-at}
+use Rattle.nodes.specs.Scan.{to-tag, to-tag-short, past-tag, tag-from, tag-at}
 use Rattle.nodes.specs.declared.ahead.Ahead.{Ahead}
 use Rattle.nodes.specs.declared.ahead.Ahead.the-variants.{Child, End, Stray}
 
@@ -60,6 +60,10 @@ first-by words n (got false r) = End (n - length r)
 
 unfoldable pub first-ahead : Bool → List ℕ → ℕ → Ahead
 first-ahead words text at = first-by words (length text) (tag-at (drop at text))
+
+-- the same from a place in its start tag
+unfoldable pub ahead-in-tag : Bool → List ℕ → ℕ → Ahead
+ahead-in-tag words text i = first-by words (length text) (tag-from 0 (drop i text))
 
 behind-short : (s : List ℕ) (m : Read (List ℕ)) → Ok (λ w r. length r ≤ length s) m → length (afterGap m) ≤ length s
 unfolding afterGap

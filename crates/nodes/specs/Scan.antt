@@ -51,6 +51,10 @@ unfoldable pub tag-at : Reader Bool
 tag-at [] = fail
 tag-at (a ∷ s) = tag-from 0 s
 
+-- a place in the start tag at `at`, outside of quotes: the tag goes on there as it does from its start
+pub record InTag (text : List ℕ) (at i : ℕ) : Type 0 where
+  pub same-tag : tag-at (drop at text) ≡ tag-from 0 (drop i text)
+
 -- The end of contents in which `d` elements are still open: the end tag behind them.
 unfoldable pub scan-by : Look → (ℕ → Reader (Unit {0})) → ℕ → Reader (Unit {0})
 scan-by at-close more zero s = got tt s
@@ -129,7 +133,7 @@ finish-less a s = go (eqb a 62)
     go false = bind-ok (mark-sound (ascii ">") s) λ _ r e. good
         (record { front = a ∷ 62 ∷ []; whole = ap (λ l. a ∷ l) e; falls = omega (arith, ap length e) })
 
-tag-from-less : (q : ℕ) (s : List ℕ) → Ok (Less s) (tag-from q s)
+pub tag-from-less : (q : ℕ) (s : List ℕ) → Ok (Less s) (tag-from q s)
 unfolding tag-from
 tag-from-less q [] = failed
 tag-from-less q (a ∷ s) = go (finishes q a) (tag-from-less (quoting q a) s)

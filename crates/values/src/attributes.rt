@@ -12,13 +12,11 @@ use steps::Step;
 use steps::attributes::Key;
 ghost use mathlib.Core.Path.{_≡_};
 ghost use Prim.Native.Nat.{_<_};
-ghost use lib.ListN.{length, drop};
-ghost use Rattle.lists.specs.Lists.{all};
-ghost use Rattle.nodes.specs.Attributes.{keys-at, keys};
 ghost use Rattle.shape.specs.Table.{attributesBetween};
-ghost use Rattle.shape.specs.Parts.{nameListed, keyListed};
+ghost use Rattle.shape.specs.Parts.{nameListed};
 ghost use Rattle.shape.specs.Asked.{Known};
-ghost use Rattle.values.specs.InTurn.{keysFrom, Within, Placed, Asking, Asked, Walked};
+ghost use Rattle.shape.specs.Walked.{AllListed};
+ghost use Rattle.values.specs.InTurn.{Within, Placed, Asking, Asked, Begins, Walked};
 
 // Where an attribute stands, and a place in the tag.
 struct Sought {
@@ -99,7 +97,7 @@ fn attribute_fault(
 
 // Where the attributes of the tag at `at` begin.
 fn attributes_from(text: &[u8], at: usize) -> usize
-    ensures { λ r. ⌜ keys (now (text .entry)) at ≡ keysFrom (now (text .entry)) r ⌝ }
+    ensures { λ r. ⌜ Begins (now (text .entry)) at r ⌝ }
 {
     if text.len() <= at {
         return text.len();
@@ -145,6 +143,12 @@ fn name_listed(name: &[u8], table: &[u32], letters: &[u8], from: usize, to: usiz
     table::attribute_named(name, table, letters, from, to) < to
 }
 
+// Whether every attribute is listed, and a place in the tag: up to it they were passed.
+pub(crate) struct Listed {
+    pub(crate) right: bool,
+    pub(crate) at: usize,
+}
+
 // Every attribute from `at` on is one of them.
 pub(crate) fn listed_from(
     text: &[u8],
@@ -153,16 +157,13 @@ pub(crate) fn listed_from(
     letters: &[u8],
     from: usize,
     to: usize,
-) -> bool
+) -> Listed
     requires { ⌜ to < 4294967296 ⌝ }
-    ensures { λ r. ⌜ r ≡ all (keyListed (attributesBetween (now (table .entry)) (now (letters .entry)) from to))
-        (keys-at (length (now (text .entry))) (drop at (now (text .entry)))) ⌝ }
+    ensures { λ r. ⌜ AllListed (attributesBetween (now (table .entry)) (now (letters .entry)) from to) (now (text .entry)) at
+        (r .right) (r .at) ⌝ }
 {
     let mut i = at;
-    loop {
-        if tag_ends(text, i) {
-            return true;
-        }
+    while !tag_ends(text, i) {
         match key_at(text, i) {
             Key::Is {
                 from: f,
@@ -170,20 +171,24 @@ pub(crate) fn listed_from(
                 end,
             } => {
                 if !name_listed(&text[f..e], table, letters, from, to) {
-                    return false;
+                    return Listed {
+                        right: false,
+                        at: i,
+                    };
                 }
                 match value_end(text, end) {
                     Step::To(j) => {
                         i = j;
                     }
                     Step::No => {
-                        return true;
+                        return Listed { right: true, at: i };
                     }
                 }
             }
             Key::No => {
-                return true;
+                return Listed { right: true, at: i };
             }
         }
     }
+    Listed { right: true, at: i }
 }

@@ -4,10 +4,8 @@ use attributes::listed_from;
 use faults::sooner;
 use lookup::table;
 use text::text_fault;
-ghost use mathlib.Core.Path.{_≡_};
-ghost use Rattle.nodes.specs.Places.{the};
-ghost use Rattle.shape.specs.Parts.{ownFault};
 ghost use Rattle.shape.specs.Asked.{Known};
+ghost use Rattle.shape.specs.Walked.{Owns};
 
 // The smaller of two faults.
 pub mod faults;
@@ -18,22 +16,36 @@ mod attributes;
 // Numbers between tags.
 mod text;
 
+// The fault of an element's own part, and a place in its start tag: the attributes before it were passed.
+pub struct Own {
+    pub fault: u8,
+    pub place: usize,
+}
+
 // The fault of the element's own part: its attributes and the numbers in its text.
-pub fn own_fault(text: &[u8], at: usize, table: &[u32], letters: &[u8], kind: usize) -> u8
+pub fn own_fault(text: &[u8], at: usize, table: &[u32], letters: &[u8], kind: usize) -> Own
     requires { ⌜ Known (now text) at kind ⌝ }
-    ensures { λ r. ⌜ r ≡ ownFault (now (table .entry)) (now (letters .entry)) kind (the (now (text .entry)) at) ⌝ }
+    ensures { λ r. ⌜ Owns (now (table .entry)) (now (letters .entry)) (now (text .entry)) at kind (r .fault) (r .place) ⌝ }
 {
     let walk = attributes_fault(text, at, table, letters, kind);
     if walk.fault == 6 {
-        return 6;
+        return Own {
+            fault: 6,
+            place: walk.at,
+        };
     }
     let from = table::kind_cell(table, kind, 0);
     let to = table::kind_cell(table, kind, 1);
-    if !listed_from(text, walk.at, table, letters, from, to) {
-        return 6;
+    let listed = listed_from(text, walk.at, table, letters, from, to);
+    if !listed.right {
+        return Own {
+            fault: 6,
+            place: listed.at,
+        };
     }
-    sooner(
-        walk.fault,
-        text_fault(text, at, table, table::kind_cell(table, kind, 4)),
-    )
+    let form = table::kind_cell(table, kind, 4);
+    Own {
+        fault: sooner(walk.fault, text_fault(text, at, table, form)),
+        place: listed.at,
+    }
 }

@@ -42,7 +42,8 @@ pub(crate) fn fault(text: &[u8], at: usize, table: &[u32], letters: &[u8], kind:
     requires { ⌜ Known (now text) at kind ⌝ }
     ensures { λ r. ⌜ Walks (now (table .entry)) (now (letters .entry)) (now (text .entry)) at kind r ⌝ }
 {
-    let mut worst = values::own_fault(text, at, table, letters, kind);
+    let own = values::own_fault(text, at, table, letters, kind);
+    let mut worst = own.fault;
     let from = table::kind_cell(table, kind, 2);
     let to = table::lines_end(table, kind);
     let words = table::kind_cell(table, kind, 4) != 0;
@@ -53,7 +54,7 @@ pub(crate) fn fault(text: &[u8], at: usize, table: &[u32], letters: &[u8], kind:
         seen: false,
         met: false,
     };
-    let mut next = elements::ahead::ahead_first(text, at, words);
+    let mut next = elements::ahead::ahead_in_tag(text, own.place, words);
     loop {
         match next {
             Ahead::Child(k) => {

@@ -12,9 +12,9 @@ use Rattle.grammar.specs.Bytes.{quote}
 use Rattle.grammar.specs.Parser.{closing}
 use Rattle.steps.specs.Step.{at-byte}
 use Rattle.nodes.specs.Places.{pick}
-use Rattle.nodes.specs.Scan.{Quoted, quoting, finishes, finish, tag-from, tag-at}
+use Rattle.nodes.specs.Scan.{Quoted, quoting, finishes, finish, tag-from}
 use Rattle.nodes.specs.ScanSteps.{tagged}
-use Rattle.nodes.specs.Laws.Scan.{Tagging, tag-past, tag-start, tag-none, tag-stops, tag-goes, tag-jumps, quote-from}
+use Rattle.nodes.specs.Laws.Scan.{Tagging, tag-start, tag-none, tag-stops, tag-goes, tag-jumps, quote-from}
 use Rattle.nodes.specs.declared.scan.Tag.{Tag}
 use Rattle.nodes.specs.declared.scan.Tag.the-variants as tag-is
 use Rattle.elements.specs.Tags.{turns, Turning, Nearby}
@@ -153,14 +153,22 @@ module _ {text : List ℕ} {q at n : ℕ} (g : Nearby text q at n) where
 
 pub ruleset near-then-far = (near-turns, near-far, needs)
 
--- THE WHOLE TAG
+-- A TAG THAT ENDS HERE
+pub sign-now : (text : List ℕ) (at : ℕ) → at < length text → {c : Bool} → c ≡ closing (getD text at 0) → c ≡ true → {r : Tag}
+    → r ≡ tagged (length text) (finish (getD text at 0) (drop (at + 1) text)) → r ≡ tagged (length text) (tag-from 0 (drop at text))
+unfolding finishes
+sign-now text at u e y z = tag-stops text at 0 at (tag-start text at) u e y z
+
+pub ruleset tag-now = (sign-now, needs)
+
+-- THE REST OF A TAG
 module _ {text : List ℕ} {at i j : ℕ} (t : Tagging text at 0 i) (s : Turning text 0 i j) where
-  pub sign-none : length text ≤ j → tag-is.No ≡ tagged (length text) (tag-at (drop at text))
+  pub sign-none : length text ≤ j → tag-is.No ≡ tagged (length text) (tag-from 0 (drop at text))
   sign-none h = tag-none text at 0 j (tag-jumps t (s .goes)) h
 
   module _ (u : j < length text) {c : Bool} (e : c ≡ closing (getD text j 0)) where
     pub sign-ends : c ≡ true → {r : Tag} → r ≡ tagged (length text) (finish (getD text j 0) (drop (j + 1) text))
-        → r ≡ tagged (length text) (tag-at (drop at text))
+        → r ≡ tagged (length text) (tag-from 0 (drop at text))
     unfolding finishes
     sign-ends y z = tag-stops text at 0 j (tag-jumps t (s .goes)) u e y z
 
@@ -178,7 +186,7 @@ module _ {text : List ℕ} {at i j : ℕ} (t : Tagging text at 0 i) (s : Turning
       opens = tag-goes text at 0 j (tag-jumps t (s .goes)) u e f (rw is-quote)
 
       module _ {k : ℕ} (v : Turning text (getD text j 0) (j + 1) k) where
-        pub value-none : length text ≤ k → tag-is.No ≡ tagged (length text) (tag-at (drop at text))
+        pub value-none : length text ≤ k → tag-is.No ≡ tagged (length text) (tag-from 0 (drop at text))
         value-none h = tag-none text at _ k (tag-jumps opens (v .goes)) h
 
         pub value-less : k < length text → length text - (k + 1) < length text - i
@@ -192,4 +200,4 @@ module _ {text : List ℕ} {at i j : ℕ} (t : Tagging text at 0 i) (s : Turning
             let y : eqb (getD text k 0) b ≡ true = rw n at (v .here h) in
             tag-goes text at b k (tag-jumps opens (v .goes)) h {t = false} (rw n) refl (rw (n, y))
 
-pub ruleset tag-turns = (tag-past, tag-start, sign-none, sign-ends, sign-some, value-none, value-less, value-ends, needs)
+pub ruleset tag-turns = (tag-start, sign-none, sign-ends, sign-some, value-none, value-less, value-ends, needs)

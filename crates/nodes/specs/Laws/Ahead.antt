@@ -1,7 +1,7 @@
 -- What stands ahead, at a position of the text: one law for each way through the code.
 use mathlib.Core.Path.{_≡_, refl, ap, sym, _∙_}
 use mathlib.Core.List.{List, _++_}
-use Prim.Native.Nat.{ℕ, _-_, _≤_, _<_}
+use Prim.Native.Nat.{ℕ, _+_, _-_, _≤_, _<_}
 use native.Mathlib.Omega.{arith}
 use mathlib.Core.Bool.{Bool, true, false, _||_}
 use borrow.Author.Needs.{needs}
@@ -12,15 +12,15 @@ use Rattle.grammar.specs.Bytes.{blank}
 use Rattle.grammar.specs.Read.{Read, fail, got, Reader, span, Ok, failed, good, ok-got}
 use Rattle.grammar.specs.Parser.{comment-at, data-at, Look, at-close, at-comment, at-data, at-element, at-text, look}
 use Rattle.grammar.specs.Laws.Sound.{comment-sound, data-sound}
-use Rattle.steps.specs.Step.{stepped, fell, Tails, tails, Went, went}
+use Rattle.steps.specs.Step.{stepped, at-end, fell, Tails, tails, Went, went}
 use Rattle.steps.specs.declared.Step.{Step}
 use Rattle.steps.specs.declared.Step.the-variants.{To, No}
 use Rattle.nodes.specs.Places.{tail-of, pick}
 use Rattle.nodes.specs.Laws.Depth.{comment-eats}
-use Rattle.nodes.specs.Scan.{to-tag, past-tag, tag-at}
+use Rattle.nodes.specs.Scan.{to-tag, past-tag, tag-from, tag-from-less, tag-at, InTag}
 use Rattle.nodes.specs.ScanSteps.{tagged}
 use Rattle.nodes.specs.Ahead.{afterGap, past-gap, gap-short, ending, ahead-then, ahead-by, ahead-at, ahead-step, first-by}
-use Rattle.nodes.specs.Ahead.{first-ahead, gap-data, gap-data-eats}
+use Rattle.nodes.specs.Ahead.{first-ahead, ahead-in-tag, gap-data, gap-data-eats}
 use Rattle.nodes.specs.Laws.AheadElements.{gap-tail}
 use Rattle.nodes.specs.declared.ahead.Ahead.{Ahead}
 use Rattle.nodes.specs.declared.ahead.Ahead.the-variants.{Child, End, Stray}
@@ -29,8 +29,8 @@ use Rattle.steps.specs.declared.pieces.Front.{Front}
 use Rattle.steps.specs.declared.pieces.Front.the-variants as front-is
 use Rattle.nodes.specs.declared.scan.Tag.{Tag}
 use Rattle.nodes.specs.declared.scan.Tag.the-variants as tag-is
-use Rattle.nodes.specs.Laws.Scan.{looks-close, looks-comment, looks-data, looks-start, looks-text}
-use Rattle.nodes.specs.Laws.Skip.{place, Lies, lies, opens-at, bare-at, no-tag}
+use Rattle.nodes.specs.Laws.Scan.{looks-close, looks-comment, looks-data, looks-start, looks-text, tag-opens}
+use Rattle.nodes.specs.Laws.Skip.{place, Lies, lies, opens-so, bare-so, none-so}
 
 module _ (text : List ℕ) (at : ℕ) {words : Bool} {r : ℕ} where
   pub gap-words : words ≡ true → r ≡ length text - length (to-tag (drop at text)) → r ≡ length text - length (past-gap words (drop at text))
@@ -176,18 +176,36 @@ pub ruleset heading = (
   needs,
 )
 
-module _ (text : List ℕ) (at : ℕ) (words : Bool) {x : Tag} (k : x ≡ tagged (length text) (tag-at (drop at text))) where
-  pub ahead-none : x ≡ tag-is.No → Stray ≡ first-ahead words text at
-  unfolding first-ahead first-by
-  ahead-none z = rw (no-tag text at k z)
+-- from a place in a start tag
+module _ (text : List ℕ) (at : ℕ) (words : Bool) {x : Tag} (k : x ≡ tagged (length text) (tag-from 0 (drop at text))) where
+  pub ahead-none : x ≡ tag-is.No → Stray ≡ ahead-in-tag words text at
+  unfolding ahead-in-tag first-by
+  ahead-none z = rw (none-so (length text) (tag-from 0 (drop at text)) (sym k ∙ z))
 
-  pub ahead-bare : {j : ℕ} → x ≡ tag-is.Bare j → End j ≡ first-ahead words text at
-  unfolding first-ahead first-by
-  ahead-bare {j} z = let b = bare-at text at k z in rw (b .reads, place text j (b .inside))
+  pub ahead-bare : {j : ℕ} → x ≡ tag-is.Bare j → End j ≡ ahead-in-tag words text at
+  unfolding ahead-in-tag first-by
+  ahead-bare {j} z =
+      let b = bare-so text at (tag-from 0 (drop at text)) (tag-from-less 0 (drop at text)) (sym k ∙ z) in
+      rw (b .reads, place text j (b .inside))
 
   pub ahead-open : {j : ℕ} → x ≡ tag-is.Open j → {r : Ahead} → r ≡ ahead-at words (length text) (drop j text)
-      → r ≡ first-ahead words text at
-  unfolding first-ahead first-by
-  ahead-open z w = w ∙ sym (rw (opens-at text at k z .reads))
+      → r ≡ ahead-in-tag words text at
+  unfolding ahead-in-tag first-by
+  ahead-open z w = w ∙ sym (rw (opens-so text at (tag-from 0 (drop at text)) (tag-from-less 0 (drop at text)) (sym k ∙ z) .reads))
 
-pub ruleset starts-ahead = (ahead-none, ahead-bare, ahead-open, needs)
+pub ruleset in-tag-ahead = (ahead-none, ahead-bare, ahead-open, needs)
+
+-- what stands ahead from there is what stands ahead from the tag's start
+pub in-tag-first : {text : List ℕ} {at i : ℕ} → InTag text at i → (words : Bool) → ahead-in-tag words text i ≡ first-ahead words text at
+unfolding first-ahead ahead-in-tag
+in-tag-first t words = rw (t .same-tag)
+
+module _ (text : List ℕ) (at : ℕ) (words : Bool) where
+  pub first-past : length text ≤ at → Stray ≡ first-ahead words text at
+  unfolding first-ahead first-by tag-at
+  first-past h = rw (at-end text at h)
+
+  pub first-behind : at < length text → {r : Ahead} → r ≡ ahead-in-tag words text (at + 1) → r ≡ first-ahead words text at
+  first-behind h e = e ∙ in-tag-first (tag-opens text at h) words
+
+pub ruleset starts-ahead = (first-past, first-behind, needs)

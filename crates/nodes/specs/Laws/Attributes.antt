@@ -9,6 +9,7 @@ use lib.ListN.{length, drop, length-drop}
 use Rattle.lists.specs.Laws.Booleans.{clash}
 use Rattle.grammar.specs.Read.{Read, fail, got, bind, byte, ok-got}
 use Rattle.grammar.specs.Parser.{name-at, gap-at, equals-at, value-at, ends, closing, same}
+use Rattle.grammar.specs.Laws.Sound.{attribute-sound}
 use Rattle.steps.specs.Step.{stepped, at-end, fell, Went, went}
 use Rattle.steps.specs.Leaves.{name-tails, value-tails}
 use Rattle.steps.specs.Noted.{part}
@@ -24,7 +25,9 @@ use Rattle.nodes.specs.Attributes.{key-bytes, key, keys-at, keys-by, key
 use Rattle.nodes.specs.Attributes.{place-in, place}
 use Rattle.nodes.specs.declared.Found.{Found}
 use Rattle.nodes.specs.declared.Found.the-variants.{At, Nothing}
+use Rattle.nodes.specs.Scan.{tag-from}
 use Rattle.nodes.specs.Laws.Names.{part-is}
+use Rattle.nodes.specs.Laws.ScanEnds.{tag-attribute}
 
 -- KEYS, as the program finds them
 fail-each : {A B C : Type 0} (m : Read A) (f : A → List ℕ → Read B) (g : A → List ℕ → Read C)
@@ -88,6 +91,13 @@ module _ (text : List ℕ) (i : ℕ) {b : Bool} (eb : b ≡ ends closing (drop i
           pub keys-go : keys-at (length text) (drop i text) ≡ key (part from to text) end ∷ keys-at (length text) (drop j text)
           unfolding keys-then
           keys-go = keys-more ∙ rw (valued .reads)
+
+          -- the start tag goes on behind the attribute
+          pub keys-tag : tag-from 0 (drop i text) ≡ tag-from 0 (drop j text)
+          keys-tag =
+              let n : tokens-keys.Named text i from to j = record { middle = end; key = found; value = valued } in
+              let h = ok-got (rw (tokens-keys.named-reads-it text i from to j n) at (attribute-sound (drop i text))) in
+              ap (tag-from 0) (h .1) ∙ tag-attribute (h .2) (drop j text)
 
           pub keys-fall : length text - j < length text - i
           keys-fall =

@@ -14,7 +14,7 @@ use Rattle.steps.specs.Step.{stepped, at-byte, at-end, arrives, refuses}
 use Rattle.steps.specs.declared.Step.the-variants.{To, No}
 use Rattle.steps.specs.Blocks.{Through, other}
 use Rattle.steps.specs.Laws.Blocks.{through-passed}
-use Rattle.nodes.specs.Scan.{to-tag, Quoted, past-tag, quoting, finishes, finish, tag-from, tag-at}
+use Rattle.nodes.specs.Scan.{to-tag, Quoted, past-tag, quoting, finishes, finish, tag-from, tag-at, InTag}
 use Rattle.nodes.specs.ScanSteps.{tagged}
 use Rattle.steps.specs.Pieces.{front}
 use Rattle.steps.specs.Laws.Pieces.{front-is}
@@ -127,30 +127,25 @@ module _ (text : List ℕ) (at : ℕ) (here : at < length text) where
 pub ruleset finishing = (finish-open, finish-short, finish-bare, finish-bad, needs)
 
 pub record Tagging (text : List ℕ) (at q i : ℕ) : Type 0 where
-  same-tag : tag-at (drop at text) ≡ tag-from q (drop i text)
+  same-rest : tag-from 0 (drop at text) ≡ tag-from q (drop i text)
 
-pub tag-past : (text : List ℕ) (at : ℕ) → length text ≤ at → tag-is.No ≡ tagged (length text) (tag-at (drop at text))
-unfolding tag-at tagged
-tag-past text at h = rw (at-end text at h)
-
-pub tag-start : (text : List ℕ) (at : ℕ) → at < length text → Tagging text at 0 (at + 1)
-unfolding tag-at
-tag-start text at h = record { same-tag = rw (at-byte text at h) }
+pub tag-start : (text : List ℕ) (at : ℕ) → Tagging text at 0 at
+tag-start text at = record { same-rest = refl }
 
 module _ (text : List ℕ) (at q i : ℕ) (go : Tagging text at q i) where
-  pub tag-none : length text ≤ i → tag-is.No ≡ tagged (length text) (tag-at (drop at text))
+  pub tag-none : length text ≤ i → tag-is.No ≡ tagged (length text) (tag-from 0 (drop at text))
   unfolding tag-from tagged
-  tag-none h = rw (go .same-tag, at-end text i h)
+  tag-none h = rw (go .same-rest, at-end text i h)
 
   module _ (h : i < length text) {t : Bool} (e : t ≡ finishes q (getD text i 0)) where
     pub tag-stops : t ≡ true → {r : Tag} → r ≡ tagged (length text) (finish (getD text i 0) (drop (i + 1) text))
-        → r ≡ tagged (length text) (tag-at (drop at text))
+        → r ≡ tagged (length text) (tag-from 0 (drop at text))
     unfolding tag-from
-    tag-stops y z = z ∙ sym (rw (go .same-tag, at-byte text i h, sym e ∙ y))
+    tag-stops y z = z ∙ sym (rw (go .same-rest, at-byte text i h, sym e ∙ y))
 
     pub tag-goes : t ≡ false → {p : ℕ} → p ≡ quoting q (getD text i 0) → Tagging text at p (i + 1)
     unfolding tag-from
-    tag-goes n z = record { same-tag = go .same-tag ∙ rw (at-byte text i h, sym e ∙ n, z) }
+    tag-goes n z = record { same-rest = go .same-rest ∙ rw (at-byte text i h, sym e ∙ n, z) }
 
 -- INSIDE OF QUOTES
 quote-goes : (q b : ℕ) → (q ≡ 0 → ⊥) → (b ≡ q → ⊥) → q ≡ quoting q b
@@ -170,4 +165,20 @@ module _ (text : List ℕ) (q : ℕ) (k : q ≡ 0 → ⊥) where
   }
 
 pub tag-jumps : {text : List ℕ} {at p i j : ℕ} → Tagging text at p i → Quoted text p i j → Tagging text at p j
-tag-jumps t k = record { same-tag = t .same-tag ∙ k .same }
+tag-jumps t k = record { same-rest = t .same-rest ∙ k .same }
+
+-- THE WHOLE TAG
+module _ (text : List ℕ) (at : ℕ) where
+  pub tag-past : length text ≤ at → tag-is.No ≡ tagged (length text) (tag-at (drop at text))
+  unfolding tag-at tagged
+  tag-past h = rw (at-end text at h)
+
+  pub tag-opens : at < length text → InTag text at (at + 1)
+  unfolding tag-at
+  tag-opens h = record { same-tag = rw (at-byte text at h) }
+
+  pub tag-whole : at < length text → {r : Tag} → r ≡ tagged (length text) (tag-from 0 (drop (at + 1) text))
+      → r ≡ tagged (length text) (tag-at (drop at text))
+  tag-whole h e = rw (tag-opens h .same-tag) e
+
+pub ruleset whole-tag = (tag-past, tag-whole, needs)

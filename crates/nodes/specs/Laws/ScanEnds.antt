@@ -209,7 +209,7 @@ equals-calm (equals {u} {v} h k) r =
 gap-calm : {u : List ℕ} → Gap u → Each calm u
 gap-calm (gap h k) = a-byte (blank-calm _ h) (blanks-calm k)
 
-tag-attribute : {a : Attribute} {w : List ℕ} → WritesAttribute a w → (r : List ℕ) → tag-from 0 (w ++ r) ≡ tag-from 0 r
+pub tag-attribute : {a : Attribute} {w : List ℕ} → WritesAttribute a w → (r : List ℕ) → tag-from 0 (w ++ r) ≡ tag-from 0 r
 tag-attribute (written {u} {n} {e} {v} {w} g m q x) r =
     ap (tag-from 0) (simp append-assoc refl)
     ∙ calm-free (gap-calm g) (n ++ (e ++ (w ++ r))) ∙ tag-name m (e ++ (w ++ r)) ∙ equals-calm q (w ++ r) ∙ tag-value x r

@@ -233,46 +233,45 @@ pub ruleset scanning = (
 )
 
 -- ELEMENTS
-pub record Opens (text : List ℕ) (at j : ℕ) (wide : Bool) : Type 0 where
+-- what was read of a start tag ends at a place
+pub record Opens (text : List ℕ) (m : Read Bool) (j : ℕ) (wide : Bool) : Type 0 where
   pub inside : j ≤ length text
-  pub reads : tag-at (drop at text) ≡ got wide (drop j text)
+  pub reads : m ≡ got wide (drop j text)
+
+-- from a place on, which is its start or lies in it
+module _ (text : List ℕ) (at : ℕ) where
+  read-so : {wide : Bool} (r : List ℕ) {j : ℕ} → Less (drop at text) wide r → length text - length r ≡ j → Opens text (got wide r) j wide
+  read-so {wide} r l w =
+      let u = lies (tail-more (l .front) r (l .whole) (tail-of text at)) w in
+      record { inside = u .inside; reads = ap (got wide) (u .rest) }
+
+  pub opens-so : (m : Read Bool) → Ok (Less (drop at text)) m → {j : ℕ} → tagged (length text) m ≡ tag-is.Open j → Opens text m j true
+  unfolding tagged
+  opens-so fail h q = clash (cc)
+  opens-so (got true r) (good h) {j} q = read-so r h (let w : length text - length r ≡ j = cc in w)
+  opens-so (got false r) h q = clash (cc)
+
+  pub bare-so : (m : Read Bool) → Ok (Less (drop at text)) m → {j : ℕ} → tagged (length text) m ≡ tag-is.Bare j → Opens text m j false
+  unfolding tagged
+  bare-so fail h q = clash (cc)
+  bare-so (got true r) h q = clash (cc)
+  bare-so (got false r) (good h) {j} q = read-so r h (let w : length text - length r ≡ j = cc in w)
+
+pub none-so : (n : ℕ) (m : Read Bool) → tagged n m ≡ tag-is.No → m ≡ fail
+unfolding tagged
+none-so n fail q = refl
+none-so n (got true r) q = clash (cc)
+none-so n (got false r) q = clash (cc)
 
 module _ (text : List ℕ) (at : ℕ) {x : Tag} (k : x ≡ tagged (length text) (tag-at (drop at text))) where
-  read-so : (m : Read Bool) → tag-at (drop at text) ≡ m → Ok (Less (drop at text)) m → {wide : Bool} {r : List ℕ} {j : ℕ}
-      → m ≡ got wide r → length text - length r ≡ j → Opens text at j wide
-  read-so m e h {wide} {r} {j} q w =
-      let l = ok-got (rw q at h) in
-      let u = lies (tail-more (l .front) r (l .whole) (tail-of text at)) w in
-      record { inside = u .inside; reads = e ∙ q ∙ ap (got wide) (u .rest) }
+  pub opens-at : {j : ℕ} → x ≡ tag-is.Open j → Opens text (tag-at (drop at text)) j true
+  opens-at z = opens-so text at (tag-at (drop at text)) (tag-less (drop at text)) (sym k ∙ z)
 
-  pub opens-at : {j : ℕ} → x ≡ tag-is.Open j → Opens text at j true
-  unfolding tagged
-  opens-at {j} z = go (tag-at (drop at text)) refl (tag-less (drop at text)) (sym k ∙ z)
-    where
-      go : (m : Read Bool) → tag-at (drop at text) ≡ m → Ok (Less (drop at text)) m → tagged (length text) m ≡ tag-is.Open j
-          → Opens text at j true
-      go fail e h q = clash (cc)
-      go (got true r) e h q = read-so (got true r) e h refl (let w : length text - length r ≡ j = cc in w)
-      go (got false r) e h q = clash (cc)
-
-  pub bare-at : {j : ℕ} → x ≡ tag-is.Bare j → Opens text at j false
-  unfolding tagged
-  bare-at {j} z = go (tag-at (drop at text)) refl (tag-less (drop at text)) (sym k ∙ z)
-    where
-      go : (m : Read Bool) → tag-at (drop at text) ≡ m → Ok (Less (drop at text)) m → tagged (length text) m ≡ tag-is.Bare j
-          → Opens text at j false
-      go fail e h q = clash (cc)
-      go (got true r) e h q = clash (cc)
-      go (got false r) e h q = read-so (got false r) e h refl (let w : length text - length r ≡ j = cc in w)
+  pub bare-at : {j : ℕ} → x ≡ tag-is.Bare j → Opens text (tag-at (drop at text)) j false
+  bare-at z = bare-so text at (tag-at (drop at text)) (tag-less (drop at text)) (sym k ∙ z)
 
   pub no-tag : x ≡ tag-is.No → tag-at (drop at text) ≡ fail
-  unfolding tagged
-  no-tag z = go (tag-at (drop at text)) (sym k ∙ z)
-    where
-      go : (m : Read Bool) → tagged (length text) m ≡ tag-is.No → m ≡ fail
-      go fail q = refl
-      go (got true r) q = clash (cc)
-      go (got false r) q = clash (cc)
+  no-tag z = none-so (length text) (tag-at (drop at text)) (sym k ∙ z)
 
   pub skip-none : x ≡ tag-is.No → No ≡ stepped (length text) (skip-at (drop at text))
   unfolding skip-at bind

@@ -23,11 +23,13 @@ use Rattle.steps.specs.declared.attributes.Key.the-variants as key-is
 use Rattle.nodes.specs.Places.{Stands, the}
 use Rattle.nodes.specs.Attributes.{Key, keys-at, keys}
 use Rattle.nodes.specs.Attributes.{Hold, no-key, one-key, keys-law}
-use Rattle.nodes.specs.Laws.Attributes.{keys-end, keys-none, keys-more, keys-stuck, keys-go, keys-fall}
+use Rattle.nodes.specs.Scan.{tag-from}
+use Rattle.nodes.specs.Laws.Attributes.{keys-end, keys-none, keys-more, keys-stuck, keys-go, keys-tag, keys-fall}
 use Rattle.schema.specs.Schema.{Form, AttributeRow, rowName, isNamed}
 use Rattle.schema.specs.Words.{numberIn}
 use Rattle.shape.specs.Table.{wordAt, entryWord, formAt, attributeBy, attributeAt, attributeCell}
 use Rattle.shape.specs.Parts.{namedOnly, amongWords, nameListed, keyListed}
+use Rattle.shape.specs.Walked.{AllListed}
 use Rattle.shape.specs.Laws.Searches.{among-found}
 
 -- A NAME AMONG THOSE OF ATTRIBUTES
@@ -56,40 +58,50 @@ pub ruleset naming = (name-listed, needs)
 -- EVERY KEY IS LISTED
 pub record Listing (r : List AttributeRow) (text : List ℕ) (at i : ℕ) : Type 0 where
   pub same-all : all (keyListed r) (keys-at (length text) (drop at text)) ≡ all (keyListed r) (keys-at (length text) (drop i text))
+  pub same-tag : tag-from 0 (drop at text) ≡ tag-from 0 (drop i text)
 
 pub listing-start : (r : List AttributeRow) (text : List ℕ) (at : ℕ) → Listing r text at at
-listing-start r text at = record { same-all = refl }
+listing-start r text at = record { same-all = refl; same-tag = refl }
 
-module _ {r : List AttributeRow} {text : List ℕ} {at i : ℕ} (go : Listing r text at i) {b : Bool} (eb : b ≡ ends closing (drop i text))
-  where
-    pub listing-end : b ≡ true → true ≡ all (keyListed r) (keys-at (length text) (drop at text))
+module _ {r : List AttributeRow} {text : List ℕ} {at i : ℕ} (go : Listing r text at i) where
+  stops : {right : Bool} → all (keyListed r) (keys-at (length text) (drop i text)) ≡ right → AllListed r text at right i
+  stops e = record { right-is = sym (go .same-all ∙ e); same-tag = go .same-tag }
+
+  module _ {b : Bool} (eb : b ≡ ends closing (drop i text)) where
+    pub listing-end : not b ≡ false → AllListed r text at true i
     unfolding all
-    listing-end e = sym (go .same-all ∙ rw (keys-end text i eb e))
+    listing-end e = stops (rw (keys-end text i eb (not-false b e)))
 
-    module _ (on : b ≡ false) {k : token-key.Key} (ek : k ≡ keyed (length text) (tokens-keys.key-at (drop i text))) where
-      pub listing-none : k ≡ key-is.No → true ≡ all (keyListed r) (keys-at (length text) (drop at text))
+    module _ (goes : not b ≡ true) {k : token-key.Key} (ek : k ≡ keyed (length text) (tokens-keys.key-at (drop i text))) where
+      on : b ≡ false
+      on = not-true b goes
+
+      pub listing-none : k ≡ key-is.No → AllListed r text at true i
       unfolding all
-      listing-none z = sym (go .same-all ∙ rw (keys-none text i eb on ek z))
+      listing-none z = stops (rw (keys-none text i eb on ek z))
 
       module _ {from to end : ℕ} (z : k ≡ key-is.Is from to end) {o : Bool} (eo : o ≡ nameListed r (part from to text)) where
-        pub listing-other : not o ≡ true → false ≡ all (keyListed r) (keys-at (length text) (drop at text))
+        pub listing-other : not o ≡ true → AllListed r text at false i
         unfolding all keyListed
-        listing-other h = sym (go .same-all ∙ rw (keys-more text i eb on ek z, sym eo ∙ not-true o h))
+        listing-other h = stops (rw (keys-more text i eb on ek z, sym eo ∙ not-true o h))
 
         module _ (h : not o ≡ false) {x : Step} (ex : x ≡ stepped (length text) (value-at (drop end text))) where
-          pub listing-stuck : x ≡ No → true ≡ all (keyListed r) (keys-at (length text) (drop at text))
+          pub listing-stuck : x ≡ No → AllListed r text at true i
           unfolding all keyListed
-          listing-stuck w = sym (go .same-all ∙ rw (keys-stuck text i eb on ek z ex w, sym eo ∙ not-false o h))
+          listing-stuck w = stops (rw (keys-stuck text i eb on ek z ex w, sym eo ∙ not-false o h))
 
           pub listing-on : {j : ℕ} → x ≡ To j → Listing r text at j
           unfolding all keyListed
-          listing-on w = record { same-all = go .same-all ∙ rw (keys-go text i eb on ek z ex w, sym eo ∙ not-false o h) }
+          listing-on w = record {
+            same-all = go .same-all ∙ rw (keys-go text i eb on ek z ex w, sym eo ∙ not-false o h);
+            same-tag = go .same-tag ∙ keys-tag text i eb on ek z ex w;
+          }
 
-pub listing-less : (text : List ℕ) (i : ℕ) {b : Bool} → b ≡ ends closing (drop i text) → b ≡ false → {k : token-key.Key}
+pub listing-less : (text : List ℕ) (i : ℕ) {b : Bool} → b ≡ ends closing (drop i text) → not b ≡ true → {k : token-key.Key}
     → k ≡ keyed (length text) (tokens-keys.key-at (drop i text))
     → {from to end : ℕ} → k ≡ key-is.Is from to end → {x : Step} → x ≡ stepped (length text) (value-at (drop end text)) → {j : ℕ}
     → x ≡ To j → length text - j < length text - i
-listing-less text i eb on ek z ex w = keys-fall text i eb on ek z ex w
+listing-less text i {b} eb on ek z ex w = keys-fall text i eb (not-true b on) ek z ex w
 
 pub key-ahead : (text : List ℕ) (i : ℕ) {k : token-key.Key} → k ≡ keyed (length text) (tokens-keys.key-at (drop i text))
     → {from to end : ℕ} → k ≡ key-is.Is from to end → from ≤ to

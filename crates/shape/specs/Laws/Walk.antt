@@ -23,7 +23,8 @@ use Rattle.nodes.specs.Skip.{skip-element}
 use Rattle.nodes.specs.ElementEnd.{Behind, next-behind}
 use Rattle.nodes.specs.TextBytes.{says}
 use Rattle.nodes.specs.Texts.{text-of, text-law}
-use Rattle.nodes.specs.Ahead.{ahead-at, first-ahead}
+use Rattle.nodes.specs.Ahead.{ahead-at, ahead-in-tag}
+use Rattle.nodes.specs.Laws.Ahead.{in-tag-first}
 use Rattle.nodes.specs.Laws.AheadElements.{Facing, facing, facing-first, Met, Over, facing-child, facing-end, facing-stray, left-ahead}
 use Rattle.nodes.specs.Laws.AheadElements.{facing-left, behind-leaves, behind-says}
 use Rattle.nodes.specs.Laws.Walk.{Walk, Turn, kids, walk-children, kids-children, walk-none, turn-at, turn-splits, turn-falls, left-fits}
@@ -38,7 +39,7 @@ use Rattle.shape.specs.Tallied.{timesBy, holding, OneMore, Meets}
 use Rattle.shape.specs.Faults.{fault, sooner, faultOf}
 use Rattle.shape.specs.Parts.{ownFault, textShaped, timesRight, orderRight, frameRight, kidsFault}
 use Rattle.shape.specs.Asked.{Known, Timed, Roomy, Tallying}
-use Rattle.shape.specs.Walked.{Walks, refusedWalk, finishedWalk}
+use Rattle.shape.specs.Walked.{Owns, Walks, refusedWalk, finishedWalk}
 use Rattle.shape.specs.declared.Tally.{Tally}
 use Rattle.shape.specs.declared.Walked.{Walked}
 use Rattle.shape.specs.Laws.Faults.{IsFault, is-fault, is-six, sooner-fault, sooner-three, sooner-turned, sooner-none, six-first}
@@ -118,14 +119,14 @@ few-lines t k = go (eqb (textAt t k) 0) (leb (kindCell t k 3) (linesFrom t k + 8
     go true false e = omega arith
     go false b e = omega arith
 
-module _ (t l : List ℕ) {text : List ℕ} {at kind : ℕ} (p : Known text at kind) {worst : ℕ} (w : worst ≡ ownFault t l kind (the text at))
+module _ (t l : List ℕ) {text : List ℕ} {at kind : ℕ} (p : Known text at kind) {worst i : ℕ} (own : Owns t l text at kind worst i)
   where
     pub walking-start : {from : ℕ} → from ≡ kindCell t kind 2 → {to : ℕ} → to ≡ linesTo t kind → to < 4294967304 → {form : ℕ}
-        → form ≡ kindCell t kind 4 → {next : Ahead} → next ≡ first-ahead (not (eqb form 0)) text at
+        → form ≡ kindCell t kind 4 → {next : Ahead} → next ≡ ahead-in-tag (not (eqb form 0)) text i
         → Walking t l text at kind from to (not (eqb form 0)) worst emptyTally next
     unfolding linesFrom textAt
     walking-start {from} f {to} g s {form} o e =
-        rw e (record {
+        rw (e, in-tag-first (own .inside) (not (eqb form 0))) (record {
           of-kind = p;
           starts = f;
           stops = g;
@@ -139,8 +140,8 @@ module _ (t l : List ℕ) {text : List ℕ} {at kind : ℕ} (p : Known text at k
           leave-so = refl;
           walk = walk-children (p .stands);
           deeper = first-deeper (p .stands);
-          faulty = rw w (own-faulty t l kind (the text at));
-          faults = rw (w, kids-children (p .stands));
+          faulty = rw (own .fault-is) (own-faulty t l kind (the text at));
+          faults = rw (own .fault-is, kids-children (p .stands));
           counted = none-counted t l kind from to _ _ (sym (kids-children (p .stands)));
           room = λ q. rw (nothing-yet q) (let z = left-fits text (first text at) in omega arith);
         })

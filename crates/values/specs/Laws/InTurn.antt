@@ -9,15 +9,16 @@ use borrow.Author.Needs.{needs}
 use borrow.Author.Tests.{leb-true, leb-false}
 use lib.Dec.{leb}
 use lib.ListN.{length, drop}
+use lib.Seq.{drop-drop}
 use Rattle.lists.specs.Lists.{all, any, countUp}
-use Rattle.lists.specs.Laws.Booleans.{refute, or-first, or-second}
+use Rattle.lists.specs.Laws.Booleans.{refute, or-first, or-second, clash}
 use Rattle.lists.specs.Laws.Lists.{all-append}
 use Rattle.grammar.specs.Bytes.{ascii, blank, Each, a-byte}
 use Rattle.grammar.specs.Document.{Attribute}
 use Rattle.grammar.specs.Grammar as grammar
 use Rattle.grammar.specs.Grammar.{Absent, Distinct, Attributes, Gap}
 use Rattle.grammar.specs.Look.{is, attributesOf, textOf}
-use Rattle.grammar.specs.Read.{bind, byte, ok-got}
+use Rattle.grammar.specs.Read.{fail, got, bind, byte, ok-got}
 use Rattle.grammar.specs.Parser.{name-at, gap-at, value-at, ends, closing, same}
 use Rattle.grammar.specs.Laws.Sound.{gap-sound, name-sound, attributes-sound, same-refl}
 use Rattle.grammar.specs.Laws.Tokens.{ends-blanks, ends-name, same-equal}
@@ -31,25 +32,29 @@ use Rattle.steps.specs.declared.Step.the-variants.{To, No}
 use Rattle.steps.specs.declared.attributes.Key as token-key
 use Rattle.steps.specs.declared.attributes.Key.the-variants as key-is
 use Rattle.nodes.specs.Places.{Stands, the}
+use Rattle.nodes.specs.Scan.{tag-from, InTag}
+use Rattle.nodes.specs.Laws.Scan.{tag-opens}
+use Rattle.nodes.specs.Laws.ScanEnds.{tag-name}
 use Rattle.nodes.specs.Attributes.{Key, key, key-bytes, keys-by, keys-step, keys, keys-in, place-in, place, Hold, one-key, keys-law}
 use Rattle.nodes.specs.Names.{ending-attributes}
 use Rattle.nodes.specs.Values.{value-there}
 use Rattle.nodes.specs.Laws.ReadSteps.{spelled}
-use Rattle.nodes.specs.Laws.Attributes.{keys-go}
+use Rattle.nodes.specs.Laws.Attributes.{keys-go, keys-tag}
 use Rattle.nodes.specs.declared.Found.{Found}
 use Rattle.nodes.specs.declared.Found.the-variants.{At, Nothing}
 use Rattle.schema.specs.Schema.{Form, rowName}
 use Rattle.shape.specs.Table.{wordAt, formAt, kindCell, attributeCell, attributeBy, attributeAt}
 use Rattle.shape.specs.Table.{attributesOfKind, attributesFrom, attributesTo}
 use Rattle.shape.specs.Faults.{sooner}
-use Rattle.shape.specs.Parts.{valueFault, textFault, ownFault, nameListed, keyListed}
+use Rattle.shape.specs.Parts.{valueFault, textFault, nameListed, keyListed}
 use Rattle.shape.specs.Asked.{Known}
+use Rattle.shape.specs.Walked.{AllListed, Owns}
 use Rattle.shape.specs.Laws.Asked.{known-small, known-stands, known-other}
 use Rattle.shape.specs.Laws.Attributes.{attribute-there, attribute-missing, attribute-spared}
 use Rattle.shape.specs.Laws.Attributes.{Fitting, fitting-start, fitting-attributed, fitting-room, fitting-on, fitting-end}
 use Rattle.shape.specs.Laws.Attributes.{own-six, own-other, own-text}
 use Rattle.shape.specs.Laws.Keys.{key-ahead, key-inside}
-use Rattle.values.specs.InTurn.{keysFrom, Over, none-passed, one-passed, Within, Placed, Asking, Asked, Walked}
+use Rattle.values.specs.InTurn.{keysFrom, Over, none-passed, one-passed, Within, Placed, Asking, Asked, Begins, Walked}
 
 -- NO NAME TWICE
 distinct-law : {text : List ℕ} {at : ℕ} → Stands text at → Distinct (attributesOf (the text at))
@@ -98,7 +103,7 @@ module _ (text : List ℕ) (i : ℕ) {k : token-key.Key} (ek : k ≡ keyed (leng
       keys-go text i (sym goes-on) refl ek z ex w ∙ ap (λ s. key s end ∷ keysFrom text j) e in
       record {
         there = place-law name (p .stands) (p .before) (keysFrom text j) (p .parts ∙ ap (λ s. p .before ++ s) q);
-        passed = one-passed q;
+        passed = one-passed q (keys-tag text i (sym goes-on) refl ek z ex w);
       }
 
 pub sought-searched : {text : List ℕ} {at i : ℕ} {name : List ℕ} {f : Found} → f ≡ place text at name → Placed text at i name f i
@@ -137,19 +142,40 @@ none-left : (text : List ℕ) → keysFrom text (length text) ≡ []
 unfolding keys-by key-bytes gap-at bind byte ends
 none-left text = rw (at-end text (length text) (omega arith)) (keys-step (length text) [])
 
+-- an element has a name
+its-name : {text : List ℕ} {at : ℕ} → Stands text at → name-at (drop (at + 1) text) ≡ fail → ⊥
+its-name {text} {at} st e =
+    let p = spelled (drop at text) (the text at) (st .rest) (st .reads) in
+    let q : drop (at + 1) text ≡ p .behind-open = sym (drop-drop 1 at text) ∙ ap (drop 1) (p .opens) in
+    let n : name-at (drop (at + 1) text) ≡ got (p .name) (p .behind-name) = rw q (p .names) in
+    clash (cc)
+
 module _ (text : List ℕ) (at : ℕ) where
-  pub none-begin : length text ≤ at → keys text at ≡ keysFrom text (length text)
+  pub none-begin : length text ≤ at → Begins text at (length text)
   unfolding keys keys-in name-at bind byte
-  none-begin h = let k : length text ≤ at + 1 = omega arith in rw (at-end text (at + 1) k) (sym (none-left text))
+  none-begin h = record {
+    all-keys = let k : length text ≤ at + 1 = omega arith in rw (at-end text (at + 1) k) (sym (none-left text));
+    inside = λ st. absurd (omega (arith, st .here));
+  }
 
   module _ {x : Step} (ex : x ≡ stepped (length text) (name-at (drop (at + 1) text))) where
-    pub unnamed-begin : x ≡ No → keys text at ≡ keysFrom text (length text)
+    pub unnamed-begin : x ≡ No → Begins text at (length text)
     unfolding keys keys-in
-    unnamed-begin w = rw (fell (length text) (name-at (drop (at + 1) text)) (sym w ∙ ex)) (sym (none-left text))
+    unnamed-begin w =
+        let e : name-at (drop (at + 1) text) ≡ fail = fell (length text) (name-at (drop (at + 1) text)) (sym w ∙ ex) in
+        record { all-keys = rw e (sym (none-left text)); inside = λ st. absurd (its-name st e) }
 
-    pub named-begin : {i : ℕ} → x ≡ To i → keys text at ≡ keysFrom text i
+    pub named-begin : {i : ℕ} → x ≡ To i → Begins text at i
     unfolding keys keys-in
-    named-begin {i} w = rw (went name-at text (at + 1) i (name-tails (drop (at + 1) text)) (sym w ∙ ex) .reads)
+    named-begin {i} w =
+        let g = went name-at text (at + 1) i (name-tails (drop (at + 1) text)) (sym w ∙ ex) in
+        let n = ok-got (rw (g .reads) at (name-sound (drop (at + 1) text))) in
+        record {
+          all-keys = rw (g .reads);
+          inside = λ st. record {
+            same-tag = tag-opens text at (st .here) .same-tag ∙ ap (tag-from 0) (n .0) ∙ tag-name (n .1) (drop i text);
+          };
+        }
 
 pub ruleset beginning = (none-begin, unnamed-begin, named-begin, needs)
 
@@ -161,13 +187,22 @@ pub record Walking (t l text : List ℕ) (at kind to worst w i : ℕ) : Type 0 w
   pub before : List Key
   pub parts : keys text at ≡ before ++ keysFrom text i
   pub named : all (keyListed (attributesOfKind t l kind)) before ≡ true
+  pub inside : InTag text at i
 
 pub walking-start : (t l : List ℕ) {text : List ℕ} {at kind : ℕ} → Known text at kind → {to : ℕ} → to ≡ kindCell t kind 1
-    → to < 4294967296 → {from : ℕ} → from ≡ kindCell t kind 0 → {i : ℕ} → keys text at ≡ keysFrom text i
+    → to < 4294967296 → {from : ℕ} → from ≡ kindCell t kind 0 → {i : ℕ} → Begins text at i
     → Walking t l text at kind to 0 from i
 unfolding all
 walking-start t l p e u f b =
-    record { fits = fitting-start t l p e u f; last = e; begun = omega arith; before = []; parts = b; named = refl }
+    record {
+      fits = fitting-start t l p e u f;
+      last = e;
+      begun = omega arith;
+      before = [];
+      parts = b .all-keys;
+      named = refl;
+      inside = b .inside (p .stands);
+    }
 
 by-name : (n : ℕ) (s : String) (f : Form) → rowName (attributeBy n s f) ≡ s
 unfolding attributeBy rowName
@@ -221,8 +256,9 @@ module _ {t l text : List ℕ} {at kind to worst w i : ℕ} (go : Walking t l te
         before = go .before;
         parts = go .parts;
         named = go .named;
+        inside = go .inside;
       }
-      by (one-passed {value = v} {to = j} q) =
+      by (one-passed {value = v} {to = j} q s) =
           let x : List ℕ = ascii (wordAt t l (attributeCell t w 0)) in
           let n = listed-here t l kind w (go .begun) (omega (arith, go .last)) in
           record {
@@ -232,6 +268,7 @@ module _ {t l text : List ℕ} {at kind to worst w i : ℕ} (go : Walking t l te
             before = go .before ++ (key x v ∷ []);
             parts = go .parts ∙ ap (λ s. go .before ++ s) q ∙ sym (append-assoc (go .before) (key x v ∷ []) (keysFrom text j));
             named = all-append (keyListed (attributesOfKind t l kind)) (go .before) (key x v ∷ []) ∙ rw (go .named, n);
+            inside = record { same-tag = go .inside .same-tag ∙ s };
           }
 
   pub walking-end : to ≤ w → Walked t l text at kind worst i
@@ -239,26 +276,30 @@ module _ {t l text : List ℕ} {at kind to worst w i : ℕ} (go : Walking t l te
     right = fitting-end (go .fits) h;
     named = ap (all (keyListed (attributesOfKind t l kind))) (go .parts)
         ∙ all-append (keyListed (attributesOfKind t l kind)) (go .before) (keysFrom text i) ∙ rw (go .named);
+    inside = go .inside;
   }
 
 pub ruleset walking = (walking-start, walking-asks, walking-room, walking-on, walking-end, known-small, needs)
 
 -- THE ELEMENT'S OWN PART
 module _ {t l text : List ℕ} {at kind a i : ℕ} (p : Known text at kind) (s : Walked t l text at kind a i) where
-  pub walked-six : a ≡ 6 → 6 ≡ ownFault t l kind (the text at)
-  walked-six e = own-six t l p (s .right) e
+  pub walked-six : a ≡ 6 → Owns t l text at kind 6 i
+  walked-six e = record { fault-is = own-six t l p (s .right) e; inside = s .inside }
 
-  module _ {from to : ℕ} (f : from ≡ kindCell t kind 0) (g : to ≡ kindCell t kind 1) {b : Bool}
-      (k : b ≡ all (keyListed (countUp (attributeAt t l) from (to - from))) (keysFrom text i)) where
+  module _ {from to : ℕ} (f : from ≡ kindCell t kind 0) (g : to ≡ kindCell t kind 1) {b : Bool} {j : ℕ}
+      (k : AllListed (countUp (attributeAt t l) from (to - from)) text i b j) where
     whole : b ≡ all (keyListed (countUp (attributeAt t l) from (to - from))) (keys text at)
     unfolding attributesOfKind attributesFrom attributesTo
-    whole = k ∙ rw (f, g) (sym (s .named))
+    whole = k .right-is ∙ rw (f, g) (sym (s .named))
 
-    pub walked-other : not b ≡ true → 6 ≡ ownFault t l kind (the text at)
-    walked-other h = own-other t l p (s .right) f g whole h
+    there : InTag text at j
+    there = record { same-tag = s .inside .same-tag ∙ k .same-tag }
+
+    pub walked-other : not b ≡ true → Owns t l text at kind 6 j
+    walked-other h = record { fault-is = own-other t l p (s .right) f g whole h; inside = there }
 
     pub walked-text : not b ≡ false → {c : ℕ} → c ≡ kindCell t kind 4 → {r : ℕ} → r ≡ textFault t c (textOf (the text at)) → {o : ℕ}
-        → o ≡ sooner a r → o ≡ ownFault t l kind (the text at)
-    walked-text h u r o = own-text t l p (s .right) f g whole h u r o
+        → o ≡ sooner a r → Owns t l text at kind o j
+    walked-text h u r o = record { fault-is = own-text t l p (s .right) f g whole h u r o; inside = there }
 
 pub ruleset owning = (walked-six, walked-other, walked-text, known-other, known-small, known-stands, needs)

@@ -5,12 +5,8 @@ use Rattle.elements.proofs.ahead.ahead_first.Tie as tie
 pub ahead-first-spec : {M : Type 1} → statement M
 ahead-first-spec {M = M} =
     let closed = tie.spec {M = M}
+    (λ c. search starts-ahead)
+    (λ c. search starts-ahead)
     (λ c κs. search starts-ahead)
-    (λ c. search starts-ahead)
-    (λ c κs. search starts-ahead)
-    (λ c. search starts-ahead)
-    (λ c. search starts-ahead)
-    (λ c. search starts-ahead)
-    (λ c. search starts-ahead)
     (λ c. search starts-ahead)
     in tie.close closed

@@ -20,7 +20,6 @@ listed-from-spec =
     μ-loop
     (λ c. search listing)
     (λ c κs. search listing)
-    (λ c. search listing)
     (λ c κs. search listing)
     (λ c. search listing)
     (λ c. search listing)
@@ -29,6 +28,7 @@ listed-from-spec =
     (λ c κs. search listing)
     (λ c. search listing)
     (λ c κs. search listing)
+    (λ c. search listing)
     (λ c. search listing)
     (λ c. search listing)
     (λ c. search listing)

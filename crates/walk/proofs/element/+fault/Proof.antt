@@ -9,7 +9,7 @@ use borrow.Fn.PlainCycle.{Measures, is, falls, and}
 use Rattle.walk.proofs.element.fault.Reads as fault
 use Rattle.walk.proofs.element.fault.Kinds as fault-kinds
 use Rattle.walk.proofs.element.+fault.Lts-fault as fault-lts
-use Rattle.elements.proofs.ahead.ahead_first.Reads as ahead-first-reads
+use Rattle.elements.proofs.ahead.ahead_in_tag.Reads as ahead-in-tag-reads
 use Rattle.elements.proofs.ahead.ahead_from.Reads as ahead-from-reads
 use Rattle.lookup.proofs.table.kind_cell.Reads as kind-cell-reads
 use Rattle.lookup.proofs.table.lines_end.Reads as lines-end-reads
@@ -45,8 +45,8 @@ pub +fault-spec : {M : Type 1} → statement M
   kind-cell-reads.Learnt,
   lines-end-reads.Asked,
   lines-end-reads.Learnt,
-  ahead-first-reads.Asked,
-  ahead-first-reads.Learnt,
+  ahead-in-tag-reads.Asked,
+  ahead-in-tag-reads.Learnt,
   child-reads.Asked,
   child-reads.Learnt,
   refused-reads.Asked,
