@@ -1,6 +1,4 @@
 pub mod Promises
-pub mod Lists
-pub mod Sides
 pub mod AllNames
 pub mod Labels
 pub mod Gifti

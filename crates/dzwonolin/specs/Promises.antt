@@ -4,10 +4,6 @@ use mathlib.Core.Path.{_≡_}
 use mathlib.Core.List.{List, [], _∷_}
 use Prim.Native.Nat.{ℕ}
 use lib.ListN.{getD}
-use Rattle.records.specs.Find.{Finds}
-use Rattle.records.specs.Sheet.{Packs, Unpacks}
-use Rattle.records.specs.declared.search.Found.{Found}
-use Rattle.records.specs.declared.outcome.Outcome.{Outcome}
 use Rattle.cifti.specs.Answer.{Reads}
 use Rattle.cifti.specs.declared.answer.Answer.{Answer}
 use Rattle.map_names.specs.Placed.{NamePlaced}
@@ -28,24 +24,6 @@ pub record NamesFlat (text lengths : List ℕ) (dimension index : ℕ) (slice : 
   pub places : NamePlaced text lengths dimension index answer
   pub numbered : number ≡ answer .number
   pub flat : sliceAfter ≡ laidOver (answer .start ∷ answer .length ∷ []) slice
-
-pub record FindsFlat (records : List ℕ) (x : ℕ) (slice : List ℕ) (number : ℕ) (sliceAfter : List ℕ) : Type 0 where
-  pub answer : Found
-  pub finds : Finds records x answer
-  pub numbered : number ≡ answer .number
-  pub flat : sliceAfter ≡ laidOver (answer .place .0 ∷ []) slice
-
-pub record PacksFlat (records sheet slice : List ℕ) (number : ℕ) (sheetAfter sliceAfter : List ℕ) : Type 0 where
-  pub answer : Outcome
-  pub packs : Packs records sheet answer sheetAfter
-  pub numbered : number ≡ answer .number
-  pub flat : sliceAfter ≡ laidOver (answer .value ∷ []) slice
-
-pub record UnpacksFlat (sheet records slice : List ℕ) (number : ℕ) (recordsAfter sliceAfter : List ℕ) : Type 0 where
-  pub answer : Outcome
-  pub unpacks : Unpacks sheet records answer recordsAfter
-  pub numbered : number ≡ answer .number
-  pub flat : sliceAfter ≡ laidOver (answer .value ∷ []) slice
 
 -- ---- Of a file.
 

@@ -1,0 +1,4 @@
+pub mod Numbers
+pub mod Unique
+pub mod Lists
+pub mod Sides

@@ -1,0 +1,5 @@
+pub mod Numbers
+pub mod Promises
+pub mod Lists
+pub mod Sides
+pub mod Laws
