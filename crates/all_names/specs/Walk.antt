@@ -14,9 +14,9 @@ use Rattle.nodes.specs.Children as Children
 use Rattle.nodes.specs.Inside.{between-tags}
 use Rattle.nodes.specs.declared.Found.{Found}
 use Rattle.nodes.specs.declared.Found.the-variants.{At, Nothing}
-use Rattle.ways.specs.Walked.{placesFrom}
-use Rattle.ways.specs.Treads.{called, childNamed}
-use Rattle.ways.specs.One.{tagEnd}
+use Rattle.inside.specs.Walked.{placesFrom}
+use Rattle.inside.specs.Treads.{called, childNamed}
+use Rattle.inside.specs.One.{tagEnd}
 
 -- where the NamedMaps begin
 unfoldable pub namedIn : List ℕ → ℕ → List ℕ

@@ -1,3 +1,4 @@
 pub mod Ahead
 pub mod Low
 pub mod Gathered
+pub mod Rows

@@ -1,3 +1,4 @@
 pub mod Ahead
 pub mod Gathered
+pub mod Rows
 pub mod Laws

@@ -1,15 +1,19 @@
-// The keys of an array, one after another, in whatever encoding they are written.
+// The keys of an array, one after another or many at a time, in whatever encoding they are written.
 
 // Keys of four bytes in Base64.
 mod coded;
 // The key of four bytes.
 mod fours;
+// Keys many at a time, into a lent slice.
+mod rows;
 
 pub use base64_reader::letter_values;
 use coded::coded_next;
 pub use fours::key_of;
-use key_lists::ListedKey;
+use keys::ListedKey;
 use nodes::Found;
+pub use rows::KeyRow;
+pub use rows::fill_from;
 ghost use mathlib.Core.Path.{_≡_};
 ghost use Rattle.base64_reader.specs.Groups.{valuesLent};
 ghost use Rattle.array_keys.specs.Ahead.{keysStart, KeyTold};
@@ -59,7 +63,7 @@ pub fn keys_start(text: &[u8], at: usize) -> KeyPlace
 fn plain_next(text: &[u8], from: KeyPlace) -> NextKey
     ensures { λ r. ⌜ KeyTold encodings.Plain (now (text .entry)) from r ⌝ }
 {
-    match key_lists::next_key(text, from.at) {
+    match keys::next_key(text, from.at) {
         ListedKey::Key(k, j) => NextKey::Key(k, place(j, 0, 0)),
         ListedKey::End => NextKey::End(0),
         ListedKey::Bad => NextKey::End(0),

@@ -1,1 +1,4 @@
 pub mod Change
+pub mod TwoSheets
+pub mod Part
+pub mod Lines

@@ -1,4 +1,4 @@
-// What changed from one sheet to another, index by index.
+// What changed from one sheet to another, index by index. The theorems on two sheets side by side are in specs/Laws.
 use record_fields::find;
 use records::Place;
 ghost use mathlib.Core.Path.{_≡_};

@@ -2,8 +2,8 @@
 use super::refusal::count_in;
 use super::refusal::location_twice;
 use comparison::Compared;
-use pairing::both_in;
-use pairing::same_in;
+use matching::both_in;
+use matching::same_in;
 ghost use mathlib.Core.Path.{_≡_};
 ghost use mathlib.Core.Bool.{not, _&&_};
 ghost use lib.Dec.{eqb};

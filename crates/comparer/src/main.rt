@@ -1,4 +1,8 @@
 // Two sheets end to end on standard input; what changed from the first to the second, a line each, on standard output.
+
+// The bytes of a line.
+mod change_text;
+
 use card::Line;
 use libc::STDERR_FILENO;
 use libc::STDIN_FILENO;
@@ -8,7 +12,7 @@ ghost use mathlib.Core.Bool.{false};
 ghost use Prim.Native.Nat.{_+_, _≤_};
 ghost use lib.ListN.{length};
 ghost use Rattle.comparison.specs.Compare.{recordsOf, compareRefusal};
-ghost use Rattle.change_text.specs.Output.{outputBytes, refusalBytes, programBytes};
+ghost use Rattle.comparer.specs.Output.{outputBytes, refusalBytes, programBytes};
 
 // How many bytes came, or that a read failed.
 struct Came {

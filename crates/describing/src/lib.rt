@@ -1,4 +1,5 @@
-// What the answer says of the maps, and condition 13. The laws are in `describe`.
+// What the answer says of the maps, and condition 13.
+
 // The places that each map takes, and 13.
 mod room;
 // What a series map says.

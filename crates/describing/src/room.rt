@@ -6,7 +6,7 @@ use maps::survey::nth;
 ghost use mathlib.Core.Path.{_≡_};
 ghost use Rattle.cifti.specs.Conditions.{roomShort};
 ghost use Rattle.maps.specs.Ready.{Ready, mapsAt};
-ghost use Rattle.describe.specs.Room.{reachIn};
+ghost use Rattle.describing.specs.Room.{reachIn};
 
 pub(crate) fn reach_of(note: MapNote) -> u64
     ensures { λ r. ⌜ r ≡ reachIn note ⌝ }

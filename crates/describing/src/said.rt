@@ -20,7 +20,7 @@ ghost use Rattle.cifti.specs.Answer as answers;
 ghost use Rattle.maps.specs.Survey.{Noted};
 ghost use Rattle.maps.specs.Ready.{Ready, mapsAt};
 ghost use Rattle.maps.specs.ListedOnce.{Asking};
-ghost use Rattle.describe.specs.Said.{seriesIn, startIn};
+ghost use Rattle.describing.specs.Said.{seriesIn, startIn};
 
 // What the map says of a series; zero where it is none.
 fn series_in(text: &[u8], note: MapNote) -> Series

@@ -1,8 +1,8 @@
 // What a series map says.
 use answers::no_decimal;
 use cifti::Series;
-use decimals::decimal_value;
 use nodes::Found;
+use number_values::decimal_value;
 use number_values::exponent_value;
 use numbers::Decimal;
 use numbers::Decimals;
@@ -12,7 +12,7 @@ ghost use Rattle.grammar.specs.Look.{attr};
 ghost use Rattle.nodes.specs.Places.{Stands, the};
 ghost use Rattle.cifti.specs.Words.{units, numberIn};
 ghost use Rattle.maps.specs.Fields.{attributeWord};
-ghost use Rattle.describe.specs.Series.{decimalSeen, exponentSeen, seriesSaid, SeriesAt};
+ghost use Rattle.describing.specs.Series.{decimalSeen, exponentSeen, seriesSaid, SeriesAt};
 
 // The attribute's decimal, zero where there is none.
 fn decimal_seen(text: &[u8], at: usize, name: &[u8]) -> Decimal

@@ -1,7 +1,7 @@
 // Passing over what is known to be well formed: only tags matter.
-use blocks::block_lacks;
 use heads::comments::comment_end;
 use heads::data::data_end;
+use letters::blocks::block_lacks;
 use letters::classes::is_quote;
 use markup::pieces::front_at;
 use nodes::scan::Sign;

@@ -41,7 +41,7 @@ pub fn is_exponent(text: &[u8], v: usize, most: u64) -> bool
 pub fn is_decimal(text: &[u8], v: usize) -> bool
     ensures { λ r. ⌜ r ≡ decimal (value-there (now (text .entry)) v) ⌝ }
 {
-    match decimals::decimal_value(text, v) {
+    match number_values::decimal_value(text, v) {
         Decimals::Is(_) => true,
         Decimals::No => false,
     }
@@ -112,7 +112,7 @@ pub fn are_sixteen(text: &[u8], at: usize) -> bool
     ensures { λ r. ⌜ r ≡ sixteen (text-of (now (text .entry)) at) ⌝ }
 {
     match inside::texts::text_start(text, at) {
-        Found::At(i) => decimals::sixteen_ok(text, i),
+        Found::At(i) => number_values::sixteen_ok(text, i),
         Found::Nothing => false,
     }
 }

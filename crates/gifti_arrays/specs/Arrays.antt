@@ -11,7 +11,7 @@ use Rattle.grammar.specs.Document.{Element}
 use Rattle.grammar.specs.Look.{has}
 use Rattle.nodes.specs.declared.Found.{Found}
 use Rattle.nodes.specs.declared.Found.the-variants.{At, Nothing}
-use Rattle.ways.specs.Treads.{childNamed}
+use Rattle.inside.specs.Treads.{childNamed}
 use Rattle.numbers.specs.Numbers.{inKeys}
 use Rattle.base64.specs.Fours.{codedBytes}
 use Rattle.known_keys.specs.Known.{knownIn}

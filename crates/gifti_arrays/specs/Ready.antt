@@ -6,7 +6,7 @@ use Prim.Native.Nat.{ℕ}
 use lib.Dec.{eqb}
 use Rattle.lists.specs.Lists.{twoOf}
 use Rattle.nodes.specs.Places.{Stands, the}
-use Rattle.key_codes.specs.Codes.{codesAt}
+use Rattle.label_table.specs.Codes.{codesAt}
 use Rattle.known_keys.specs.Order.{inOrder}
 use Rattle.gifti.specs.Arrays.{fillsDim0}
 use Rattle.gifti.specs.Held.{GoodArray}

@@ -2,9 +2,9 @@
 use super::tally::count_keys;
 use array_keys::Encoding;
 use inside::values::attribute_is;
+use inside::ways::child_named;
 use maps::fields::attribute_number;
 use nodes::Found;
-use ways::child_named;
 ghost use mathlib.Core.Path.{_≡_};
 ghost use Rattle.nodes.specs.Places.{Stands, the};
 ghost use Rattle.gifti_arrays.specs.Ready.{ArrayHere, ArrayAsked};

@@ -5,7 +5,7 @@ use known_keys::taken;
 use label_table::labels::first_label;
 use nodes::Kid;
 ghost use Rattle.nodes.specs.Places.{the};
-ghost use Rattle.key_codes.specs.Codes.{codesAt};
+ghost use Rattle.label_table.specs.Codes.{codesAt};
 ghost use Rattle.gifti_arrays.specs.Ready.{TableHere};
 ghost use Rattle.gifti_arrays.specs.Arrays.{ToldAll, Room};
 

@@ -1,8 +1,8 @@
 // The keys of an array, counted, and those of them that stand in a part of the table; written into a lent slice.
 use array_keys::Encoding;
+use array_keys::fill_from;
 use array_keys::keys_start;
 use array_keys::letter_values;
-use key_rows::fill_from;
 use known_keys::known_among;
 ghost use mathlib.Core.Path.{_≡_};
 ghost use mathlib.Core.Bool.{true};

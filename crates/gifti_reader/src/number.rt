@@ -1,10 +1,10 @@
 // Conditions 9, 24, 18, 30 and 31, in this order.
 use gifti_arrays::arrays_told;
 use gifti_arrays::searched;
+use inside::ways::child_named;
 use key_twice::key_twice;
 use maps::fields::attribute_number;
 use nodes::Found;
-use ways::child_named;
 ghost use mathlib.Core.Path.{_≡_};
 ghost use Rattle.lists.specs.Refusals.{first};
 ghost use Rattle.nodes.specs.Places.{the};

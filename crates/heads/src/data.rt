@@ -1,9 +1,9 @@
 // CDATA.
 use super::characters::character_end;
-use blocks::past_quick;
 use letters::blanks::feed_end;
 use letters::blanks::mark_end;
 use letters::blanks::starts;
+use letters::blocks::past_quick;
 use steps::Step;
 ghost use mathlib.Core.Path.{_≡_};
 ghost use lib.ListN.{length, drop};

@@ -1,15 +1,15 @@
 // A part of the keys of a table, in their order, and the Labels behind it.
-use key_codes::codes::code_at;
 use known_keys::place_in;
 use known_keys::sieve::passes;
 use known_keys::sieve::sieve;
+use label_table::codes::code_at;
 use label_table::labels::next_label;
 use nodes::Kid;
 ghost use mathlib.Core.Path.{_≡_};
 ghost use mathlib.Core.Bool.{true};
 ghost use lib.Dec.{eqb};
 ghost use Rattle.lists.specs.Lists.{twoOf};
-ghost use Rattle.key_codes.specs.Laws.Walks.{toCome};
+ghost use Rattle.label_table.specs.Laws.Walks.{toCome};
 ghost use Rattle.known_keys.specs.Order.{inOrder};
 ghost use Rattle.known_keys.specs.Sieve.{Sifting};
 ghost use Rattle.key_twice.specs.Parts.{someIn, partTwice};

@@ -1,8 +1,13 @@
-// The numbers of a label: its key, and its colours.
+// The numbers of a label: its key, and its colours; and keys in a row.
 
 // A decimal in value from 0 to 1.
 mod shade;
+// The next key of a text, and whether a text lists keys.
+mod key_lists;
 
+pub use key_lists::ListedKey;
+pub use key_lists::are_keys;
+pub use key_lists::next_key;
 use nodes::Char;
 use number_lists::chars::char_at;
 use number_values::part_at;
@@ -91,7 +96,7 @@ pub fn is_colour(text: &[u8], at: usize) -> bool
     if is_zero_or_one(text, at) {
         return true;
     }
-    match decimals::decimal_value(text, at) {
+    match number_values::decimal_value(text, at) {
         Decimals::Is(d) => in_shade(d.amount, d.power),
         Decimals::No => false,
     }

@@ -1,6 +1,6 @@
 // A decimal in value from 0 to 1, by its amount and its power of ten.
-use decimals::value::places_of;
-use decimals::value::ten_to;
+use number_values::in_value::places_of;
+use number_values::in_value::ten_to;
 use numbers::Whole;
 ghost use mathlib.Core.Path.{_≡_};
 ghost use Prim.Native.Nat.{_^_, _<_};

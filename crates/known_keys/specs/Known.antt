@@ -10,8 +10,8 @@ use Rattle.numbers.specs.Numbers.{inKeys}
 use Rattle.nodes.specs.declared.Kid.{Kid}
 use Rattle.nodes.specs.declared.Kid.the-variants.{Child}
 use Rattle.comparison.specs.Matched.{member, Reordered}
-use Rattle.key_codes.specs.Laws.Walks.{toCome}
-use Rattle.key_codes.specs.Codes.{codeOf}
+use Rattle.label_table.specs.Laws.Walks.{toCome}
+use Rattle.label_table.specs.Codes.{codeOf}
 use Rattle.known_keys.specs.Order.{inOrder}
 
 -- how many numbers of the list stand in the table

@@ -2,7 +2,7 @@
 use super::search::place_in;
 use super::sieve::passes;
 use super::sieve::sieve;
-use key_codes::codes::code_of;
+use label_table::codes::code_of;
 ghost use mathlib.Core.Path.{_≡_};
 ghost use mathlib.Core.Bool.{true};
 ghost use Rattle.known_keys.specs.Order.{inOrder};

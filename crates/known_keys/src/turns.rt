@@ -1,6 +1,6 @@
 // The keys of a table, as many at a time as there is room for, in their order.
 use super::order::arrange;
-use key_codes::codes::code_at;
+use label_table::codes::code_at;
 use label_table::labels::next_label;
 use nodes::Kid;
 ghost use Rattle.known_keys.specs.Known.{Gathered, Taken};

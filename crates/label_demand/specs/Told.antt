@@ -10,7 +10,7 @@ use Rattle.lists.specs.Lists.{each}
 use Rattle.grammar.specs.Document.{Element}
 use Rattle.grammar.specs.Look.{withinOf}
 use Rattle.label_tables.specs.LabelTable.{labelsOf, keyOf, labelsWith}
-use Rattle.ways.specs.Way.{reached}
+use Rattle.inside.specs.Way.{reached}
 use Rattle.label_reader.specs.Way.{tableWay}
 
 -- as many keys as the table has Labels, and at place n the key that its n-th Label writes

@@ -31,10 +31,10 @@ use Rattle.cifti.specs.Conditions.{ofMaps}
 use Rattle.cifti.specs.Labels.{labelsRefusals, noKey, labelRefusal, labelsOn, labelBy, labelPart, LabelNumber, LabelPart}
 use Rattle.cifti.specs.Laws.Text.{answers-by}
 use Rattle.cifti.specs.Laws.Labels.{label-number-unique, label-part-unique}
-use Rattle.ways.specs.Way.{nth, Place}
-use Rattle.ways.specs.Walked.{wayAt, Agrees, not-there, stands-there}
-use Rattle.ways.specs.One as One
-use Rattle.ways.specs.One.{tagEnd, place-cut, place-found}
+use Rattle.inside.specs.Way.{nth, Place}
+use Rattle.inside.specs.Walked.{wayAt, Agrees, not-there, stands-there}
+use Rattle.inside.specs.One as One
+use Rattle.inside.specs.One.{tagEnd, place-cut, place-found}
 use Rattle.map_names.specs.Answered.{Is}
 use Rattle.map_names.specs.Treads.{namedAt}
 use Rattle.map_names.specs.declared.NamePlace.{NamePlace}

@@ -8,7 +8,7 @@ use Rattle.grammar.specs.Document.{Element}
 use Rattle.grammar.specs.Look.{is, nameOf}
 use Rattle.numbers.specs.Numbers.{sameKey}
 use Rattle.label_tables.specs.LabelTable.{keyOf}
-use Rattle.ways.specs.Way.{Step, step}
+use Rattle.inside.specs.Way.{Step, step}
 use Rattle.map_names.specs.Way.{wayInMap}
 
 unfoldable pub tableWay : (dimension index : ℕ) → List Step

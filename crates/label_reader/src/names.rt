@@ -1,12 +1,12 @@
 // The name of a key: the number of its refusal, where the name stands in the text, and the part of the text that is the name.
 use super::before::number_before;
 use inside::texts::written;
+use inside::ways::behind_tag;
 use label_table::label_with;
 use map_names::NamePlace;
 use map_names::named_there;
 use nodes::Found;
 use records::Index;
-use ways::behind_tag;
 ghost use Rattle.cifti.specs.Labels.{LabelNumber, LabelPart};
 ghost use Rattle.label_reader.specs.Names.{InTable, LabelPlaced};
 

@@ -17,8 +17,8 @@ use Rattle.numbers.specs.Numbers.{sameKey}
 use Rattle.numbers.specs.Answers.{keyIn}
 use Rattle.numbers.specs.declared.Key.{Key}
 use Rattle.numbers.specs.declared.Key.the-variants.{Is, No}
-use Rattle.ways.specs.Walked.{placesFrom, nthPlace}
-use Rattle.ways.specs.Treads.{called}
+use Rattle.inside.specs.Walked.{placesFrom, nthPlace}
+use Rattle.inside.specs.Treads.{called}
 
 -- ---- The Labels.
 

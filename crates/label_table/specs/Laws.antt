@@ -1,2 +1,4 @@
 pub mod Labels
 pub mod Told
+pub mod Codes
+pub mod Walks

@@ -1,2 +1,3 @@
 pub mod LabelTable
 pub mod Laws
+pub mod Tests

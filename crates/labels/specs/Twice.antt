@@ -17,8 +17,8 @@ use Rattle.nodes.specs.Children.{first, next}
 use Rattle.nodes.specs.Names.{named}
 use Rattle.nodes.specs.declared.Kid.{Kid}
 use Rattle.nodes.specs.declared.Kid.the-variants.{Child, Done}
-use Rattle.ways.specs.Walked.{placesFrom, Stood, none, one, children-stood}
-use Rattle.ways.specs.Treads.{ahead, next-ahead, places-done, places-child, called, called-is, called-alike}
+use Rattle.inside.specs.Walked.{placesFrom, Stood, none, one, children-stood}
+use Rattle.inside.specs.Treads.{ahead, next-ahead, places-done, places-child, called, called-is, called-alike}
 use Rattle.label_tables.specs.LabelTable as tables
 use Rattle.label_tables.specs.LabelTable.{tableKeys}
 use Rattle.label_table.specs.Labels.{twiceAt}

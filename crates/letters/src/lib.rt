@@ -1,4 +1,4 @@
-// The smallest readers: classes of bytes, blanks and marks, names.
+// The smallest readers: classes of bytes, blanks and marks, names; and blocks of sixteen bytes.
 
 // What a byte may be.
 pub mod classes;
@@ -6,3 +6,5 @@ pub mod classes;
 pub mod blanks;
 // Names, and whether two are equal.
 pub mod names;
+// Sixteen bytes at once: whether they lack a byte, and how far plain bytes go.
+pub mod blocks;

@@ -11,7 +11,7 @@ use Rattle.grammar.specs.Bytes.{ascii}
 use Rattle.nodes.specs.Inside.{between-tags}
 use Rattle.nodes.specs.declared.Found.{Found}
 use Rattle.nodes.specs.declared.Found.the-variants.{At, Nothing}
-use Rattle.ways.specs.One.{tagEnd}
+use Rattle.inside.specs.One.{tagEnd}
 use Rattle.map_names.specs.Treads.{namedAt}
 use Rattle.map_names.specs.declared.NamePlace.{NamePlace}
 

@@ -30,10 +30,10 @@ use Rattle.cifti.specs.Rows.{cifti}
 use Rattle.cifti.specs.Laws.Text.{answers-by}
 use Rattle.cifti.specs.Laws.Theorems.{number-unique, part-unique}
 use Rattle.maps.specs.Laws.Good.{Good}
-use Rattle.ways.specs.Way.{reached, Place}
-use Rattle.ways.specs.Walked.{wayAt, Agrees, not-there, stands-there, way-agrees}
-use Rattle.ways.specs.One as One
-use Rattle.ways.specs.One.{tagEnd, place-cut, place-found}
+use Rattle.inside.specs.Way.{reached, Place}
+use Rattle.inside.specs.Walked.{wayAt, Agrees, not-there, stands-there, way-agrees}
+use Rattle.inside.specs.One as One
+use Rattle.inside.specs.One.{tagEnd, place-cut, place-found}
 use Rattle.map_names.specs.Way.{nameWay}
 use Rattle.map_names.specs.Laws.Reached.{NameOf, no-name, a-name, listed-once, name-of}
 use Rattle.map_names.specs.Treads.{name-way}

@@ -31,9 +31,9 @@ use Rattle.numbers.specs.Answers.{betweenIn}
 use Rattle.numbers.specs.declared.Whole.{Whole}
 use Rattle.numbers.specs.declared.Whole.the-variants as whole
 use Rattle.cifti.specs.Maps.{dimensionsOf}
-use Rattle.ways.specs.Walked.{childAt, thence, wayAt}
-use Rattle.ways.specs.Treads.{Seeking, seeking-start, seeking-done, seeking-less, seeking-off, seeking-found, called, called-alike}
-use Rattle.ways.specs.Treads.{childNamed, Tread, tread, trod, trodFrom, Alike, alike-none, alike-more, trod-way}
+use Rattle.inside.specs.Walked.{childAt, thence, wayAt}
+use Rattle.inside.specs.Treads.{Seeking, seeking-start, seeking-done, seeking-less, seeking-off, seeking-found, called, called-alike}
+use Rattle.inside.specs.Treads.{childNamed, Tread, tread, trod, trodFrom, Alike, alike-none, alike-more, trod-way}
 use Rattle.map_names.specs.Way.{ofName, listsDimension, mapThatLists, mapWay, inMap, wayInMap, nameWay}
 
 -- ---- A map that lists the dimension.

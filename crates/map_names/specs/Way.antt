@@ -10,7 +10,7 @@ use Rattle.grammar.specs.Document.{Element}
 use Rattle.grammar.specs.Look.{is, nameOf, attr}
 use Rattle.numbers.specs.Numbers.{dimensionList}
 use Rattle.cifti.specs.Maps.{dimensionsOf}
-use Rattle.ways.specs.Way.{Step, step}
+use Rattle.inside.specs.Way.{Step, step}
 
 unfoldable pub ofName : String → Element → Bool
 ofName s e = is s (nameOf e)

@@ -1,11 +1,11 @@
 // What stands between the tags in contents: characters, comments and CDATA.
-use blocks::past_quick;
 use heads::characters::character_end;
 use heads::characters::reference_end;
 use heads::comments::comment_end;
 use heads::data::data_end;
 use letters::blanks::feed_end;
 use letters::blanks::starts;
+use letters::blocks::past_quick;
 use steps::Step;
 use steps::pieces::Between;
 use steps::pieces::Front;

@@ -1,5 +1,16 @@
-// Numbers of one value: whole numbers, lengths, dimension lists, exponents.
+// Numbers of one value: whole numbers, lengths, dimension lists, exponents, decimals with powers of ten; and the row of sixteen decimals.
 
+// What stands behind a mantissa.
+mod power;
+// A decimal at a place.
+mod written;
+// A decimal beside 0 and 1, in value.
+pub mod in_value;
+// The decimal that a value writes, and the row of sixteen.
+mod decimals;
+
+pub use decimals::decimal_value;
+pub use decimals::sixteen_ok;
 use nodes::Char;
 use number_lists::chars::char_at;
 use number_lists::chars::digits;

@@ -21,3 +21,11 @@ pub mod Elements
 pub mod Document
 pub mod Unique
 pub mod Utf8
+pub mod LineEnds
+pub mod Alike
+pub mod BytesAlike
+pub mod CharactersAlike
+pub mod CommentsAlike
+pub mod DataAlike
+pub mod PrologueAlike
+pub mod DocumentsAlike

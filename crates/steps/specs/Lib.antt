@@ -8,4 +8,5 @@ pub mod Tags
 pub mod Pieces
 pub mod Blocks
 pub mod WellFormed
+pub mod LineEnds
 pub mod Laws

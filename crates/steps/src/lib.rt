@@ -1,4 +1,5 @@
-// Where what begins at a place of a text ends: what the readers of bytes answer. Definitions, laws and types; no functions.
+// Where what begins at a place of a text ends: what the readers of bytes answer; and that a text says what it says with its line ends
+// translated first. Definitions, laws and types; no functions.
 
 // The position behind what was read, or that nothing was.
 pub enum Step {

@@ -1,2 +1,15 @@
 pub mod Volumes
 pub mod Nth
+pub mod Accepted
+pub mod Alone
+pub mod Passed
+pub mod Indexed
+pub mod Located
+pub mod Given
+pub mod Packable
+pub mod ByOffset
+pub mod Kinds
+pub mod Chain
+pub mod Stretches
+pub mod TableLists
+pub mod MapsListed

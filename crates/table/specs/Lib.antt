@@ -5,4 +5,9 @@ pub mod Ready
 pub mod Stretch
 pub mod Twice
 pub mod Stretches
+pub mod Accepted
+pub mod Located
+pub mod Packable
+pub mod ByOffset
 pub mod Laws
+pub mod Tests

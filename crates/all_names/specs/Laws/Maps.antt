@@ -25,7 +25,7 @@ use Rattle.maps.specs.Laws.Kinds.{OnlyChild, root-child}
 use Rattle.maps.specs.Laws.MapKind.{GoodMap}
 use Rattle.maps.specs.Ready.{GoodMaps, no-maps, one-map, good-maps}
 use Rattle.maps.specs.Listed.{any-some}
-use Rattle.ways.specs.Way.{nth, onward, reached}
+use Rattle.inside.specs.Way.{nth, onward, reached}
 use Rattle.map_names.specs.Way.{ofName, mapThatLists, mapWay}
 use Rattle.map_names.specs.Laws.Held.{Named, no-named, one-named, each-named, holds-so}
 use Rattle.map_names.specs.Laws.Reached.{some-counted, lists-it, dimensions-split, matrix-step, maps-in}

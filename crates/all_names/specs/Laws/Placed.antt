@@ -33,10 +33,10 @@ use Rattle.cifti.specs.Conditions.{conditionsOfHeader, ofMaps}
 use Rattle.cifti.specs.Maps.{mapsOf}
 use Rattle.cifti.specs.Names.{noName, namesOn}
 use Rattle.cifti.specs.Laws.Text.{answers-by}
-use Rattle.ways.specs.Walked.{nthPlace, childAt, thence, Stood, none, one, those-stood, children-stood, those-same}
-use Rattle.ways.specs.Walked.{Agrees, not-there, stands-there, way-agrees}
-use Rattle.ways.specs.Treads.{called, childNamed, called-alike, tread, trod}
-use Rattle.ways.specs.One.{tagEnd}
+use Rattle.inside.specs.Walked.{nthPlace, childAt, thence, Stood, none, one, those-stood, children-stood, those-same}
+use Rattle.inside.specs.Walked.{Agrees, not-there, stands-there, way-agrees}
+use Rattle.inside.specs.Treads.{called, childNamed, called-alike, tread, trod}
+use Rattle.inside.specs.One.{tagEnd}
 use Rattle.map_names.specs.Way.{nameWay, mapWay}
 use Rattle.map_names.specs.Treads.{inMapTreads, mapThere, namedAt, name-thence, name-way, map-way}
 use Rattle.map_names.specs.Answered.{answered-found}

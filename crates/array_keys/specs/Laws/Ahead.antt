@@ -23,9 +23,9 @@ use Rattle.numbers.specs.Numbers.{words, key, keyValue, keyList, listedKeys}
 use Rattle.base64.specs.Base64.{unblanked, worth, sixes, three, threeMore, ending, fourValues, decode, bytesIn, coded}
 use Rattle.base64.specs.Fours.{Endian, big, little, keysIn, bytesOr, codedKeys, codedBytes}
 use Rattle.base64_reader.specs.Groups.{lettersAt, lowBytes, fourRead, fourAhead, bytesAhead}
-use Rattle.key_lists.specs.KeyLists as lists
-use Rattle.key_lists.specs.declared.ListedKey.{ListedKey}
-use Rattle.key_lists.specs.declared.ListedKey.the-variants as listed
+use Rattle.keys.specs.KeyLists as lists
+use Rattle.keys.specs.declared.key_lists.ListedKey.{ListedKey}
+use Rattle.keys.specs.declared.key_lists.ListedKey.the-variants as listed
 use Rattle.array_keys.specs.Ahead.{keysBefore, heldBytes, bytesFrom, codedAhead, keysAhead, spareBytes, keysLeft, startIn}
 use Rattle.array_keys.specs.Ahead.{keysStart, KeyTold, told-key, told-end, encodingIf}
 use Rattle.array_keys.specs.declared.Encoding.{Encoding}

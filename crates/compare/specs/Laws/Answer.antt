@@ -15,7 +15,7 @@ use Rattle.comparison.specs.declared.Compared.{Compared}
 use Rattle.comparison.specs.Laws.Accepted.{fine}
 use Rattle.comparison.specs.Laws.Held.{held-long}
 use Rattle.comparison.specs.Laws.Sums.{both-is, only-is, both-turned}
-use Rattle.pairing.specs.Side.{Beside, Walkable}
+use Rattle.matching.specs.Side.{Beside, Walkable}
 use Rattle.compare.specs.Refused.{repeatRefusal, Fits, Begun}
 use Rattle.compare.specs.Laws.Covered.{left-out}
 

@@ -2,7 +2,7 @@ use mathlib.Core.Path.{refl, sym, _∙_}
 use lib.Seq.{length-take-le}
 use native.Mathlib.Omega.{arith}
 use borrow.Author.Needs.{needs}
-use Rattle.change_text.specs.Laws.Room.{output-said, refusal-said, number-told, rest-is}
+use Rattle.comparer.specs.Laws.Room.{output-said, refusal-said, number-told, rest-is}
 use Rattle.comparer.proofs.print_answer.Statement.{statement}
 use Rattle.comparer.proofs.print_answer.Tie as tie
 

@@ -13,7 +13,7 @@ use Rattle.comparison.specs.Accepted.{sheetRefusal}
 use Rattle.comparison.specs.Laws.Accepted.{accepted}
 use Rattle.comparison.specs.Laws.Held.{held-long}
 use Rattle.compare.specs.Laws.Held.{unpacked-value, unpacked-holds}
-use Rattle.change_text.specs.Output.{outputBytes}
+use Rattle.comparer.specs.Output.{outputBytes}
 use Rattle.comparer.proofs.print_both.Statement.{statement}
 use Rattle.comparer.proofs.print_both.Tie as tie
 

@@ -4,7 +4,7 @@ use borrow.Author.Needs.{needs}
 use Prim.Native.Nat.{_+_, _≤_, _-_}
 use lib.ListN.{length}
 use native.Mathlib.Omega.{arith}
-use Rattle.change_text.specs.Laws.Lines.{bytesBelow, bytes-none, bytes-few, bytes-next, bytes-all, line-small}
+use Rattle.comparer.specs.Laws.Lines.{bytesBelow, bytes-none, bytes-few, bytes-next, bytes-all, line-small}
 use Rattle.comparer.proofs.print_lines.Statement.{statement}
 use Rattle.comparer.proofs.print_lines.Tie as tie
 

@@ -1,6 +1,6 @@
 use native.Mathlib.Omega.{arith}
 use borrow.Author.Needs.{needs}
-use Rattle.change_text.specs.Laws.Output.{refusal-all}
+use Rattle.comparer.specs.Laws.Output.{refusal-all}
 use Rattle.comparer.proofs.print_refusal.Statement.{statement}
 use Rattle.comparer.proofs.print_refusal.Tie as tie
 

@@ -20,9 +20,9 @@ use Rattle.nodes.specs.Found.{value-at-name, has-law}
 use Rattle.nodes.specs.Texts.{text-of, text-law}
 use Rattle.nodes.specs.declared.Found.{Found}
 use Rattle.nodes.specs.declared.Found.the-variants.{At, Nothing}
-use Rattle.ways.specs.Way.{nth}
-use Rattle.ways.specs.Walked.{child-same, child-agrees, Agrees, not-there, stands-there}
-use Rattle.ways.specs.Treads.{called-alike, childNamed}
+use Rattle.inside.specs.Way.{nth}
+use Rattle.inside.specs.Walked.{child-same, child-agrees, Agrees, not-there, stands-there}
+use Rattle.inside.specs.Treads.{called-alike, childNamed}
 use Rattle.gifti.specs.Arrays.{isCoded, endianOf, dataOf, dim0, arrayKeys, fillsDim0}
 use Rattle.array_keys.specs.Ahead.{keysAhead, spareBytes, keysStart}
 use Rattle.array_keys.specs.declared.Encoding.{Encoding}

@@ -22,7 +22,7 @@ use Rattle.nodes.specs.declared.Kid.the-variants.{Child, Done}
 use Rattle.numbers.specs.Numbers.{inKeys}
 use Rattle.comparison.specs.Laws.Matched.{count-most}
 use Rattle.comparison.specs.Matched.{member}
-use Rattle.key_codes.specs.Codes.{codeOf}
+use Rattle.label_table.specs.Codes.{codeOf}
 use Rattle.known_keys.specs.Known.{knownIn}
 use Rattle.known_keys.specs.Order.{inOrder}
 use Rattle.gifti.specs.Arrays.{arraysOf, arrayKeys, fillsDim0}

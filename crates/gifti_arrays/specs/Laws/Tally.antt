@@ -22,11 +22,11 @@ use Rattle.label_table.specs.Labels.{filledWith}
 use Rattle.label_table.specs.Laws.Told.{filled-told}
 use Rattle.known_keys.specs.Known.{knownIn, codesOf, KnownAmong}
 use Rattle.array_keys.specs.Ahead.{keysAhead, spareBytes, keysLeft, keysStart}
-use Rattle.key_rows.specs.Rows.{RowTold}
+use Rattle.array_keys.specs.Rows.{RowTold}
 use Rattle.array_keys.specs.Laws.Ahead.{start-left}
 use Rattle.array_keys.specs.declared.Encoding.{Encoding}
 use Rattle.array_keys.specs.declared.KeyPlace.{KeyPlace}
-use Rattle.key_rows.specs.declared.KeyRow.{KeyRow}
+use Rattle.array_keys.specs.declared.rows.KeyRow.{KeyRow}
 use Rattle.gifti_arrays.specs.Tally.{RowRoom, Tallied}
 use Rattle.gifti_arrays.specs.Laws.Arrays.{known-append, known-most}
 

@@ -22,9 +22,9 @@ use Rattle.grammar.specs.Parser.{parse}
 use Rattle.nodes.specs.Places.{the}
 use Rattle.nodes.specs.declared.Found.{Found}
 use Rattle.nodes.specs.declared.Found.the-variants.{At, Nothing}
-use Rattle.ways.specs.Way.{nth}
-use Rattle.ways.specs.Walked.{Agrees}
-use Rattle.ways.specs.Treads.{childNamed}
+use Rattle.inside.specs.Way.{nth}
+use Rattle.inside.specs.Walked.{Agrees}
+use Rattle.inside.specs.Treads.{childNamed}
 use Rattle.label_table.specs.Labels.{filledWith, Wrote}
 use Rattle.label_table.specs.Laws.Told.{filled-told}
 use Rattle.cifti.specs.Labels.{overwritten}

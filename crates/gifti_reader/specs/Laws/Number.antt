@@ -21,15 +21,15 @@ use Rattle.nodes.specs.Places.{Stands, the}
 use Rattle.nodes.specs.declared.Found.{Found}
 use Rattle.nodes.specs.declared.Found.the-variants.{At, Nothing}
 use Rattle.numbers.specs.Numbers.{inKeys}
-use Rattle.ways.specs.Way.{nth}
-use Rattle.ways.specs.Walked.{Agrees}
-use Rattle.ways.specs.Treads.{childNamed}
+use Rattle.inside.specs.Way.{nth}
+use Rattle.inside.specs.Walked.{Agrees}
+use Rattle.inside.specs.Treads.{childNamed}
 use Rattle.maps.specs.Fields.{attributeWord, numberSeen, word-at, number-seen}
 use Rattle.label_tables.specs.LabelTable.{keysRight, tableKeys, keyTwice}
 use Rattle.label_table.specs.Labels.{keysAt, twiceAt}
 use Rattle.label_table.specs.Laws.Told.{keys-told, twice-told}
-use Rattle.key_codes.specs.Codes.{codeOf, codesAt}
-use Rattle.key_codes.specs.Laws.Codes.{twice-codes}
+use Rattle.label_table.specs.Codes.{codeOf, codesAt}
+use Rattle.label_table.specs.Laws.Codes.{twice-codes}
 use Rattle.comparison.specs.Matched.{member}
 use Rattle.known_keys.specs.Order.{orderedFrom, inOrder}
 use Rattle.known_keys.specs.Known.{knownIn}

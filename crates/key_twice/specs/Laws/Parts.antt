@@ -18,9 +18,9 @@ use Rattle.nodes.specs.declared.Kid.{Kid}
 use Rattle.nodes.specs.declared.Kid.the-variants.{Child, Done}
 use Rattle.comparison.specs.Matched.{member, Reordered}
 use Rattle.label_table.specs.Labels.{twiceAt, firstLabel, nextLabel}
-use Rattle.key_codes.specs.Codes.{codeHere, codesAt}
-use Rattle.key_codes.specs.Laws.Codes.{twice-codes}
-use Rattle.key_codes.specs.Laws.Walks.{toCome, walk-less, come-more, come-first, come-done}
+use Rattle.label_table.specs.Codes.{codeHere, codesAt}
+use Rattle.label_table.specs.Laws.Codes.{twice-codes}
+use Rattle.label_table.specs.Laws.Walks.{toCome, walk-less, come-more, come-first, come-done}
 use Rattle.known_keys.specs.Order.{orderedFrom, inOrder}
 use Rattle.known_keys.specs.Known.{Placed, Taken}
 use Rattle.known_keys.specs.Sieve.{sifted, Sieve, Sifting}

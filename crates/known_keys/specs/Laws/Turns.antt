@@ -20,9 +20,9 @@ use Rattle.numbers.specs.Numbers.{inKeys, sameKey}
 use Rattle.comparison.specs.Matched.{member}
 use Rattle.label_table.specs.Labels.{labels, keyHere, keysAt, nextLabel}
 use Rattle.label_table.specs.Laws.Labels.{row}
-use Rattle.key_codes.specs.Codes.{codeOf, codeHere, codesAt}
-use Rattle.key_codes.specs.Laws.Codes.{code-small, code-same, here-in}
-use Rattle.key_codes.specs.Laws.Walks.{toCome, come-more, walk-less}
+use Rattle.label_table.specs.Codes.{codeOf, codeHere, codesAt}
+use Rattle.label_table.specs.Laws.Codes.{code-small, code-same, here-in}
+use Rattle.label_table.specs.Laws.Walks.{toCome, come-more, walk-less}
 use Rattle.known_keys.specs.Order.{Arranged, Within}
 use Rattle.known_keys.specs.Known.{knownIn, Gathered, Taken}
 use Rattle.known_keys.specs.Laws.Order.{all-within, member-kept}

@@ -28,7 +28,7 @@ use Rattle.cifti.specs.Labels.{noTable, labelsRefusals, keysOn, keysShort, keys
 use Rattle.cifti.specs.Labels.{keysAfterwards, noKey, labelRefusal, labelBy, labelPart, labelsOn, Keys, LabelNumber, LabelPart}
 use Rattle.cifti.specs.Laws.Text.{answers-of}
 use Rattle.maps.specs.Laws.Good.{Good}
-use Rattle.ways.specs.Way.{reached}
+use Rattle.inside.specs.Way.{reached}
 use Rattle.map_names.specs.Placed.{Fine, fine}
 use Rattle.map_names.specs.Laws.Reached.{listed-once}
 use Rattle.label_reader.specs.Way.{tableWay}

@@ -27,7 +27,7 @@ use Rattle.maps.specs.Laws.Good.{Good, row-met}
 use Rattle.maps.specs.Laws.Kinds.{root-child}
 use Rattle.maps.specs.Laws.MapKind.{GoodMap, rowsName, namesChild, childless}
 use Rattle.maps.specs.Ready.{GoodMaps, no-maps, one-map, good-maps}
-use Rattle.ways.specs.Way.{Step, step, nth, onward, reached}
+use Rattle.inside.specs.Way.{Step, step, nth, onward, reached}
 use Rattle.map_names.specs.Way.{ofName, inMap}
 use Rattle.map_names.specs.Laws.Held.{OneRow, all-named, scalars-children, labels-children, good-labels, no-named-maps, namedOf, named-kind}
 use Rattle.map_names.specs.Laws.Reached.{OnMap, not-held, on-map, FoundIn, none-held, one-held, found-in, toldOf, toldIn, maps-in}
@@ -152,7 +152,8 @@ keys-in d (e ∷ l) = go (any (eqb d) (dimensionsOf e)) (keys-in d l)
         → eachIn (λ m. m .tables) (those (λ m. any (eqb d) (m .dimensions)) (each mapOf l))
         ≡ eachIn (λ x. each tableKeys (tablesIn x)) (those (lists-it d) l)
         → eachIn (λ m. m .tables)
-        (cond b (mapOf e ∷ those (λ m. any (eqb d) (m .dimensions)) (each mapOf l)) (those (λ m. any (eqb d) (m .dimensions)) (each mapOf l)))
+        (cond b (mapOf e ∷ those (λ m. any (eqb d) (m .dimensions)) (each mapOf l))
+        (those (λ m. any (eqb d) (m .dimensions)) (each mapOf l)))
         ≡ eachIn (λ x. each tableKeys (tablesIn x)) (cond b (e ∷ those (lists-it d) l) (those (lists-it d) l))
     go true h = ap (λ r. each tableKeys (tablesIn e) ++ r) h
     go false h = h

@@ -26,10 +26,10 @@ use Rattle.numbers.specs.Numbers.{sameKey}
 use Rattle.numbers.specs.Answers.{keyIn}
 use Rattle.label_tables.specs.LabelTable.{labelsOf, keyOf, keysRight, tableKeys, labelsWith, namesWith}
 use Rattle.label_table.specs.Labels.{labels, labelsFrom, orZero, keyHere, has-key, labelWith}
-use Rattle.ways.specs.Way.{Step, step, nth}
-use Rattle.ways.specs.Walked.{placesFrom, nthPlace, childAt, thence, walked, walkedFrom, wayAt, Stood, none, one, children-stood, Agrees}
-use Rattle.ways.specs.Walked.{not-there, stands-there}
-use Rattle.ways.specs.Treads.{called, called-alike}
+use Rattle.inside.specs.Way.{Step, step, nth}
+use Rattle.inside.specs.Walked.{placesFrom, nthPlace, childAt, thence, walked, walkedFrom, wayAt, Stood, none, one, children-stood, Agrees}
+use Rattle.inside.specs.Walked.{not-there, stands-there}
+use Rattle.inside.specs.Treads.{called, called-alike}
 use Rattle.label_reader.specs.Way.{tableWay, labelOf, toLabel, labelWay}
 
 -- ---- What a found Label says of the keys.

@@ -23,8 +23,8 @@ use Rattle.cifti.specs.Maps.{mapsOf}
 use Rattle.cifti.specs.Conditions.{conditionsOfHeader, conditionsOfLabels, ofMaps}
 use Rattle.cifti.specs.Labels.{noTable, labelsRefusals, keysOn, labelsOn}
 use Rattle.maps.specs.Laws.Good.{Good}
-use Rattle.ways.specs.Way.{reached}
-use Rattle.ways.specs.Walked.{wayAt, Agrees, not-there, stands-there, way-agrees}
+use Rattle.inside.specs.Way.{reached}
+use Rattle.inside.specs.Walked.{wayAt, Agrees, not-there, stands-there, way-agrees}
 use Rattle.map_names.specs.Treads.{namedAt, way-in-map}
 use Rattle.map_names.specs.Placed.{Fine, fine}
 use Rattle.map_names.specs.Laws.Reached.{listed-once}

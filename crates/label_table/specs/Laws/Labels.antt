@@ -28,8 +28,8 @@ use Rattle.numbers.specs.Answers.{keyIn}
 use Rattle.numbers.specs.Laws.Keys.{same-key, key-same}
 use Rattle.numbers.specs.declared.Key.{Key}
 use Rattle.numbers.specs.declared.Key.the-variants.{Is, No}
-use Rattle.ways.specs.Walked.{placesWithin, placesFrom, nthPlace}
-use Rattle.ways.specs.Treads.{ahead, next-ahead, places-done, places-child, called, called-is}
+use Rattle.inside.specs.Walked.{placesWithin, placesFrom, nthPlace}
+use Rattle.inside.specs.Treads.{ahead, next-ahead, places-done, places-child, called, called-is}
 use Rattle.label_table.specs.Labels.{labelsFrom, labels, headOf, labelFrom, firstLabel, nextLabel, orZero, keyHere, keysAt}
 use Rattle.label_table.specs.Labels.{has-key, labelWith, filledWith}
 

@@ -15,9 +15,9 @@ use Rattle.nodes.specs.Places.{Stands, the}
 use Rattle.nodes.specs.Found.{attr-law}
 use Rattle.numbers.specs.Numbers.{key, keyValue, sameKey}
 use Rattle.numbers.specs.Answers.{keyIn}
-use Rattle.ways.specs.Way.{nth}
-use Rattle.ways.specs.Walked.{Stood, none, one, children-stood, nthPlace, Agrees, not-there, stands-there}
-use Rattle.ways.specs.Treads.{called, called-alike}
+use Rattle.inside.specs.Way.{nth}
+use Rattle.inside.specs.Walked.{Stood, none, one, children-stood, nthPlace, Agrees, not-there, stands-there}
+use Rattle.inside.specs.Treads.{called, called-alike}
 use Rattle.label_tables.specs.LabelTable.{labelsOf, keyOf, keysRight, tableKeys, keyTwice, labelsWith}
 use Rattle.label_table.specs.Labels.{labelsFrom, labels, orZero, keyHere, keysAt, filledWith, has-key, labelWith, twiceAt}
 

@@ -1,5 +1,5 @@
 use Rattle.map_names.specs.Treads.{first-map, mapAt}
-use Rattle.ways.specs.Treads.{Seeking, ahead}
+use Rattle.inside.specs.Treads.{Seeking, ahead}
 use Rattle.map_names.proofs.map_on.Statement.{statement}
 use Rattle.map_names.proofs.map_on.Tie as tie
 

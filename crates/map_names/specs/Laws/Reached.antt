@@ -28,7 +28,7 @@ use Rattle.maps.specs.Laws.Kinds.{OnlyChild, root-child}
 use Rattle.maps.specs.Laws.MapKind.{GoodMap, map-dimensions}
 use Rattle.maps.specs.Ready.{GoodMaps, no-maps, one-map, good-maps}
 use Rattle.maps.specs.Listed.{any-some}
-use Rattle.ways.specs.Way.{Step, step, nth, onward, reached}
+use Rattle.inside.specs.Way.{Step, step, nth, onward, reached}
 use Rattle.map_names.specs.Way.{ofName, listsDimension, mapThatLists, inMap, wayInMap, nameWay}
 use Rattle.map_names.specs.Laws.Held.{Named, no-named, one-named, each-named, holds-so}
 

@@ -1,4 +1,4 @@
-use Rattle.describe.specs.Room.{housing, House}
+use Rattle.describing.specs.Room.{housing, House}
 use Prim.Native.Nat.{_-_}
 use Rattle.maps.specs.Ready.{mapsAt}
 use Rattle.maps.specs.Over.{Over}

@@ -1,4 +1,4 @@
-use Rattle.describe.specs.Said.{answering}
+use Rattle.describing.specs.Said.{answering}
 use Rattle.describing.proofs.said.accepted.Statement.{statement}
 use Rattle.describing.proofs.said.accepted.Tie as tie
 

@@ -1,6 +1,6 @@
 use Rattle.labels.specs.Twice.{asking}
 use Rattle.grammar.specs.Bytes.{ascii}
-use Rattle.ways.specs.Treads.{ahead}
+use Rattle.inside.specs.Treads.{ahead}
 use Rattle.label_table.specs.Labels.{twiceAt}
 use Rattle.labels.specs.Twice.{Asking}
 use Rattle.labels.proofs.twice.named_twice.Statement.{statement}

@@ -1,0 +1,27 @@
+use Rattle.card_text.specs.Laws.Write.{spelled-part, write-short, write-all, write-counts}
+use native.Mathlib.Omega.{arith}
+use borrow.Author.Needs.{needs}
+use Rattle.comparer.proofs.change_text.write_change.Statement.{statement}
+use Rattle.comparer.proofs.change_text.write_change.Tie as tie
+
+pub write-change-spec : {M : Type 1} → statement M
+write-change-spec =
+    tie.close
+    (tie.spec
+    (λ c. search needs)
+    (λ c κs. search needs)
+    (λ c. (
+      write-short (c .before .before .spell-at .ensures) (c .before .before .before .before .before .before .before .args .out .now)
+          (c .if1 .taken),
+      omega arith,
+    ))
+    (λ c. search needs)
+    (λ c. spelled-part (c .before .before .before .spell-at .ensures))
+    (λ c κs. omega (arith, spelled-part (c .before .before .before .before .spell-at .ensures)))
+    (λ c. search needs)
+    (λ c. (
+      write-all (c .before .before .before .before .before .before .before .spell-at .ensures) _ (omega arith)
+          (c .before .before .copy .ensures .1),
+      write-counts (c .before .before .before .before .before .before .before .spell-at .ensures) _ (omega arith)
+          (c .before .before .copy .ensures .1),
+    )))

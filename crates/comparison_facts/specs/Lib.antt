@@ -1,3 +1,0 @@
-pub mod Facts
-pub mod Part
-pub mod Lines

@@ -1,1 +1,0 @@
-// Theorems on two sheets side by side. No functions.

@@ -1,0 +1,27 @@
+use Rattle.nodes.specs.Laws.Texts.{lettering}
+use Rattle.inside.proofs.texts.letter_at.Statement.{statement}
+use Rattle.inside.proofs.texts.letter_at.Tie as tie
+
+returns-2 : tie.Need-returns-2
+returns-2 c = search lettering
+
+returns-4 : tie.Need-returns-4
+returns-4 c = search lettering
+
+pub letter-at-spec : {M : Type 1} → statement M
+letter-at-spec {M = M} =
+    let closed = tie.spec {M = M}
+    (λ c. search lettering)
+    (λ c. search lettering)
+    (λ c κs. search lettering)
+    (λ c. search lettering)
+    returns-2
+    (λ c. search lettering)
+    (λ c. search lettering)
+    (λ c. search lettering)
+    (λ c. search lettering)
+    (λ c κs. search lettering)
+    returns-4
+    (λ c. search lettering)
+    (λ c. search lettering)
+    in tie.close closed

@@ -1,0 +1,29 @@
+use Rattle.inside.specs.Treads.{seeking, Seeking, called, ahead}
+use Rattle.inside.proofs.ways.child_named.Statement.{statement}
+use Rattle.inside.proofs.ways.child_named.Tie as tie
+
+abbrev Inv-loop : tie.InvT-loop
+Inv-loop text at word n left₀ kid₀ left kid = Seeking (called text word) n text at left kid
+
+abbrev μ-loop : tie.MeasureT-loop
+μ-loop text at word n left₀ kid₀ left kid = ahead text kid
+
+pub child-named-spec : {M : Type 1} → statement M
+child-named-spec =
+    tie.close
+    (tie.spec
+    Inv-loop
+    μ-loop
+    (λ c κs. search seeking)
+    (λ c. search seeking)
+    (λ c. search seeking)
+    (λ c κs. search seeking)
+    (λ c. search seeking)
+    (λ c κs. search seeking)
+    (λ c. search seeking)
+    (λ c. search seeking)
+    (λ c. search seeking)
+    (λ c. search seeking)
+    (λ c. search seeking)
+    (λ c. search seeking)
+    (λ c. search seeking))

@@ -1,2 +1,0 @@
-pub mod Spelled
-pub mod KeyLists

@@ -1,1 +1,0 @@
-// Tables of labels, computed. No functions: see specs/.

@@ -1,2 +1,0 @@
-pub mod ByOffset
-pub mod Laws
