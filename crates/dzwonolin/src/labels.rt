@@ -18,9 +18,9 @@ pub extern "C" fn dz_label_keys(
     ensures { λ r. ⌜ KeysFlat (now (text .entry)) (now (lengths .entry)) dimension index (now (keys .entry)) (now (count .entry)) r
         (now (keys .exit)) (now (count .exit)) ⌝ }
 {
-    let said = label_keys(text, lengths, dimension, Index(index), keys);
-    tell_one(count, said.count as u64);
-    said.number
+    let keyed = label_keys(text, lengths, dimension, Index(index), keys);
+    tell_one(count, keyed.count as u64);
+    keyed.number
 }
 
 #[no_mangle]

@@ -41,26 +41,26 @@ pub extern "C" fn dz_map_name(
 ) -> u64
     ensures { λ r. ⌜ NamesFlat (now (text .entry)) (now (lengths .entry)) dimension index (now (part .entry)) r (now (part .exit)) ⌝ }
 {
-    let said = map_name_place(text, lengths, dimension, Index(index));
-    tell_two(part, said.start as u64, said.length as u64);
-    said.number
+    let place = map_name_place(text, lengths, dimension, Index(index));
+    tell_two(part, place.start as u64, place.length as u64);
+    place.number
 }
 
 #[no_mangle]
 pub extern "C" fn dz_front(file: &[u8], front: &mut [u64]) -> u64
     ensures { λ r. ⌜ FrontsFlat (now (file .entry)) (now (front .entry)) r (now (front .exit)) ⌝ }
 {
-    let said = front::front(file);
-    let lengths = said.lengths;
+    let found = front::front(file);
+    let lengths = found.lengths;
     let mut row = [0u64; 6];
-    row[0] = said.count;
+    row[0] = found.count;
     row[1] = lengths[0];
     row[2] = lengths[1];
     row[3] = lengths[2];
-    row[4] = said.start as u64;
-    row[5] = said.length as u64;
+    row[4] = found.start as u64;
+    row[5] = found.length as u64;
     tell_row(front, &row);
-    said.number
+    found.number
 }
 
 #[no_mangle]
@@ -73,9 +73,9 @@ pub extern "C" fn dz_read_file(
     ensures { λ r. ⌜ ReadsFileFlat (now (file .entry)) (now (records .entry)) (now (work .entry)) (now (answer .entry)) r
         (now (records .exit)) (now (work .exit)) (now (answer .exit)) ⌝ }
 {
-    let said = file_reader::read_file(file, records, work);
-    tell_answer(answer, said);
-    said.number
+    let filed = file_reader::read_file(file, records, work);
+    tell_answer(answer, filed);
+    filed.number
 }
 
 #[no_mangle]

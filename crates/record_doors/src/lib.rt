@@ -25,9 +25,9 @@ ghost use Rattle.record_doors.specs.Sides.{ComparesFlat, TailsFlat};
 pub extern "C" fn dz_find(records: &[u64], number: u64, place: &mut [u64]) -> u64
     ensures { λ r. ⌜ FindsFlat (now (records .entry)) number (now (place .entry)) r (now (place .exit)) ⌝ }
 {
-    let said = record_fields::find(records, number);
-    tell_one(place, said.place.0 as u64);
-    said.number
+    let found = record_fields::find(records, number);
+    tell_one(place, found.place.0 as u64);
+    found.number
 }
 
 #[no_mangle]
@@ -35,9 +35,9 @@ pub extern "C" fn dz_pack(records: &[u64], sheet: &mut [u8], count: &mut [u64]) 
     ensures { λ r. ⌜ PacksFlat (now (records .entry)) (now (sheet .entry)) (now (count .entry)) r (now (sheet .exit))
         (now (count .exit)) ⌝ }
 {
-    let said = sheets::pack(records, sheet);
-    tell_one(count, said.value);
-    said.number
+    let packed = sheets::pack(records, sheet);
+    tell_one(count, packed.value);
+    packed.number
 }
 
 #[no_mangle]
@@ -45,9 +45,9 @@ pub extern "C" fn dz_unpack(sheet: &[u8], records: &mut [u64], count: &mut [u64]
     ensures { λ r. ⌜ UnpacksFlat (now (sheet .entry)) (now (records .entry)) (now (count .entry)) r (now (records .exit))
         (now (count .exit)) ⌝ }
 {
-    let said = sheets::unpack(sheet, records);
-    tell_one(count, said.value);
-    said.number
+    let unpacked = sheets::unpack(sheet, records);
+    tell_one(count, unpacked.value);
+    unpacked.number
 }
 
 // ---- The short list: four numbers a model.
@@ -57,27 +57,30 @@ pub extern "C" fn dz_model_list(records: &[u64], list: &mut [u64], count: &mut [
     ensures { λ r. ⌜ ListsFlat (now (records .entry)) (now (list .entry)) (now (count .entry)) r (now (list .exit))
         (now (count .exit)) ⌝ }
 {
-    let said = list_numbers(records, list);
-    tell_one(count, said.value);
-    said.number
+    let made = list_numbers(records, list);
+    tell_one(count, made.value);
+    made.number
 }
 
 #[no_mangle]
 pub extern "C" fn dz_structure_at(list: &[u64], index: u64, answer: &mut [u64]) -> u64
     ensures { λ r. ⌜ TellsFlat (now (list .entry)) index (now (answer .entry)) r (now (answer .exit)) ⌝ }
 {
-    let said = structure_in(list, Index(index));
-    tell_two(answer, told_type(said), told_structure(said));
-    told_number(said)
+    let told = structure_in(list, Index(index));
+    let kind = told_type(told);
+    let structure = told_structure(told);
+    tell_two(answer, kind, structure);
+    told_number(told)
 }
 
 #[no_mangle]
 pub extern "C" fn dz_index_of(list: &[u64], records: &[u64], number: u64, place: &mut [u64]) -> u64
     ensures { λ r. ⌜ SeeksFlat (now (list .entry)) (now (records .entry)) number (now (place .entry)) r (now (place .exit)) ⌝ }
 {
-    let said = index_in(list, records, number);
-    tell_one(place, sought_index(said));
-    sought_number(said)
+    let sought = index_in(list, records, number);
+    let index = sought_index(sought);
+    tell_one(place, index);
+    sought_number(sought)
 }
 
 // ---- Two sheets side by side.
@@ -92,14 +95,14 @@ pub extern "C" fn dz_compare(
     ensures { λ r. ⌜ ComparesFlat (now (first .entry)) (now (second .entry)) (now (work .entry)) (now (counts .entry)) r
         (now (work .exit)) (now (counts .exit)) ⌝ }
 {
-    let said = compare::compare(first, second, work);
+    let compared = compare::compare(first, second, work);
     let mut row = [0u64; 4];
-    row[0] = said.same as u64;
-    row[1] = said.moved as u64;
-    row[2] = said.first as u64;
-    row[3] = said.second as u64;
+    row[0] = compared.same as u64;
+    row[1] = compared.moved as u64;
+    row[2] = compared.first as u64;
+    row[3] = compared.second as u64;
     tell_row(counts, &row);
-    said.number
+    compared.number
 }
 
 #[no_mangle]
@@ -107,11 +110,11 @@ pub extern "C" fn dz_tail(first: &[u8], second: &[u8], work: &mut [u64], part: &
     ensures { λ r. ⌜ TailsFlat (now (first .entry)) (now (second .entry)) (now (work .entry)) (now (part .entry)) r (now (work .exit))
         (now (part .exit)) ⌝ }
 {
-    let said = compare::tail_place(first, second, work);
+    let cut = compare::tail_place(first, second, work);
     let mut row = [0u64; 3];
-    row[0] = said.sheet;
-    row[1] = said.start as u64;
-    row[2] = said.length as u64;
+    row[0] = cut.sheet;
+    row[1] = cut.start as u64;
+    row[2] = cut.length as u64;
     tell_row(part, &row);
-    said.number
+    cut.number
 }

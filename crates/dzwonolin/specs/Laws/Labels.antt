@@ -1,12 +1,11 @@
 -- One number, and one content of each slice lent, of the functions of labels for C.
-use mathlib.Core.Path.{_≡_, sym, ap, _∙_, subst}
+use mathlib.Core.Path.{_≡_, sym, ap, _∙_}
 use mathlib.Core.List.{List, [], _∷_}
 use Prim.Native.Nat.{ℕ}
 use lib.IntN.{ℤ}
-use borrow.Author.Needs.{needs}
 use Rattle.cifti.specs.Laws.Labels.{keys-unique}
 use Rattle.map_names.specs.declared.NamePlace.{NamePlace}
-use Rattle.label_reader.specs.Names.{LabelPlaced, label-place-unique}
+use Rattle.label_reader.specs.Names.{label-place-unique}
 use Rattle.flat.specs.Flat.{laidOver}
 use Rattle.dzwonolin.specs.Labels.{KeysFlat, LabelsFlat}
 
@@ -24,17 +23,3 @@ module _ {text lengths : List ℕ} {d i : ℕ} {key : ℤ} {slice : List ℕ} {m
         p .numbered ∙ ap (λ (x : NamePlace). x .number) e ∙ sym (q .numbered),
         p .flat ∙ ap (λ (x : NamePlace). laidOver (x .start ∷ x .length ∷ []) slice) e ∙ sym (q .flat),
       )
-
--- ---- As code tells it: the key that the call below is given is the key.
-
-pub labels-flat : (text lengths : List ℕ) (d i : ℕ) (key : ℤ) (slice after : List ℕ) (n : ℕ) {given : ℤ} {r : NamePlace}
-    → LabelPlaced text lengths d i given r → given ≡ key → n ≡ r .number → after ≡ laidOver (r .start ∷ r .length ∷ []) slice
-    → LabelsFlat text lengths d i key slice n after
-labels-flat text lengths d i key slice after n {given} {r} p same m e = record {
-  answer = r;
-  places = subst (λ (k : ℤ). LabelPlaced text lengths d i k r) same p;
-  numbered = m;
-  flat = e;
-}
-
-pub ruleset telling-label = (labels-flat, needs)

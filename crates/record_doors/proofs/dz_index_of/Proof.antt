@@ -1,44 +1,40 @@
--- `dzwonolin::dz_index_of` meets its contract. Assumes nothing.
+-- `record_doors::dz_index_of` meets its contract: what `index_in` promises, and what `tell_one` wrote.
+use mathlib.Core.Path.{_≡_}
+use mathlib.Core.List.{[], _∷_}
+use Rattle.flat.specs.Flat.{laidOver}
+use Rattle.record_doors.specs.Numbers.{SeeksNumbers}
 use Rattle.record_doors.specs.Laws.Lists.{seeks-flat}
-use native.Mathlib.Omega.{arith}
-use borrow.Author.Needs.{needs}
 use Rattle.record_doors.proofs.dz_index_of.Statement.{statement}
 use Rattle.record_doors.proofs.dz_index_of.Tie as tie
-use Rattle.record_doors.proofs.dz_index_of.Reads as reads
-use Rattle.record_doors.proofs.dz_index_of.Lts as lts
-use Rattle.flat.proofs.tell_one.Reads as tell-one-reads
 
--- src/lib.rt:99:9
-index-in-requires : tie.Need-index-in-requires
-index-in-requires c κs = search needs
+abbrev start : tie.After-index-in → tie.Start
+start c = c .before .before .before .before
 
--- src/lib.rt:100:21
-sought-index-requires : tie.Need-sought-index-requires
-sought-index-requires c κs = search needs
+abbrev called : tie.After-tell-one → tie.After-index-in
+called c = c .before .before .before
 
--- src/lib.rt:100:5
-tell-one-requires : tie.Need-tell-one-requires
-tell-one-requires c κs = search needs
+seeks : (c : tie.After-index-in) → SeeksNumbers (start c .args .list .now) (start c .args .records .now) (start c .args .number)
+    (c .index-in .result)
+seeks c = c .index-in .ensures
 
--- src/lib.rt:101:5
-sought-number-requires : tie.Need-sought-number-requires
-sought-number-requires c κs = search needs
+told : (c : tie.After-tell-one) → c .tell-one .last .0 ≡ laidOver (c .before .before .sought-index .result ∷ [])
+    (start (called c) .args .place .now)
+told c = c .tell-one .ensures
 
--- src/lib.rt:95:1
-same-length : tie.Need-same-length
-same-length c = search needs
-
--- src/lib.rt:95:1
 returns : tie.Need-returns
-returns c = search seeks-flat
+returns c =
+    let d = c .before .before .before in
+    let e = called d in
+    seeks-flat _ _ _ _ _ (e .index-in .result) _ (d .before .before .sought-index .result) (seeks e)
+    (d .before .before .sought-index .ensures) (c .sought-number .ensures) (told d)
 
 pub dz-index-of-spec : {M : Type 1} → statement M
-dz-index-of-spec =
-    tie.close
-    (tie.spec
-    index-in-requires
-    sought-index-requires
-    tell-one-requires
-    sought-number-requires
-    same-length
-    returns)
+dz-index-of-spec {M = M} =
+    let closed = tie.spec {M = M}
+    (λ c κs. tt)
+    (λ c κs. tt)
+    (λ c κs. tt)
+    (λ c κs. tt)
+    (λ c. c .before .before .before .tell-one .kept .0)
+    returns
+    in tie.close closed

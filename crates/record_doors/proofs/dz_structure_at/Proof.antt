@@ -1,49 +1,42 @@
--- `dzwonolin::dz_structure_at` meets its contract. Assumes nothing.
+-- `record_doors::dz_structure_at` meets its contract: what `structure_in` promises, and what `tell_two` wrote.
+use mathlib.Core.Path.{_≡_}
+use mathlib.Core.List.{[], _∷_}
+use Rattle.flat.specs.Flat.{laidOver}
+use Rattle.record_doors.specs.Numbers.{TellsNumbers}
 use Rattle.record_doors.specs.Laws.Lists.{tells-flat}
-use native.Mathlib.Omega.{arith}
-use borrow.Author.Needs.{needs}
 use Rattle.record_doors.proofs.dz_structure_at.Statement.{statement}
 use Rattle.record_doors.proofs.dz_structure_at.Tie as tie
-use Rattle.record_doors.proofs.dz_structure_at.Reads as reads
-use Rattle.record_doors.proofs.dz_structure_at.Lts as lts
-use Rattle.flat.proofs.tell_two.Reads as tell-two-reads
 
--- src/lib.rt:86:9
-structure-in-requires : tie.Need-structure-in-requires
-structure-in-requires c κs = search needs
+abbrev start : tie.After-structure-in → tie.Start
+start c = c .before .before .before
 
--- src/lib.rt:89:9
-told-type-requires : tie.Need-told-type-requires
-told-type-requires c κs = search needs
+abbrev called : tie.After-tell-two → tie.After-structure-in
+called c = c .before .before .before .before
 
--- src/lib.rt:90:9
-told-structure-requires : tie.Need-told-structure-requires
-told-structure-requires c κs = search needs
+tells : (c : tie.After-structure-in) → TellsNumbers (start c .args .list .now) (start c .args .index) (c .structure-in .result)
+tells c = c .structure-in .ensures
 
--- src/lib.rt:87:5
-tell-two-requires : tie.Need-tell-two-requires
-tell-two-requires c κs = search needs
+told : (c : tie.After-tell-two) → c .tell-two .last .0
+    ≡ laidOver (c .before .before .before .told-type .result ∷ c .before .before .told-structure .result ∷ [])
+    (start (called c) .args .answer .now)
+told c = c .tell-two .ensures
 
--- src/lib.rt:92:5
-told-number-requires : tie.Need-told-number-requires
-told-number-requires c κs = search needs
-
--- src/lib.rt:82:1
-same-length : tie.Need-same-length
-same-length c = search needs
-
--- src/lib.rt:82:1
 returns : tie.Need-returns
-returns c = search tells-flat
+returns c =
+    let d = c .before .before .before in
+    let e = called d in
+    tells-flat _ _ _ _ (e .structure-in .result) _ (d .before .before .before .told-type .result)
+    (d .before .before .told-structure .result) (tells e) (d .before .before .before .told-type .ensures)
+    (d .before .before .told-structure .ensures) (c .told-number .ensures) (told d)
 
 pub dz-structure-at-spec : {M : Type 1} → statement M
-dz-structure-at-spec =
-    tie.close
-    (tie.spec
-    structure-in-requires
-    told-type-requires
-    told-structure-requires
-    tell-two-requires
-    told-number-requires
-    same-length
-    returns)
+dz-structure-at-spec {M = M} =
+    let closed = tie.spec {M = M}
+    (λ c κs. tt)
+    (λ c κs. tt)
+    (λ c κs. tt)
+    (λ c κs. tt)
+    (λ c κs. tt)
+    (λ c. c .before .before .before .tell-two .kept .0)
+    returns
+    in tie.close closed
