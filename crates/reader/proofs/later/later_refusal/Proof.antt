@@ -1,11 +1,11 @@
-use Rattle.reader.specs.Later.{latering}
+use Rattle.reader.specs.Later.{latering, later-judged}
 use Rattle.reader.proofs.later.later_refusal.Statement.{statement}
 use Rattle.reader.proofs.later.later_refusal.Tie as tie
 
 pub later-refusal-spec : {M : Type 1} → statement M
 later-refusal-spec {M = M} =
     let closed = tie.spec {M = M}
-    (λ c. search latering)
+    (λ c. search later-judged)
     (λ c κs. search latering)
     (λ c. search latering)
     (λ c κs. search latering)
