@@ -114,14 +114,12 @@ fn some_attributes_end(text: &[u8], at: usize) -> Step
     Step::To(i)
 }
 
-// Attributes, 16 at most, no name twice. Most tags have none, and end right here: nothing is noted of them.
+// Attributes, 16 at most, no name twice. Most tags have none, and nothing is noted of them.
 pub fn attributes_end(text: &[u8], at: usize) -> Step
     ensures { λ r. ⌜ r ≡ stepped (length (now (text .entry))) (attributes-at (drop at (now (text .entry)))) ⌝ }
 {
-    if at < text.len() {
-        if text[at] == b'>' {
-            return Step::To(at);
-        }
+    if tag_ends(text, at) {
+        return Step::To(at);
     }
     some_attributes_end(text, at)
 }

@@ -1,7 +1,7 @@
 // The readers up to the head of a tag: each takes a text and a position in it, and tells where the thing that begins there ends.
 
 // Characters and references.
-pub mod characters;
+pub use letters::characters;
 // Comments.
 pub mod comments;
 // CDATA.

@@ -1,7 +1,7 @@
 use borrow.Author.Needs.{needs}
 use Rattle.steps.specs.Laws.Characters.{four-none, four-bad, four-short, four-broken, four-cut, four-no, four-good}
-use Rattle.heads.proofs.characters.rest_of_four.Statement.{statement}
-use Rattle.heads.proofs.characters.rest_of_four.Tie as tie
+use Rattle.letters.proofs.characters.rest_of_four.Statement.{statement}
+use Rattle.letters.proofs.characters.rest_of_four.Tie as tie
 
 returns : tie.Need-returns
 returns c = search (four-none, needs)

@@ -1,7 +1,7 @@
 use borrow.Author.Needs.{needs}
 use Rattle.steps.specs.Laws.Characters.{two-other, two-none, two-bad, two-good}
-use Rattle.heads.proofs.characters.second_of_two.Statement.{statement}
-use Rattle.heads.proofs.characters.second_of_two.Tie as tie
+use Rattle.letters.proofs.characters.second_of_two.Statement.{statement}
+use Rattle.letters.proofs.characters.second_of_two.Tie as tie
 
 returns : tie.Need-returns
 returns c = search (two-other, needs)

@@ -1,7 +1,7 @@
 use borrow.Author.Needs.{needs}
 use Rattle.steps.specs.Laws.References.{behind, missing}
-use Rattle.heads.proofs.characters.reference_end.Statement.{statement}
-use Rattle.heads.proofs.characters.reference_end.Tie as tie
+use Rattle.letters.proofs.characters.reference_end.Statement.{statement}
+use Rattle.letters.proofs.characters.reference_end.Tie as tie
 
 returns : tie.Need-returns
 returns c = search (behind, needs)

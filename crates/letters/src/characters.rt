@@ -1,12 +1,12 @@
 // Characters, and references to them.
-use letters::blanks::mark_end;
-use letters::classes::is_continuing;
-use letters::classes::is_lead1;
-use letters::classes::is_lead2;
-use letters::classes::is_lead3;
-use letters::classes::is_lead4;
-use letters::classes::is_noncharacter;
-use letters::classes::is_plain;
+use super::blanks::mark_end;
+use super::classes::is_continuing;
+use super::classes::is_lead1;
+use super::classes::is_lead2;
+use super::classes::is_lead3;
+use super::classes::is_lead4;
+use super::classes::is_noncharacter;
+use super::classes::is_plain;
 use steps::Step;
 use steps::characters::Reference;
 ghost use mathlib.Core.Path.{_≡_};

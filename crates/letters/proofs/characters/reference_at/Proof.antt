@@ -1,7 +1,7 @@
 use borrow.Author.Needs.{needs}
 use Rattle.steps.specs.Laws.References.{is-amp, is-lt, is-gt, is-quot, is-apos, is-none}
-use Rattle.heads.proofs.characters.reference_at.Statement.{statement}
-use Rattle.heads.proofs.characters.reference_at.Tie as tie
+use Rattle.letters.proofs.characters.reference_at.Statement.{statement}
+use Rattle.letters.proofs.characters.reference_at.Tie as tie
 
 returns : tie.Need-returns
 returns c = is-amp (c .before .before .before .before .before .before .args .text .now)

@@ -1,7 +1,7 @@
 use borrow.Author.Needs.{needs}
 use Rattle.steps.specs.Laws.Characters.{character-none, plain-step}
-use Rattle.heads.proofs.characters.character_end.Statement.{statement}
-use Rattle.heads.proofs.characters.character_end.Tie as tie
+use Rattle.letters.proofs.characters.character_end.Statement.{statement}
+use Rattle.letters.proofs.characters.character_end.Tie as tie
 
 returns : tie.Need-returns
 returns c = search (character-none, needs)

@@ -1,7 +1,7 @@
 use borrow.Author.Needs.{needs}
 use Rattle.steps.specs.Laws.Characters.{three-none, three-bad, three-short, three-broken, three-no, three-good}
-use Rattle.heads.proofs.characters.rest_of_three.Statement.{statement}
-use Rattle.heads.proofs.characters.rest_of_three.Tie as tie
+use Rattle.letters.proofs.characters.rest_of_three.Statement.{statement}
+use Rattle.letters.proofs.characters.rest_of_three.Tie as tie
 
 returns : tie.Need-returns
 returns c = search (three-none, needs)
