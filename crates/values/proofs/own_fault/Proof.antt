@@ -1,6 +1,12 @@
-use Rattle.values.specs.Laws.InTurn.{owning}
+use Rattle.values.specs.Laws.InTurn.{owning, walked-other}
 use Rattle.values.proofs.own_fault.Statement.{statement}
 use Rattle.values.proofs.own_fault.Tie as tie
+
+other : tie.Need-returns-2
+other c =
+    let walked = c .before .before .before .before .before .before in
+    walked-other (walked .before .before .before .before .pre) (walked .attributes-fault .ensures) (c .before .before .before .kind-cell .ensures .0)
+    (c .before .before .kind-cell2 .ensures .0) (c .before .listed-from .ensures) (c .if2 .taken)
 
 pub own-fault-spec : {M : Type 1} → statement M
 own-fault-spec {M = M} =
@@ -10,7 +16,7 @@ own-fault-spec {M = M} =
     (λ c κs. search owning)
     (λ c κs. search owning)
     (λ c κs. search owning)
-    (λ c. search owning)
+    other
     (λ c κs. search owning)
     (λ c κs. search owning)
     (λ c κs. search owning)
