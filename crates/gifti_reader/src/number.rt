@@ -8,8 +8,17 @@ use nodes::Found;
 ghost use mathlib.Core.Path.{_≡_};
 ghost use Rattle.lists.specs.Refusals.{first};
 ghost use Rattle.nodes.specs.Places.{the};
+ghost use Rattle.label_table.specs.Labels.{twiceAt};
 ghost use Rattle.gifti_opening.specs.Passed.{FileHere};
 ghost use Rattle.gifti_reader.specs.Number.{rowsOfArrays, TableAt, TableOnce, numberTwice, numberOnce};
+
+// A key stands twice in the table, with room for 163,840 keys.
+fn twice_in(text: &[u8], table: usize) -> bool
+    ensures { λ r. ⌜ r ≡ twiceAt (now (text .entry)) table ⌝ }
+{
+    let mut work = [0u32; 163840];
+    key_twice(text, table, &mut work[..])
+}
 
 // Where the table of labels stands.
 fn table_of(text: &[u8], root: usize) -> usize
@@ -61,7 +70,7 @@ pub(crate) fn number_of(text: &[u8], root: usize, array: u64) -> u64
     ensures { λ r. ⌜ r ≡ first (rowsOfArrays array (the (now (text .entry)) root)) ⌝ }
 {
     let table = table_of(text, root);
-    if key_twice(text, table) {
+    if twice_in(text, table) {
         return number_twice(text, root);
     }
     number_once(text, root, table, array)

@@ -1,14 +1,10 @@
 -- A LIST IN PARTS: a number stands twice in it where it does so in a part, or in a part and once more behind it.
-use mathlib.Core.Path.{_≡_}
 use mathlib.Core.List.{List}
 use mathlib.Core.Bool.{Bool, _||_}
 use Prim.Native.Nat.{ℕ}
 use lib.Dec.{eqb}
 use Rattle.lists.specs.Lists.{any, twoOf}
 use Rattle.comparison.specs.Matched.{member}
-use Rattle.label_table.specs.Labels.{twiceAt}
-use Rattle.key_twice.specs.declared.OnePart.{OnePart}
-use Rattle.key_twice.specs.declared.OnePart.the-variants.{Told}
 
 -- a number of the list is one of `keys`
 unfoldable pub someIn : (keys : List ℕ) → List ℕ → Bool
@@ -17,7 +13,3 @@ someIn keys l = any (λ c. member c keys) l
 -- a number of the part stands in it twice, or once more among the later ones
 unfoldable pub partTwice : (part later : List ℕ) → Bool
 partTwice part later = twoOf eqb part || someIn part later
-
--- what is told of a table is whether a key stands twice in it; of a longer one nothing is said
-pub record InOne (text : List ℕ) (at : ℕ) (r : OnePart) : Type 0 where
-  pub right : {b : Bool} → r ≡ Told b → b ≡ twiceAt text at

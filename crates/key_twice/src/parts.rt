@@ -15,7 +15,7 @@ ghost use Rattle.known_keys.specs.Sieve.{Sifting};
 ghost use Rattle.key_twice.specs.Parts.{someIn, partTwice};
 
 // Two numbers are equal. Those in order are so next to each other.
-pub(crate) fn neighbours_alike(keys: &[u32]) -> bool
+fn neighbours_alike(keys: &[u32]) -> bool
     requires { ⌜ inOrder (now keys) ≡ true ⌝ }
     ensures { λ r. ⌜ r ≡ twoOf eqb (now (keys .entry)) ⌝ }
 {

@@ -1,3 +1,4 @@
 pub mod Dimensions
+pub mod Lent
 pub mod Twice
 pub mod Laws

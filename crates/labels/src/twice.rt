@@ -15,7 +15,7 @@ ghost use Rattle.maps.specs.Over.{mapOn};
 ghost use Rattle.labels.specs.Twice.{namedTwice, tablesTwice, mapTwice};
 
 // In a LabelTable of the NamedMap at `at`.
-fn named_twice(text: &[u8], at: usize) -> bool
+fn named_twice(text: &[u8], at: usize, work: &mut [u32]) -> bool
     ensures { λ r. ⌜ r ≡ namedTwice (now (text .entry)) at ⌝ }
 {
     let mut kid = first_child(text, at);
@@ -24,7 +24,7 @@ fn named_twice(text: &[u8], at: usize) -> bool
             Kid::Child(k) => {
                 kid = next_child(text, k);
                 if name_is(text, k, b"LabelTable") {
-                    if key_twice::key_twice(text, k) {
+                    if key_twice::key_twice(text, k, work) {
                         return true;
                     }
                 }
@@ -37,7 +37,7 @@ fn named_twice(text: &[u8], at: usize) -> bool
 }
 
 // In a table of the map at `at`.
-fn tables_twice(text: &[u8], at: usize) -> bool
+fn tables_twice(text: &[u8], at: usize, work: &mut [u32]) -> bool
     ensures { λ r. ⌜ r ≡ tablesTwice (now (text .entry)) at ⌝ }
 {
     let mut kid = first_child(text, at);
@@ -46,7 +46,7 @@ fn tables_twice(text: &[u8], at: usize) -> bool
             Kid::Child(k) => {
                 kid = next_child(text, k);
                 if name_is(text, k, b"NamedMap") {
-                    if named_twice(text, k) {
+                    if named_twice(text, k, work) {
                         return true;
                     }
                 }
@@ -58,6 +58,14 @@ fn tables_twice(text: &[u8], at: usize) -> bool
     }
 }
 
+// The same, with room for 163,840 keys: half of the most that a text can have, and more. It is made once for all tables.
+fn some_twice(text: &[u8], at: usize) -> bool
+    ensures { λ r. ⌜ r ≡ tablesTwice (now (text .entry)) at ⌝ }
+{
+    let mut work = [0u32; 163840];
+    tables_twice(text, at, &mut work[..])
+}
+
 // In a table of the map, if it is of labels.
 fn map_twice(text: &[u8], note: MapNote) -> bool
     requires { ⌜ Noted (now text) note ⌝ }
@@ -65,7 +73,7 @@ fn map_twice(text: &[u8], note: MapNote) -> bool
 {
     let kind = note.kind;
     if is_labels(kind) {
-        return tables_twice(text, note.at);
+        return some_twice(text, note.at);
     }
     false
 }

@@ -12,7 +12,7 @@ use borrow.Author.Needs.{needs}
 use borrow.Author.Tests.{leb-true, eq-eqb, ne-eqb}
 use Rattle.lists.specs.Lists.{any, count, twoOf}
 use Rattle.lists.specs.Laws.Lists.{any-same, two-append}
-use Rattle.lists.specs.Laws.Booleans.{and-left, and-right, or-first, or-neither, or-true, refute, clash}
+use Rattle.lists.specs.Laws.Booleans.{and-left, and-right, or-first, or-neither, or-true, refute}
 use Rattle.lists.specs.Permuted.{two-permuted, append-turned}
 use Rattle.nodes.specs.declared.Kid.{Kid}
 use Rattle.nodes.specs.declared.Kid.the-variants.{Child, Done}
@@ -26,9 +26,7 @@ use Rattle.known_keys.specs.Known.{Placed, Taken}
 use Rattle.known_keys.specs.Sieve.{sifted, Sieve, Sifting}
 use Rattle.known_keys.specs.Laws.Search.{placed-member}
 use Rattle.known_keys.specs.Laws.Turns.{once, turned, member-any, taken-less}
-use Rattle.key_twice.specs.Parts.{someIn, partTwice, InOne}
-use Rattle.key_twice.specs.declared.OnePart.{OnePart}
-use Rattle.key_twice.specs.declared.OnePart.the-variants.{Told, Longer}
+use Rattle.key_twice.specs.Parts.{someIn, partTwice}
 
 -- ---- Neighbours.
 
@@ -253,23 +251,3 @@ pub ruleset searching = (
   searching-on,
   needs,
 )
-
--- ---- A table that is one part.
-
-pub one-longer : (text : List ℕ) (at : ℕ) → InOne text at Longer
-one-longer text at = record { right = λ e. clash (cc) }
-
-pub one-told : (text : List ℕ) (at : ℕ) {kid : Kid} → kid ≡ firstLabel text at → {work : List ℕ} {n : ℕ} {next : Kid}
-    → Taken text kid work n next → next ≡ Done → {b : Bool} → b ≡ twoOf eqb (take n work) → InOne text at (Told b)
-one-told text at e t d {b} h = record { right = λ {b = c} q. let z : c ≡ b = cc in z ∙ so }
-  where
-    all : t .codes ≡ codesAt text at
-    all = sym (append-nil (t .codes)) ∙ ap (λ l. t .codes ++ l) (sym (come-done text d)) ∙ t .parts ∙ come-first text at e
-
-    so : b ≡ twiceAt text at
-    so = h ∙ two-kept (t .reordered) ∙ ap (twoOf eqb) all ∙ sym (twice-codes text at)
-
-pub told-right : {text : List ℕ} {at : ℕ} {r : OnePart} → InOne text at r → {b : Bool} → r ≡ Told b → b ≡ twiceAt text at
-told-right i e = i .right e
-
-pub ruleset telling = (one-longer, one-told, told-right, needs)

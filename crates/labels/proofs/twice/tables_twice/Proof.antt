@@ -1,3 +1,4 @@
+use Rattle.labels.specs.Lent.{Lent, lending}
 use Rattle.labels.specs.Twice.{asking}
 use Rattle.grammar.specs.Bytes.{ascii}
 use Rattle.inside.specs.Treads.{ahead}
@@ -7,28 +8,30 @@ use Rattle.labels.proofs.twice.tables_twice.Statement.{statement}
 use Rattle.labels.proofs.twice.tables_twice.Tie as tie
 
 abbrev Inv-loop : tie.InvT-loop
-Inv-loop text at kid₀ t5 kid = Asking text (ascii "NamedMap") (namedTwice text) at kid
+Inv-loop text at work₀ kid₀ t5 work kid = Lent (Asking text (ascii "NamedMap") (namedTwice text) at kid) work₀ work
 
 abbrev μ-loop : tie.MeasureT-loop
-μ-loop text at kid₀ t5 kid = ahead text kid
+μ-loop text at work₀ kid₀ t5 work kid = ahead text kid
 
 pub tables-twice-spec : {M : Type 1} → statement M
-tables-twice-spec =
-    tie.close
-    (tie.spec
+tables-twice-spec {M = M} =
+    let closed = tie.spec {M = M}
     Inv-loop
     μ-loop
-    (λ c κs. search asking)
-    (λ c. search asking)
-    (λ c. search asking)
-    (λ c κs. search asking)
-    (λ c. search asking)
-    (λ c κs. search asking)
-    (λ c κs. search asking)
-    (λ c. search asking)
-    (λ c. search asking)
-    (λ c. search asking)
-    (λ c. search asking)
-    (λ c. search asking)
-    (λ c. search asking)
-    (λ c. search asking))
+    (λ c κs. search (lending, asking))
+    (λ c. search (lending, asking))
+    (λ c. search (lending, asking))
+    (λ c κs. search (lending, asking))
+    (λ c. search (lending, asking))
+    (λ c κs. search (lending, asking))
+    (λ c κs. search (lending, asking))
+    (λ c. search (lending, asking))
+    (λ c. search (lending, asking))
+    (λ c. search (lending, asking))
+    (λ c. search (lending, asking))
+    (λ c. search (lending, asking))
+    (λ c. search (lending, asking))
+    (λ c. search (lending, asking))
+    (λ c. search (lending, asking))
+    (λ c. search (lending, asking))
+    in tie.close closed
