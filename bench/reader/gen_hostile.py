@@ -192,6 +192,20 @@ def labels_far():
     return labels(list, random.Random(5).sample(range(2147483648), 400000))
 
 
+def label_tables(each=513):
+    """Tables of labels, each one label longer than those that get little room; keys far apart."""
+    keys = iter(random.Random(6).sample(range(2147483648), 400000))
+    start, end = MAP % (b"0", b"LABELS"), b"</MatrixIndicesMap>" + BRAIN + surface(0, [0]) + b"</MatrixIndicesMap>"
+    left, tables = LIMIT - len(matrix(start + end)), []
+    while True:
+        table = b"".join(b'<Label Key="%d" Red="0" Green="0" Blue="0" Alpha="1"/>' % next(keys) for _ in range(each))
+        tables.append(b"<NamedMap><MapName/><LabelTable>" + table + b"</LabelTable></NamedMap>")
+        left -= len(tables[-1])
+        if left < 0:
+            break
+    return matrix(start + b"".join(tables[:-1]) + end), [len(tables) - 1, 1], 0
+
+
 def metadata():
     entries = often(b"<MD><Name/><Value/></MD>", 700)
     return matrix(b"<MetaData>" + entries + b"</MetaData>" + FIRST + BRAIN + surface(0, [0]) + b"</MatrixIndicesMap>"), [1, 1], 0
@@ -224,7 +238,8 @@ def siblings_then_fault():
 
 TEXTS = [bare_models, alike_models, one_tag_of_attributes, tags_of_attributes, long_names, comments_between,
          comments_in_numbers, references, late_repeat_vertices, descending_vertices, woven_vertices,
-         late_repeat_voxels, late_overlap, named_maps, labels_rising, labels_falling, labels_random, labels_far, metadata, maps,
+         late_repeat_voxels, late_overlap, named_maps, labels_rising, labels_falling, labels_random, labels_far,
+         label_tables, metadata, maps,
          dimensions, blanks, open_tags, open_comment, siblings_then_fault, numbers_plain, numbers_in_data, data_round_digits,
          empty_data_in_list, empty_data_between, brackets_in_data]
 
