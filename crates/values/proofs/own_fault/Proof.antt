@@ -4,9 +4,10 @@ use Rattle.values.proofs.own_fault.Tie as tie
 
 other : tie.Need-returns-2
 other c =
-    let walked = c .before .before .before .before .before .before in
-    walked-other (walked .before .before .before .before .pre) (walked .attributes-fault .ensures) (c .before .before .before .kind-cell .ensures .0)
-    (c .before .before .kind-cell2 .ensures .0) (c .before .listed-from .ensures) (c .if2 .taken)
+    let listed = c .before .before in
+    let walked = listed .before .before .before .before .before in
+    walked-other (walked .before .before .before .before .pre) (walked .attributes-fault .ensures)
+    (listed .before .before .kind-cell .ensures .0) (listed .before .kind-cell2 .ensures .0) (listed .listed-from .ensures) (c .if2 .taken)
 
 pub own-fault-spec : {M : Type 1} → statement M
 own-fault-spec {M = M} =

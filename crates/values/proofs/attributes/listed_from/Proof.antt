@@ -1,4 +1,4 @@
-use Rattle.shape.specs.Laws.Keys.{listing, Listing}
+use Rattle.shape.specs.Laws.Keys.{listing, listing-end, Listing}
 use Prim.Native.Nat.{_-_}
 use lib.ListN.{length}
 use Rattle.lists.specs.Lists.{countUp}
@@ -11,6 +11,9 @@ Inv-loop text at table letters from to i₀ i = Listing (countUp (attributeAt ta
 
 abbrev μ-loop : tie.MeasureT-loop
 μ-loop text at table letters from to i₀ i = length text - i
+
+ended : tie.Need-returns-4 Inv-loop μ-loop
+ended c = listing-end (c .before .before .loop .inv) (c .before .tag-ends .ensures) (c .if1 .left)
 
 pub listed-from-spec : {M : Type 1} → statement M
 listed-from-spec =
@@ -35,4 +38,4 @@ listed-from-spec =
     (λ c. search listing)
     (λ c. search listing)
     (λ c. search listing)
-    (λ c. search listing))
+    ended)
