@@ -1,6 +1,6 @@
 use Rattle.nodes.specs.Places.{the}
 use Rattle.nodes.specs.Children.{left}
-use Rattle.gifti_arrays.specs.Laws.Arrays.{walking, Walking}
+use Rattle.gifti_arrays.specs.Laws.Arrays.{walking, walking-more, Walking}
 use Rattle.gifti_arrays.proofs.arrays.arrays_told.Statement.{statement}
 use Rattle.gifti_arrays.proofs.arrays.arrays_told.Tie as tie
 
@@ -10,6 +10,13 @@ Inv-loop text root codes arrays₀ fit₀ keys₀ known₀ kid₀ t11 arrays fit
 
 abbrev μ-loop : tie.MeasureT-loop
 μ-loop text root codes arrays₀ fit₀ keys₀ known₀ kid₀ t11 arrays fit keys known kid = left text kid
+
+taken : tie.Need-loop-again Inv-loop μ-loop
+taken c =
+    let told = c .before .before .before in
+    let met = told .before .before .before .before .before .before in
+    walking-more (met .before .before .loop .inv) (met .kid .given .1) (told .before .before .name-is .ensures) (told .before .if1 .taken)
+    (told .array-told .ensures) (told .before .before .before .before .next-child .ensures)
 
 pub arrays-told-spec : {M : Type 1} → statement M
 arrays-told-spec {M = M} =
@@ -27,7 +34,7 @@ arrays-told-spec {M = M} =
     (λ c. search walking)
     (λ c. search walking)
     (λ c. search walking)
-    (λ c. search walking)
+    taken
     (λ c. search walking)
     (λ c. search walking)
     (λ c. search walking)

@@ -3,7 +3,7 @@ use native.Mathlib.Omega.{arith}
 use lib.ListN.{length}
 use borrow.Author.Needs.{needs}
 use Rattle.array_keys.specs.Ahead.{keysLeft, keysStart}
-use Rattle.gifti_arrays.specs.Laws.Tally.{counting, Counting, counting-prefix, counting-long}
+use Rattle.gifti_arrays.specs.Laws.Tally.{counting, counting-done, Counting, counting-prefix, counting-long}
 use Rattle.gifti_arrays.proofs.tally.count_rows.Statement.{statement}
 use Rattle.gifti_arrays.proofs.tally.count_rows.Tie as tie
 
@@ -29,6 +29,12 @@ add-keys c =
     let few : here .loop .keys + got .fill-from .result .count ≤ suc (length (start .args .text .now)) = search counting in
     omega (arith, few)
 
+done : tie.Need-returns Inv-loop μ-loop
+done c =
+    let got = c .before .before .before .before .before in
+    counting-done (got .before .before .before .loop .inv) (got .fill-from .ensures) (got .fill-from .kept .1 .1 .1 .1 .0)
+    (c .before .before .known-among .ensures) (c .if1 .taken)
+
 pub count-rows-spec : {M : Type 1} → statement M
 count-rows-spec =
     tie.close
@@ -46,6 +52,6 @@ count-rows-spec =
     add-known
     add-keys
     (λ c. search (counting-long, needs))
-    (λ c. search counting)
+    done
     (λ c. search counting)
     (λ c. search counting))
