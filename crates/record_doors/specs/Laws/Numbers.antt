@@ -32,7 +32,8 @@ use Rattle.shortlist.specs.declared.answer.Told.{Told}
 use Rattle.shortlist.specs.declared.answer.Sought.{Sought}
 use Rattle.shortlist.specs.declared.state.Made.{Made}
 use Rattle.shortlist.specs.declared.state.Search.{Search}
-use Rattle.record_doors.specs.Numbers.{four, numbersOf, modelIn, modelsIn, goodNumbers, Seen, ListsNumbers, TellsNumbers, SeeksNumbers}
+use Rattle.record_doors.specs.Numbers.{four, numbersOf, modelIn, modelsIn, goodNumbers}
+use Rattle.record_doors.specs.Numbers.{Seen, ListsNumbers, TellsNumbers, SeeksNumbers}
 
 -- ---- Asking.
 

@@ -9,7 +9,8 @@ found : tie.Need-returns
 found c =
     let s = c .before .before .before .before .before .before .before in
     in-found (s .args .text .now) (s .args .at) (s .args .key) _ (c .before .before .before .before .before .label-with .ensures)
-    (toZ-ofZ w32 (s .args .key) (s .fits .key)) (c .before .before .before .k .given .1) (c .before .written .ensures) (c .behind-tag .ensures) refl refl refl
+    (toZ-ofZ w32 (s .args .key) (s .fits .key)) (c .before .before .before .k .given .1) (c .before .written .ensures)
+    (c .behind-tag .ensures) refl refl refl
 
 pub place-in-spec : {M : Type 1} → statement M
 place-in-spec {M = M} =

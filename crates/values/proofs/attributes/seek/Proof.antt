@@ -4,10 +4,11 @@ use Rattle.values.proofs.attributes.seek.Tie as tie
 
 met : tie.Need-returns
 met c =
-    let read = c .before .before .before .before .before .before .before .before .before .before in
+    let told = c .before .before .before .before .before .before .before .before in
+    let read = told .before .before in
     let s = read .before .before .before in
-    sought-met (s .args .text .now) (s .args .i) (read .key-at .ensures) (c .before .before .before .before .before .before .before .before .from .given .1) (s .pre)
-    (s .args .name .now) (c .before .before .before .before .before .equal .ensures) (c .before .before .before .before .if1 .taken)
+    sought-met (s .args .text .now) (s .args .i) (read .key-at .ensures) (told .from .given .1) (s .pre) (s .args .name .now)
+    (c .before .before .before .before .before .equal .ensures) (c .before .before .before .before .if1 .taken)
     (c .before .before .before .value-end .ensures) (c .before .j .given .1)
 
 pub seek-spec : {M : Type 1} → statement M
