@@ -2,8 +2,6 @@
 use marks::is_marked;
 use marks::mark;
 ghost use mathlib.Core.Path.{_≡_};
-ghost use Prim.Native.Nat.{_≤_};
-ghost use lib.ListN.{length};
 ghost use Rattle.known_keys.specs.Sieve.{sievePlace, sifted, Sieve};
 
 // The place of a number among 524,288 marks.
@@ -13,9 +11,8 @@ fn sieve_place(code: u32) -> u64
     code as u64 % 524288
 }
 
-// Marks the numbers, in 8,192 words.
+// Marks the numbers, in 8,192 words if there are so many.
 pub fn sieve(codes: &[u32], words: &mut [u64])
-    requires { ⌜ 8192 ≤ length (now words) ⌝ }
     ensures { λ _. ⌜ Sieve (now (codes .entry)) (now (words .exit)) ⌝ }
 {
     let mut i = 0;

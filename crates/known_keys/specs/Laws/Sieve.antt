@@ -16,14 +16,13 @@ use Rattle.known_keys.specs.Order.{inOrder}
 use Rattle.known_keys.specs.Sieve.{sievePlace, sifted, Sieve, Sifting}
 use Rattle.known_keys.specs.Laws.Search.{At, stands}
 
--- the first so many are marked
+-- the first so many are marked, where there is room
 pub record Sieving (codes words₀ words : List ℕ) (i : ℕ) : Type 0 where
-  pub room : 8192 ≤ length words
   pub long : length words ≡ length words₀
-  pub so-far : (k : ℕ) → k < i → marked words (sievePlace (getD codes k 0)) ≡ 1
+  pub so-far : 8192 ≤ length words → (k : ℕ) → k < i → marked words (sievePlace (getD codes k 0)) ≡ 1
 
-pub sieving-start : {words : List ℕ} (codes : List ℕ) → 8192 ≤ length words → Sieving codes words words 0
-sieving-start codes h = record { room = h; long = refl; so-far = λ k u. absurd (omega arith) }
+pub sieving-start : (codes words : List ℕ) → Sieving codes words words 0
+sieving-start codes words = record { long = refl; so-far = λ r k u. absurd (omega arith) }
 
 module _ {codes words₀ words : List ℕ} {i : ℕ} (go : Sieving codes words₀ words i) where
   pub sieving-long : length words ≡ length words₀
@@ -34,27 +33,28 @@ module _ {codes words₀ words : List ℕ} {i : ℕ} (go : Sieving codes words�
   unfolding sievePlace
   sieving-more {p} e {after = after} m =
       let l = m .kept .long in
-      let r = go .room in
-      record { room = omega arith; long = l ∙ go .long; so-far = λ k u. by k u (decLt k i) }
+      record { long = l ∙ go .long; so-far = λ r k u. by (omega arith) k u (decLt k i) }
     where
-      here : marked after (sievePlace (getD codes i 0)) ≡ 1
-      here = let r = go .room in ap (marked after) (sym e) ∙ m .with-room (omega arith)
+      here : 8192 ≤ length words → marked after (sievePlace (getD codes i 0)) ≡ 1
+      here r = ap (marked after) (sym e) ∙ m .with-room (omega arith)
 
-      by : (k : ℕ) → k < i + 1 → Dec (k < i) → marked after (sievePlace (getD codes k 0)) ≡ 1
-      by k u (yes h) = m .kept .stays (sievePlace (getD codes k 0)) (go .so-far k h)
-      by k u (no h) =
+      by : 8192 ≤ length words → (k : ℕ) → k < i + 1 → Dec (k < i) → marked after (sievePlace (getD codes k 0)) ≡ 1
+      by r k u (yes h) = m .kept .stays (sievePlace (getD codes k 0)) (go .so-far r k h)
+      by r k u (no h) =
           let q : i ≡ k = omega arith in
-          ap (λ (n : ℕ). marked after (sievePlace (getD codes n 0))) (sym q) ∙ here
+          ap (λ (n : ℕ). marked after (sievePlace (getD codes n 0))) (sym q) ∙ here r
 
   pub sieving-done : length codes ≤ i → Sieve codes words
   unfolding sifted
-  sieving-done h = record { passing = λ c m. by c (stands c codes m) }
+  sieving-done h = record { passing = λ c m. by c (stands c codes m) (decLt (length words) 8192) }
     where
-      by : (c : ℕ) → At c codes → (ltb (length words) 8192 || eqb (marked words (sievePlace c)) 1) ≡ true
-      by c a =
+      by : (c : ℕ) → At c codes → Dec (length words < 8192)
+          → (ltb (length words) 8192 || eqb (marked words (sievePlace c)) 1) ≡ true
+      by c a (yes s) = rw (lt-ltb (length words) 8192 s) refl
+      by c a (no s) =
           let u = a .inside in
           let z : marked words (sievePlace c) ≡ 1
-          = ap (λ (n : ℕ). marked words (sievePlace n)) (sym (a .holds)) ∙ go .so-far (a .place) (omega arith) in
+          = ap (λ (n : ℕ). marked words (sievePlace n)) (sym (a .holds)) ∙ go .so-far (omega arith) (a .place) (omega arith) in
           rw (eq-eqb (marked words (sievePlace c)) 1 z) (or-true (ltb (length words) 8192))
 
 pub ruleset sieving = (sieving-start, sieving-long, sieving-more, sieving-done, needs)
