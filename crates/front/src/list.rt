@@ -1,10 +1,10 @@
 // The list of extensions: whether it is one, and the body of the first of code 32; a body without the zeros at its end.
+use super::fields::eight;
+use super::fields::four;
+use super::header::LIST;
+use super::header::OFFSET;
 use nifti::Order;
 use nifti::Taken;
-use nifti_header::fields::eight;
-use nifti_header::fields::four;
-use nifti_header::header::LIST;
-use nifti_header::header::OFFSET;
 ghost use mathlib.Core.Path.{_≡_};
 ghost use Prim.Native.Nat.{_+_, _≤_};
 ghost use lib.ListN.{length, take, drop};

@@ -1,13 +1,13 @@
 // The front of a file, and its part.
+use super::header::dims_stand;
+use super::header::front_stands;
+use super::header::length_at;
+use super::header::length_count;
+use super::header::order_of;
 use super::list::kept;
 use super::list::listed;
 use nifti::Front;
 use nifti::Order;
-use nifti_header::header::dims_stand;
-use nifti_header::header::front_stands;
-use nifti_header::header::length_at;
-use nifti_header::header::length_count;
-use nifti_header::header::order_of;
 ghost use mathlib.Core.Path.{_≡_};
 ghost use Rattle.nifti.specs.File.{Fronts, FrontPart, refusedFront};
 ghost use Rattle.nifti.specs.Laws.Header.{acceptedWith};

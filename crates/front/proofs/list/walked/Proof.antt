@@ -1,5 +1,5 @@
 use borrow.Author.Needs.{needs}
-use Rattle.nifti.specs.Laws.Walk.{Walking, walking}
+use Rattle.nifti.specs.Laws.Walk.{Walking, walking, walk-takes, walk-other, walk-past}
 use Rattle.front.proofs.list.walked.Statement.{statement}
 use Rattle.front.proofs.list.walked.Tie as tie
 
@@ -55,27 +55,26 @@ loop-less : tie.Need-loop-less Inv-loop μ-loop
 loop-less c = search (walking, needs)
 
 loop-again : tie.Need-loop-again Inv-loop μ-loop
-loop-again c = search (walking, needs)
+loop-again c = search walk-takes
 
 loop-less-2 : tie.Need-loop-less-2 Inv-loop μ-loop
 loop-less-2 c = search (walking, needs)
 
 loop-again-2 : tie.Need-loop-again-2 Inv-loop μ-loop
-loop-again-2 c = search (walking, needs)
+loop-again-2 c = search walk-other
 
 loop-less-3 : tie.Need-loop-less-3 Inv-loop μ-loop
 loop-less-3 c = search (walking, needs)
 
 loop-again-3 : tie.Need-loop-again-3 Inv-loop μ-loop
-loop-again-3 c = search (walking, needs)
+loop-again-3 c = search walk-past
 
 returns-3 : tie.Need-returns-3 Inv-loop μ-loop
 returns-3 c = search (walking, needs)
 
 pub walked-spec : {M : Type 1} → statement M
-walked-spec =
-    tie.close
-    (tie.spec
+walked-spec {M = M} =
+    let closed = tie.spec {M = M}
     Inv-loop
     μ-loop
     sub-left
@@ -98,4 +97,5 @@ walked-spec =
     loop-again-2
     loop-less-3
     loop-again-3
-    returns-3)
+    returns-3
+    in tie.close closed
