@@ -1,2 +1,3 @@
 pub mod Refused
 pub mod Laws
+pub mod Change

@@ -9,9 +9,9 @@ use Rattle.lists.specs.Lists.{table, eachIn}
 use Rattle.grammar.specs.Bytes.{ascii}
 use Rattle.records.specs.Sheet.{countOf}
 use Rattle.comparison.specs.Compare.{recordsOf, compareRefusal}
-use Rattle.changes.specs.Change.{changeAt, firstEnd}
-use Rattle.changes.specs.declared.Change.{Change}
-use Rattle.changes.specs.declared.Change.the-variants.{Same, Moved, First, Second}
+use Rattle.compare.specs.Change.{changeAt, firstEnd}
+use Rattle.compare.specs.declared.changes.Change.{Change}
+use Rattle.compare.specs.declared.changes.Change.the-variants.{Same, Moved, First, Second}
 use Rattle.card.specs.Card.{recordLine}
 use Rattle.card.specs.declared.line.Line.the-variants.{Refused}
 use Rattle.card_text.specs.Written.{lineBytes}

@@ -123,7 +123,7 @@ fn print_answer(input: &[u8]) -> Printed
     ensures { λ p. ⌜ (p .failed ≡ false → p .bytes ≡ length (programBytes (now (input .entry)))) ⌝ }
 {
     let mut work = [0u64; 6552];
-    let end = changes::first_end(input);
+    let end = compare::first_end(input);
     let answer = compare::compare(&input[..end], &input[end..], &mut work);
     if answer.number != 0 {
         return print_refusal(answer.number);

@@ -3,3 +3,5 @@ pub mod Before
 pub mod Keys
 pub mod Names
 pub mod Laws
+pub mod Told
+pub mod Tests

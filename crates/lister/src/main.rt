@@ -1,4 +1,8 @@
 // The morning card: the lengths and a header text on standard input, the table of locations or the refusal on standard output.
+
+// What is answered to the first line and the text behind it.
+mod decision;
+
 use cifti::Answer;
 use libc::STDERR_FILENO;
 use libc::STDIN_FILENO;

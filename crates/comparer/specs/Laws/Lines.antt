@@ -15,10 +15,10 @@ use Rattle.grammar.specs.Bytes.{ascii}
 use Rattle.grammar.specs.Look.{Word}
 use Rattle.records.specs.Record.{Location, onSurface, inVolume, locationOf}
 use Rattle.comparison.specs.Compare.{countBelow, moved, firstOnly, secondOnly}
-use Rattle.changes.specs.Laws.Lines.{saysMoved, saysFirst, saysSecond, lines, lines-moved, lines-first, lines-second}
-use Rattle.changes.specs.Change.{changeAt}
-use Rattle.changes.specs.declared.Change.{Change}
-use Rattle.changes.specs.declared.Change.the-variants as changes
+use Rattle.compare.specs.Laws.Lines.{saysMoved, saysFirst, saysSecond, lines, lines-moved, lines-first, lines-second}
+use Rattle.compare.specs.Change.{changeAt}
+use Rattle.compare.specs.declared.changes.Change.{Change}
+use Rattle.compare.specs.declared.changes.Change.the-variants as changes
 use Rattle.card.specs.Card.{locationLine, recordLine}
 use Rattle.card_text.specs.Written.{inTensUpTo, inTens, spaced, wordsOf, lineBytes, Writes}
 use Rattle.comparer.specs.Output.{changeBytes, lineAt, outputBytes}

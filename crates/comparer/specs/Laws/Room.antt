@@ -16,7 +16,7 @@ use Rattle.records.specs.Sheet.{countOf, widthOf}
 use Rattle.records.specs.Laws.Sheet.{GoodSheet, sheet-good}
 use Rattle.comparison.specs.Compare.{recordsOf, wellFormed, wellFilled, compareRefusal, compared, Compares}
 use Rattle.comparison.specs.declared.Compared.{Compared}
-use Rattle.changes.specs.Change.{firstEnd}
+use Rattle.compare.specs.Change.{firstEnd}
 use Rattle.comparer.specs.Output.{outputBytes, refusalBytes, answerBytes, sheetsBytes, programBytes}
 
 -- a record has five bytes or more

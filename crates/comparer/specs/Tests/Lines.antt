@@ -9,7 +9,7 @@ use Rattle.records.specs.Bytes.{byteWords}
 use Rattle.records.specs.Width.{widthSaid}
 use Rattle.records.specs.Sheet.{countOf, wordsIn, goodWord, goodCount, goodSheet}
 use Rattle.comparison.specs.Compare.{compareWords}
-use Rattle.changes.specs.Change.{ofFirst, ofSecond, changeAt, endSaid, firstEnd}
+use Rattle.compare.specs.Change.{ofFirst, ofSecond, changeAt, endSaid, firstEnd}
 use Rattle.card.specs.Card.{cardWords}
 use Rattle.card_text.specs.Written.{writtenWords}
 use Rattle.card_text.specs.Tests.CaseA.{lined}

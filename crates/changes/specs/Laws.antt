@@ -1,4 +1,0 @@
-pub mod Change
-pub mod TwoSheets
-pub mod Part
-pub mod Lines

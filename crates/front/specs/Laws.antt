@@ -1,0 +1,4 @@
+pub mod First
+pub mod Alike
+pub mod Cut
+pub mod Breaks

@@ -1,4 +1,0 @@
-pub mod Once
-pub mod Only
-pub mod Told
-pub mod First

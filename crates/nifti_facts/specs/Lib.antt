@@ -1,5 +1,0 @@
-pub mod First
-pub mod Alike
-pub mod Cut
-pub mod Breaks
-pub mod Computed

@@ -1,1 +1,0 @@
-// What is known of the front of a file, from its definitions alone: theorems and computed files.
