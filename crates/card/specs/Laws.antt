@@ -5,3 +5,6 @@ pub mod Records
 pub mod Count
 pub mod Stretches
 pub mod Accepted
+pub mod Unique
+pub mod Decimals
+pub mod Write

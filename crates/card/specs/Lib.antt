@@ -1,2 +1,4 @@
 pub mod Card
 pub mod Laws
+pub mod Written
+pub mod Tests

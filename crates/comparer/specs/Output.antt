@@ -14,7 +14,7 @@ use Rattle.compare.specs.declared.changes.Change.{Change}
 use Rattle.compare.specs.declared.changes.Change.the-variants.{Same, Moved, First, Second}
 use Rattle.card.specs.Card.{recordLine}
 use Rattle.card.specs.declared.line.Line.the-variants.{Refused}
-use Rattle.card_text.specs.Written.{lineBytes}
+use Rattle.card.specs.Written.{lineBytes}
 
 -- what is printed of an index and the record there
 unfoldable pub changeBytes : Change → (index number : ℕ) → List ℕ

@@ -8,7 +8,7 @@ ghost use Prim.Native.Nat.{_≤_};
 ghost use lib.ListN.{length};
 ghost use Rattle.io.specs.Counts.{Counts};
 ghost use Rattle.card.specs.Card.{recordLine};
-ghost use Rattle.card_text.specs.Written.{lineBytes, Spells, Writes};
+ghost use Rattle.card.specs.Written.{lineBytes, Spells, Writes};
 ghost use Rattle.comparer.specs.Output.{changeBytes, lineAt};
 
 fn record_line(index: Index, r: u64) -> Line
@@ -37,7 +37,7 @@ fn spell_behind(word: &[u8], index: Index, r: u64, out: &mut [u8]) -> usize
 {
     bytes::copy(word, out);
     let at = word.len();
-    at + card_text::write_line(record_line(index, r), &mut out[at..])
+    at + card::write_line(record_line(index, r), &mut out[at..])
 }
 
 // Every line fits 128 bytes.

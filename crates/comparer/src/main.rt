@@ -58,7 +58,7 @@ fn print_refusal(number: u64) -> Printed
     ensures { λ p. ⌜ (p .failed ≡ false → p .bytes ≡ length (refusalBytes number)) ⌝ }
 {
     let mut bytes = [0u8; 128];
-    let size = card_text::write_line(Line::Refused(number), &mut bytes);
+    let size = card::write_line(Line::Refused(number), &mut bytes);
     let written = io::write_all(STDOUT_FILENO, &bytes[..size]);
     Printed {
         bytes: size,

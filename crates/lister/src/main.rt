@@ -112,7 +112,7 @@ fn print_card(answer: Answer, records: &[u64]) -> Printed
     let mut n = 0;
     while n < count {
         let mut bytes = [0u8; 128];
-        let size = card_text::write_line(card::line_at(answer, records, n), &mut bytes);
+        let size = card::write_line(card::line_at(answer, records, n), &mut bytes);
         if !io::write_all(STDOUT_FILENO, &bytes[..size]) {
             return Printed {
                 lines: n,

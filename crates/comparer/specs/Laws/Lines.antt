@@ -20,7 +20,7 @@ use Rattle.compare.specs.Change.{changeAt}
 use Rattle.compare.specs.declared.changes.Change.{Change}
 use Rattle.compare.specs.declared.changes.Change.the-variants as changes
 use Rattle.card.specs.Card.{locationLine, recordLine}
-use Rattle.card_text.specs.Written.{inTensUpTo, inTens, spaced, wordsOf, lineBytes, Writes}
+use Rattle.card.specs.Written.{inTensUpTo, inTens, spaced, wordsOf, lineBytes, Writes}
 use Rattle.comparer.specs.Output.{changeBytes, lineAt, outputBytes}
 use Rattle.comparer.specs.Laws.Output.{at-first, at-second, line-fits}
 

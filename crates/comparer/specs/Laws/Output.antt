@@ -16,7 +16,7 @@ use Rattle.records.specs.Record.{Location, onSurface, inVolume, locationOf}
 use Rattle.card.specs.Card.{locationLine, recordLine}
 use Rattle.card.specs.declared.line.Line.{Line}
 use Rattle.card.specs.declared.line.Line.the-variants as lines
-use Rattle.card_text.specs.Written.{inTensUpTo, inTens, spaced, wordsOf, lineBytes, Writes, Spells}
+use Rattle.card.specs.Written.{inTensUpTo, inTens, spaced, wordsOf, lineBytes, Writes, Spells}
 use Rattle.compare.specs.Change.{ofSecond, changeAt}
 use Rattle.compare.specs.declared.changes.Change.{Change}
 use Rattle.compare.specs.declared.changes.Change.the-variants as changes

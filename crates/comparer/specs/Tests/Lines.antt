@@ -11,8 +11,8 @@ use Rattle.records.specs.Sheet.{countOf, wordsIn, goodWord, goodCount, goodShee
 use Rattle.comparison.specs.Compare.{compareWords}
 use Rattle.compare.specs.Change.{ofFirst, ofSecond, changeAt, endSaid, firstEnd}
 use Rattle.card.specs.Card.{cardWords}
-use Rattle.card_text.specs.Written.{writtenWords}
-use Rattle.card_text.specs.Tests.CaseA.{lined}
+use Rattle.card.specs.Written.{writtenWords}
+use Rattle.card.specs.Tests.CaseA.{lined}
 use Rattle.comparer.specs.Output.{outputBytes, answerBytes, programBytes, outputWords}
 
 unfoldable computing : Unit {0}

@@ -1,4 +1,4 @@
-use Rattle.card.specs.Laws.Count.{lines-few, lines-inside, countSteps}
+use Rattle.card.specs.Laws.Count.{lines-few, lines-inside, lines-refused, lines-accepted}
 use native.Mathlib.Omega.{arith}
 use borrow.Author.Needs.{needs}
 use Rattle.card.proofs.count.line_count.Statement.{statement}
@@ -19,13 +19,16 @@ add-result-2 c =
       entry .good .1 .0 .1,
     )
 
+returns-2 : tie.Need-returns-2
+returns-2 c = search lines-accepted
+
 pub line-count-spec : {M : Type 1} → statement M
 line-count-spec {M = M} =
     let closed = tie.spec {M = M}
-    (λ c. search countSteps)
+    (λ c. search lines-refused)
     (λ c κs. search needs)
     (λ c κs. search needs)
     add-result
     add-result-2
-    (λ c. search countSteps)
+    returns-2
     in tie.close closed

@@ -1,6 +1,6 @@
 use Prim.Native.Nat.{_-_}
 use Rattle.card.specs.Card.{answerDimensions}
-use Rattle.card.specs.Laws.Count.{Stretches, stretchSteps}
+use Rattle.card.specs.Laws.Count.{Stretches, stretches-start, stretches-done, stretches-on}
 use native.Mathlib.Omega.{arith}
 use Rattle.card.proofs.count.record_count.Statement.{statement}
 use Rattle.card.proofs.count.record_count.Tie as tie
@@ -16,13 +16,13 @@ record-count-spec {M = M} =
     let closed = tie.spec {M = M}
     Inv-loop
     μ-loop
-    (λ c. search stretchSteps)
+    (λ c. search stretches-start)
     (λ c κs. omega arith)
     (λ c. omega arith)
     (λ c κs. omega arith)
     (λ c. omega arith)
     (λ c. omega arith)
     (λ c. omega arith)
-    (λ c. search stretchSteps)
-    (λ c. search stretchSteps)
+    (λ c. search stretches-on)
+    (λ c. search stretches-done)
     in tie.close closed

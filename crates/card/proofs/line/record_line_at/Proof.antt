@@ -1,6 +1,6 @@
 use Prim.Native.Nat.{_-_}
 use Rattle.card.specs.Card.{answerDimensions}
-use Rattle.card.specs.Laws.Records.{Seeking, seekSteps}
+use Rattle.card.specs.Laws.Records.{Seeking, seekSteps, seek-start, seek-done, seek-here, seek-later}
 use native.Mathlib.Omega.{arith}
 use Rattle.card.proofs.line.record_line_at.Statement.{statement}
 use Rattle.card.proofs.line.record_line_at.Tie as tie
@@ -12,17 +12,17 @@ abbrev μ-loop : tie.MeasureT-loop
 μ-loop answer records n left₀ at₀ round₀ left at round = 3 - round
 
 returns : tie.Need-returns Inv-loop μ-loop
-returns c = search seekSteps
+returns c = search seek-here
 
 loop-again : tie.Need-loop-again Inv-loop μ-loop
-loop-again c = search seekSteps
+loop-again c = search seek-later
 
 pub record-line-at-spec : {M : Type 1} → statement M
 record-line-at-spec {M = M} =
     let closed = tie.spec {M = M}
     Inv-loop
     μ-loop
-    (λ c. search seekSteps)
+    (λ c. search seek-start)
     (λ c κs. omega arith)
     (λ c. omega arith)
     (λ c κs. omega arith)
@@ -35,5 +35,5 @@ record-line-at-spec {M = M} =
     (λ c. omega arith)
     (λ c. omega arith)
     loop-again
-    (λ c. search seekSteps)
+    (λ c. search seek-done)
     in tie.close closed

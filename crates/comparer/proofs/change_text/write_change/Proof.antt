@@ -1,4 +1,4 @@
-use Rattle.card_text.specs.Laws.Write.{spelled-part, write-short, write-all, write-counts}
+use Rattle.card.specs.Laws.Write.{spelled-part, write-short, write-all, write-counts}
 use native.Mathlib.Omega.{arith}
 use borrow.Author.Needs.{needs}
 use Rattle.comparer.proofs.change_text.write_change.Statement.{statement}

@@ -1,5 +1,5 @@
 use borrow.Author.Needs.{needs}
-use Rattle.nifti.specs.Laws.Walk.{Walking, walking, walk-takes, walk-other, walk-past}
+use Rattle.nifti.specs.Laws.Walk.{Walking, walking, walk-ends, walk-takes, walk-other, walk-past}
 use Rattle.front.proofs.list.walked.Statement.{statement}
 use Rattle.front.proofs.list.walked.Tie as tie
 
@@ -70,7 +70,7 @@ loop-again-3 : tie.Need-loop-again-3 Inv-loop μ-loop
 loop-again-3 c = search walk-past
 
 returns-3 : tie.Need-returns-3 Inv-loop μ-loop
-returns-3 c = search (walking, needs)
+returns-3 c = search walk-ends
 
 pub walked-spec : {M : Type 1} → statement M
 walked-spec {M = M} =

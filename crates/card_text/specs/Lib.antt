@@ -1,3 +1,0 @@
-pub mod Written
-pub mod Laws
-pub mod Tests

@@ -1,4 +1,0 @@
-// The bytes of the morning card.
-mod write;
-
-pub use write::write_line;
