@@ -13,7 +13,7 @@ use Rattle.lists.specs.Lists.{any, those, each, eachIn}
 use Rattle.grammar.specs.Document.{Element}
 use Rattle.grammar.specs.Look.{Word}
 use Rattle.numbers.specs.Numbers.{sameKey}
-use Rattle.label_tables.specs.LabelTable.{namesWith}
+use Rattle.cifti.specs.LabelTable.{namesWith}
 use Rattle.cifti.specs.Maps.{Map, isLabels, dimensionsOf, tablesIn, mapElements}
 use Rattle.cifti.specs.Conditions.{Refusal, _when_, conditionsOfHeader, conditionsOfLabels, ofMaps, first}
 use Rattle.cifti.specs.Answer.{mapsIn}

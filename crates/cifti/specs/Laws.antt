@@ -12,3 +12,4 @@ pub mod Repeats
 pub mod Keys
 pub mod Demand
 pub mod Labels
+pub mod LabelTable

@@ -8,3 +8,4 @@ pub mod Answer
 pub mod Labels
 pub mod Laws
 pub mod Tests
+pub mod LabelTable

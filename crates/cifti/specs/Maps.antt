@@ -17,7 +17,7 @@ use Rattle.numbers.specs.Numbers.{value, values, commaValues, exponentValue, de
 use Rattle.numbers.specs.declared.Decimal.{Decimal}
 use Rattle.records.specs.Record.{Location, onSurface, inVolume}
 use Rattle.schema.specs.Schema.{Case, _⇒_}
-use Rattle.label_tables.specs.LabelTable.{tableKeys}
+use Rattle.cifti.specs.LabelTable.{tableKeys}
 use Rattle.cifti.specs.Rows.{ElementKind, words, brainModels, series, scalars, labels}
 use Rattle.cifti.specs.Words.{structures, units, numberIn}
 use Rattle.cifti.specs.declared.answer.Kind.{Kind}

@@ -11,7 +11,7 @@ use Rattle.grammar.specs.Document.{Element}
 use Rattle.grammar.specs.Look.{Word, attr, has, children, textOf}
 use Rattle.numbers.specs.Numbers.{value, listedKeys}
 use Rattle.base64.specs.Fours.{Endian, big, little, codedKeys, codedBytes}
-use Rattle.label_tables.specs.LabelTable.{tableKeys}
+use Rattle.cifti.specs.LabelTable.{tableKeys}
 
 -- every DataArray in the root, and how many the root says that there are
 unfoldable pub arraysOf : Element → List Element

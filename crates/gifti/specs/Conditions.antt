@@ -13,7 +13,7 @@ use Rattle.grammar.specs.Document.{Element}
 use Rattle.grammar.specs.Look.{is, nameOf, has}
 use Rattle.numbers.specs.Numbers.{sameKey}
 use Rattle.schema.specs.Schema.{everywhere, shaped, numbered}
-use Rattle.label_tables.specs.LabelTable.{keyTwice}
+use Rattle.cifti.specs.LabelTable.{keyTwice}
 use Rattle.cifti.specs.Conditions.{textTooLong, noDocument}
 use Rattle.gifti.specs.Rows.{gifti, giftiRows}
 use Rattle.gifti.specs.Arrays.{arraysOf, arraysSaid, fillsDim0, labelTables, knownKeys, keysOfArrays}

@@ -6,7 +6,7 @@ use Rattle.grammar.specs.Document.{Element}
 use Rattle.grammar.specs.Look.{attr, children, textOf}
 use Rattle.numbers.specs.Numbers.{whole, keyList}
 use Rattle.base64.specs.Base64.{coded}
-use Rattle.label_tables.specs.LabelTable.{keysRight}
+use Rattle.cifti.specs.LabelTable.{keysRight}
 use Rattle.gifti.specs.Arrays.{isCoded, labelTables}
 
 -- of the root

@@ -11,7 +11,7 @@ use Rattle.grammar.specs.Look.{attr}
 use Rattle.grammar.specs.Parser.{parse}
 use Rattle.numbers.specs.Numbers.{whole}
 use Rattle.nodes.specs.Places.{Stands, the}
-use Rattle.label_tables.specs.LabelTable.{keysRight}
+use Rattle.cifti.specs.LabelTable.{keysRight}
 use Rattle.gifti.specs.Arrays.{arraysOf, labelTables}
 use Rattle.gifti.specs.Conditions.{conditionsOfFile}
 use Rattle.gifti.specs.Held.{GoodArrays}

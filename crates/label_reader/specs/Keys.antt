@@ -20,7 +20,7 @@ use Rattle.grammar.specs.Parser.{parse}
 use Rattle.nodes.specs.Places.{the}
 use Rattle.nodes.specs.declared.Found.{Found}
 use Rattle.nodes.specs.declared.Found.the-variants.{At, Nothing}
-use Rattle.label_tables.specs.LabelTable.{tableKeys}
+use Rattle.cifti.specs.LabelTable.{tableKeys}
 use Rattle.label_table.specs.Labels.{keysAt, filledWith, Wrote}
 use Rattle.label_table.specs.Laws.Told.{keys-told, filled-told}
 use Rattle.cifti.specs.Maps.{mapsOf}

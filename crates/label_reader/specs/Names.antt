@@ -23,7 +23,7 @@ use Rattle.nodes.specs.Places.{Stands, the}
 use Rattle.nodes.specs.Inside.{between-tags, within-law}
 use Rattle.nodes.specs.declared.Found.{Found}
 use Rattle.nodes.specs.declared.Found.the-variants.{At, Nothing}
-use Rattle.label_tables.specs.LabelTable.{labelsWith, namesWith}
+use Rattle.cifti.specs.LabelTable.{labelsWith, namesWith}
 use Rattle.label_table.specs.Labels.{labelWith}
 use Rattle.label_table.specs.Laws.Told.{label-told}
 use Rattle.cifti.specs.Maps.{mapsOf}

@@ -9,7 +9,7 @@ use lib.ListN.{length, getD}
 use Rattle.lists.specs.Lists.{each}
 use Rattle.grammar.specs.Document.{Element}
 use Rattle.grammar.specs.Look.{withinOf}
-use Rattle.label_tables.specs.LabelTable.{labelsOf, keyOf, labelsWith}
+use Rattle.cifti.specs.LabelTable.{labelsOf, keyOf, labelsWith}
 use Rattle.inside.specs.Way.{reached}
 use Rattle.label_reader.specs.Way.{tableWay}
 

@@ -7,7 +7,7 @@ use lib.IntN.{ℤ}
 use Rattle.grammar.specs.Document.{Element}
 use Rattle.grammar.specs.Look.{is, nameOf}
 use Rattle.numbers.specs.Numbers.{sameKey}
-use Rattle.label_tables.specs.LabelTable.{keyOf}
+use Rattle.cifti.specs.LabelTable.{keyOf}
 use Rattle.inside.specs.Way.{Step, step}
 use Rattle.map_names.specs.Way.{wayInMap}
 

@@ -19,8 +19,8 @@ use Rattle.nodes.specs.declared.Kid.{Kid}
 use Rattle.nodes.specs.declared.Kid.the-variants.{Child, Done}
 use Rattle.inside.specs.Walked.{placesFrom, Stood, none, one, children-stood}
 use Rattle.inside.specs.Treads.{ahead, next-ahead, places-done, places-child, called, called-is, called-alike}
-use Rattle.label_tables.specs.LabelTable as tables
-use Rattle.label_tables.specs.LabelTable.{tableKeys}
+use Rattle.cifti.specs.LabelTable as tables
+use Rattle.cifti.specs.LabelTable.{tableKeys}
 use Rattle.label_table.specs.Labels.{twiceAt}
 use Rattle.label_table.specs.Laws.Told.{twice-told}
 use Rattle.cifti.specs.Rows.{ElementKind, labels, labelledMap, labelTable}

@@ -10,9 +10,9 @@ ghost use Rattle.grammar.specs.Look.{nameOf};
 ghost use Rattle.schema.specs.Schema.{kindBy, kindAmong};
 ghost use Rattle.nodes.specs.Places.{Stands, the};
 ghost use Rattle.nodes.specs.Values.{value-there};
-ghost use Rattle.shape.specs.Table.{casesFrom, choiceCell, orderAt, whichAt};
-ghost use Rattle.shape.specs.Lines.{KindFor, kindOrNone, elseBy, inTurn, chosenAt, kindNext};
-ghost use Rattle.shape.specs.Asked.{Known, Lined, Turning};
+ghost use Rattle.schema.specs.Table.{casesFrom, choiceCell, orderAt, whichAt};
+ghost use Rattle.schema.specs.Lines.{KindFor, kindOrNone, elseBy, inTurn, chosenAt, kindNext};
+ghost use Rattle.schema.specs.Asked.{Known, Lined, Turning};
 
 // The name of the element at `at`.
 pub fn name<'t>(text: &'t [u8], at: usize) -> &'t [u8]

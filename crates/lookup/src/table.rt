@@ -4,10 +4,10 @@ ghost use mathlib.Core.Path.{_≡_};
 ghost use Prim.Native.Nat.{_+_, _-_, _<_, _≤_};
 ghost use lib.ListN.{getD};
 ghost use Rattle.grammar.specs.Bytes.{ascii};
-ghost use Rattle.shape.specs.Lines.{entryPlace, linePlace, attributePlace};
-ghost use Rattle.shape.specs.Table.{entry, kindCell, attributeCell, lineCell, choiceCell, caseCell, bound as boundOf, formCell, linesTo};
-ghost use Rattle.shape.specs.Table.{wordAt, frontAt};
-ghost use Rattle.shape.specs.Asked.{Cell};
+ghost use Rattle.schema.specs.Lines.{entryPlace, linePlace, attributePlace};
+ghost use Rattle.schema.specs.Table.{entry, kindCell, attributeCell, lineCell, choiceCell, caseCell, bound as boundOf, formCell, linesTo};
+ghost use Rattle.schema.specs.Table.{wordAt, frontAt};
+ghost use Rattle.schema.specs.Asked.{Cell};
 
 pub fn wide(x: u32) -> usize
     ensures { λ r. ⌜ (r ≡ x) × (r < 4294967296) ⌝ }

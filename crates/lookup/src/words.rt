@@ -9,8 +9,8 @@ ghost use Prim.Native.Nat.{_+_, _<_};
 ghost use lib.ListN.{drop};
 ghost use Rattle.nodes.specs.Values.{value-there, tells};
 ghost use Rattle.schema.specs.Words.{numberIn};
-ghost use Rattle.shape.specs.Table.{wordsFrom, restsFrom, wordsAt};
-ghost use Rattle.shape.specs.Asked.{Listed};
+ghost use Rattle.schema.specs.Table.{wordsFrom, restsFrom, wordsAt};
+ghost use Rattle.schema.specs.Asked.{Listed};
 
 // The first of the words from `from` up to `to` that the decoded bytes from `at` up to the quote are, or `to`.
 fn rest_place(

@@ -14,9 +14,9 @@ use Rattle.nodes.specs.declared.Kid.the-variants.{Child}
 use Rattle.cifti.specs.Conditions.{shapeWrong, numberWrong}
 use Rattle.cifti.specs.Words.{numberIn}
 use Rattle.gifti.specs.Conditions as G
-use Rattle.shape.specs.Table.{wordsAt}
-use Rattle.shape.specs.Checked.{Checks}
-use Rattle.shape.specs.declared.Checked.{Checked}
+use Rattle.schema.specs.Table.{wordsAt}
+use Rattle.schema.specs.Checked.{Checks}
+use Rattle.schema.specs.declared.Checked.{Checked}
 use Rattle.numbered_rows.specs.Table.{table, letters}
 
 -- 6 or 7, whichever applies first to a root, or 0: of CIFTI, and of GIFTI

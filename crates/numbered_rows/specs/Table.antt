@@ -7,7 +7,7 @@ use Rattle.lists.specs.Lists.{each, eachIn}
 use lib.ListN.{length, drop}
 use Rattle.grammar.specs.Bytes.{ascii}
 use Rattle.cifti.specs.Words.{structures, units}
-use Rattle.shape.specs.Letters.{lettered, lettering}
+use Rattle.schema.specs.Letters.{lettered, lettering}
 
 -- attributes from, up to; children from, up to; text; order
 kinds : List ℕ

@@ -30,7 +30,7 @@ use Rattle.cifti.specs.Conditions as C
 use Rattle.cifti.specs.Conditions.{_when_, lengthsWrong, textTooLong, noDocument, rootWrong, kindNotRead, shapeWrong, numberWrong}
 use Rattle.cifti.specs.Conditions.{conditionsOfHeader}
 use Rattle.numbered_rows.specs.Checks.{rootFault, Judged, ChecksCifti}
-use Rattle.shape.specs.declared.Checked.{Checked}
+use Rattle.schema.specs.declared.Checked.{Checked}
 use Rattle.lists.specs.Laws.Booleans.{never-some}
 use Rattle.maps.specs.Laws.Good.{Good}
 use Rattle.maps.specs.Laws.Kinds.{root-child}

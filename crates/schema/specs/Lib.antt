@@ -2,3 +2,13 @@ pub mod Schema
 pub mod Walk
 pub mod Words
 pub mod Laws
+pub mod Letters
+pub mod Table
+pub mod Faults
+pub mod Parts
+pub mod Lines
+pub mod Asked
+pub mod Tallied
+pub mod Walked
+pub mod Checked
+pub mod Tests

@@ -10,9 +10,9 @@ use Rattle.nodes.specs.declared.Found.{Found}
 use Rattle.lists.specs.Lists.{all}
 use Rattle.grammar.specs.Bytes.{ascii}
 use Rattle.grammar.specs.Look.{attributesOf}
-use Rattle.shape.specs.Table.{wordAt, attributeCell, attributesOfKind}
-use Rattle.shape.specs.Parts.{attributeFault, attributesFault, keyListed}
-use Rattle.shape.specs.Asked.{Known}
+use Rattle.schema.specs.Table.{wordAt, attributeCell, attributesOfKind}
+use Rattle.schema.specs.Parts.{attributeFault, attributesFault, keyListed}
+use Rattle.schema.specs.Asked.{Known}
 
 -- the attributes from a place of the text on
 abbrev pub keysFrom : List ℕ → ℕ → List Key

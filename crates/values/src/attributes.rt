@@ -12,10 +12,10 @@ use steps::Step;
 use steps::attributes::Key;
 ghost use mathlib.Core.Path.{_≡_};
 ghost use Prim.Native.Nat.{_<_};
-ghost use Rattle.shape.specs.Table.{attributesBetween};
-ghost use Rattle.shape.specs.Parts.{nameListed};
-ghost use Rattle.shape.specs.Asked.{Known};
-ghost use Rattle.shape.specs.Walked.{AllListed};
+ghost use Rattle.schema.specs.Table.{attributesBetween};
+ghost use Rattle.schema.specs.Parts.{nameListed};
+ghost use Rattle.schema.specs.Asked.{Known};
+ghost use Rattle.schema.specs.Walked.{AllListed};
 ghost use Rattle.values.specs.InTurn.{Within, Placed, Asking, Asked, Begins, Walked};
 
 // Where an attribute stands, and a place in the tag.

@@ -1,6 +1,6 @@
 // Faults as numbers.
 ghost use mathlib.Core.Path.{_≡_};
-ghost use Rattle.shape.specs.Faults.{sooner as soonerOf};
+ghost use Rattle.schema.specs.Faults.{sooner as soonerOf};
 
 // The smaller of two faults; 0 is none.
 pub fn sooner(a: u8, b: u8) -> u8

@@ -4,8 +4,8 @@ use attributes::listed_from;
 use faults::sooner;
 use lookup::table;
 use text::text_fault;
-ghost use Rattle.shape.specs.Asked.{Known};
-ghost use Rattle.shape.specs.Walked.{Owns};
+ghost use Rattle.schema.specs.Asked.{Known};
+ghost use Rattle.schema.specs.Walked.{Owns};
 
 // The smaller of two faults.
 pub mod faults;

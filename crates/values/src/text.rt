@@ -4,8 +4,8 @@ ghost use mathlib.Core.Path.{_≡_};
 ghost use Rattle.grammar.specs.Look.{textOf};
 ghost use Rattle.nodes.specs.Places.{the};
 ghost use Rattle.nodes.specs.Texts.{text-of};
-ghost use Rattle.shape.specs.Parts.{keysBy, textNumbered, textFault};
-ghost use Rattle.shape.specs.Asked.{Known};
+ghost use Rattle.schema.specs.Parts.{keysBy, textNumbered, textFault};
+ghost use Rattle.schema.specs.Asked.{Known};
 
 // The text lists keys of a form: as numbers, or as Base64.
 fn keys_by(text: &[u8], at: usize, form: usize) -> bool

@@ -5,8 +5,8 @@ ghost use mathlib.Core.Path.{_≡_};
 ghost use Prim.Native.Nat.{_<_};
 ghost use Rattle.schema.specs.Schema.{isWord, isNumber};
 ghost use Rattle.nodes.specs.Values.{value-there};
-ghost use Rattle.shape.specs.Table.{formAt};
-ghost use Rattle.shape.specs.Parts.{valueFault, numberBy, labelBy};
+ghost use Rattle.schema.specs.Table.{formAt};
+ghost use Rattle.schema.specs.Parts.{valueFault, numberBy, labelBy};
 
 // The value is one of the named words, where its form is one of words.
 fn word_right(text: &[u8], v: usize, table: &[u32], letters: &[u8], form: usize) -> bool

@@ -1,12 +1,12 @@
 // The table of rows, lent to the walk: conditions 3, 6 and 7 of any text, as CIFTI or as GIFTI, and the numbers of the words that the
 // paper names.
 use lookup::words::word_number;
-use shape::Checked;
+use schema::Checked;
 ghost use mathlib.Core.Path.{_≡_};
 ghost use Rattle.nodes.specs.Values.{value-there};
 ghost use Rattle.cifti.specs.Words.{structures, units, numberIn};
 ghost use Rattle.cifti.specs.Maps.{wordsOfKinds};
-ghost use Rattle.shape.specs.Table.{wordsAt};
+ghost use Rattle.schema.specs.Table.{wordsAt};
 ghost use Rattle.numbered_rows.specs.Table.{table, letters};
 ghost use Rattle.numbered_rows.specs.Checks.{ChecksCifti, ChecksGifti, Answers};
 

@@ -2,14 +2,14 @@
 use crate::tally;
 use lookup::table;
 use nodes::ahead::Ahead;
-use shape::Tally;
-use shape::Walked;
+use schema::Tally;
+use schema::Walked;
 ghost use mathlib.Core.Path.{_≡_};
 ghost use mathlib.Core.Bool.{_||_};
 ghost use Rattle.nodes.specs.Places.{the};
-ghost use Rattle.shape.specs.Tallied.{timesBy};
-ghost use Rattle.shape.specs.Walked.{Walks, refusedWalk, finishedWalk};
-ghost use Rattle.shape.specs.Asked.{Known, Timed};
+ghost use Rattle.schema.specs.Tallied.{timesBy};
+ghost use Rattle.schema.specs.Walked.{Walks, refusedWalk, finishedWalk};
+ghost use Rattle.schema.specs.Asked.{Known, Timed};
 
 fn refused() -> Walked
     ensures { λ r. ⌜ r ≡ refusedWalk ⌝ }

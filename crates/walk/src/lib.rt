@@ -2,7 +2,7 @@
 use elements::children::root_of;
 use markup::well_formed;
 use nodes::Kid;
-ghost use Rattle.shape.specs.Checked.{Checks, ChecksRoot, Written};
+ghost use Rattle.schema.specs.Checked.{Checks, ChecksRoot, Written};
 ghost use Prim.Native.Nat.{_<_};
 
 // How often the lines of its children are met.
@@ -10,7 +10,7 @@ mod tally;
 // The element and all that is in it.
 mod element;
 
-pub use shape::Checked;
+pub use schema::Checked;
 
 fn of_document(text: &[u8], table: &[u32], letters: &[u8], kind: usize) -> Checked
     requires { ⌜ Written (now text) kind ⌝ }

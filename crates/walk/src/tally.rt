@@ -2,11 +2,11 @@
 use letters::names::equal;
 use lookup::lines;
 use lookup::table;
-use shape::Tally;
+use schema::Tally;
 ghost use mathlib.Core.Path.{_≡_};
 ghost use Rattle.nodes.specs.Places.{the};
-ghost use Rattle.shape.specs.Tallied.{hereOne, watchedName, standsBy, timesBy, Counts, Meets};
-ghost use Rattle.shape.specs.Asked.{Here, Timed, Counting, Tallying};
+ghost use Rattle.schema.specs.Tallied.{hereOne, watchedName, standsBy, timesBy, Counts, Meets};
+ghost use Rattle.schema.specs.Asked.{Here, Timed, Counting, Tallying};
 
 // 1 where the name, which is that of `line`, is that of line i.
 fn here(name: &[u8], table: &[u32], letters: &[u8], line: usize, i: usize) -> u64

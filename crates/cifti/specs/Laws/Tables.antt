@@ -11,7 +11,7 @@ use Rattle.numbers.specs.Numbers.{key}
 use Rattle.schema.specs.Schema.{ChildRow, child, anyTimes, always, kindOf, kindBy, shaped, numbered, attributesShaped}
 use Rattle.schema.specs.Laws.Good.{Good, GoodAs, good-as, EachGood, no-good, also-good, those-good, shape-here, number-here}
 use Rattle.schema.specs.Laws.Good.{good-children, required-number}
-use Rattle.label_tables.specs.LabelTable.{labelsOf, keysRight}
+use Rattle.cifti.specs.LabelTable.{labelsOf, keysRight}
 use Rattle.cifti.specs.Rows.{ElementKind, rows, labelAttributes, labelTable, label}
 
 abbrev tableRows : List (ChildRow ElementKind)

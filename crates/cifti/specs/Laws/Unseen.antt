@@ -17,7 +17,7 @@ use Rattle.grammar.specs.Laws.Plain.{plain, name-erased, attr-erased, has-erase
 use Rattle.numbers.specs.Numbers.{values, commaValues}
 use Rattle.schema.specs.Schema.{shaped, numbered}
 use Rattle.schema.specs.Laws.Erased.{walk-erased, shaped-erased, numbered-erased}
-use Rattle.label_tables.specs.LabelTable.{labelsOf, keyOf, tableKeys}
+use Rattle.cifti.specs.LabelTable.{labelsOf, keyOf, tableKeys}
 use Rattle.cifti.specs.Rows.{cifti, rows}
 use Rattle.cifti.specs.Maps.{Map, listedBy, modelOf, sizesBy, sizesOf, seriesOf, kindOfMap, dimensionsOf, countedName, mapOf}
 use Rattle.cifti.specs.Maps.{tablesIn, mapElements, mapsOf}

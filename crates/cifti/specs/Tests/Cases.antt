@@ -9,7 +9,7 @@ use Rattle.grammar.specs.Look.{looks}
 use Rattle.grammar.specs.Laws.Plain.{erasing}
 use Rattle.numbers.specs.Numbers.{numbers}
 use Rattle.schema.specs.Schema.{schema}
-use Rattle.label_tables.specs.LabelTable.{labelWords}
+use Rattle.cifti.specs.LabelTable.{labelWords}
 use Rattle.records.specs.Record.{recordWords}
 use Rattle.cifti.specs.Words.{namedWords}
 use Rattle.cifti.specs.Rows.{rowTable}

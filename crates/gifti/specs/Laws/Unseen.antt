@@ -17,7 +17,7 @@ use Rattle.grammar.specs.Laws.Plain.{plain, name-erased, attr-erased, has-erase
 use Rattle.numbers.specs.Numbers.{value}
 use Rattle.schema.specs.Schema.{shaped, numbered}
 use Rattle.schema.specs.Laws.Erased.{walk-erased, shaped-erased, numbered-erased}
-use Rattle.label_tables.specs.LabelTable.{tableKeys, keyTwice}
+use Rattle.cifti.specs.LabelTable.{tableKeys, keyTwice}
 use Rattle.cifti.specs.Conditions.{noDocument}
 use Rattle.cifti.specs.Labels.{overwritten}
 use Rattle.cifti.specs.Laws.Text.{Unseeing}

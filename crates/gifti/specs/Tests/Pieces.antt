@@ -12,7 +12,7 @@ use Rattle.base64.specs.Base64.{base64}
 use Rattle.base64.specs.Fours.{fours}
 use Rattle.schema.specs.Schema.{schema}
 use Rattle.schema.specs.Laws.Renamed.{renaming}
-use Rattle.label_tables.specs.LabelTable.{labelWords}
+use Rattle.cifti.specs.LabelTable.{labelWords}
 use Rattle.cifti.specs.Rows.{rowTable}
 use Rattle.gifti.specs.Rows.{giftiTable}
 use Rattle.gifti.specs.Arrays.{arrayWords}

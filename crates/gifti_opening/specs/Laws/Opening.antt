@@ -17,7 +17,7 @@ use Rattle.nodes.specs.Places.{Stands, the}
 use Rattle.cifti.specs.Conditions.{textTooLong, noDocument}
 use Rattle.gifti.specs.Conditions.{rootWrong, shapeWrong, arrayNotRead, numberWrong, conditionsOfFile}
 use Rattle.numbered_rows.specs.Checks.{giftiFault, JudgedGifti, ChecksGifti}
-use Rattle.shape.specs.declared.Checked.{Checked}
+use Rattle.schema.specs.declared.Checked.{Checked}
 use Rattle.gifti_opening.specs.Opening.{fileNumber, OpensGifti, rootNumber, OpensRoot}
 use Rattle.gifti_opening.specs.declared.GiftiOpening.{GiftiOpening}
 

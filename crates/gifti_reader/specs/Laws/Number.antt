@@ -25,7 +25,7 @@ use Rattle.inside.specs.Way.{nth}
 use Rattle.inside.specs.Walked.{Agrees}
 use Rattle.inside.specs.Treads.{childNamed}
 use Rattle.maps.specs.Fields.{attributeWord, numberSeen, word-at, number-seen}
-use Rattle.label_tables.specs.LabelTable.{keysRight, tableKeys, keyTwice}
+use Rattle.cifti.specs.LabelTable.{keysRight, tableKeys, keyTwice}
 use Rattle.label_table.specs.Labels.{keysAt, twiceAt}
 use Rattle.label_table.specs.Laws.Told.{keys-told, twice-told}
 use Rattle.label_table.specs.Codes.{codeOf, codesAt}

@@ -16,7 +16,7 @@ use Rattle.grammar.specs.Document.{Element}
 use Rattle.grammar.specs.Look.{Word, is, nameOf, contentsOf, elements, children}
 use Rattle.grammar.specs.Parser.{same}
 use Rattle.schema.specs.Schema.{child, once, always, childShaped, standsSo}
-use Rattle.label_tables.specs.LabelTable.{tableKeys, namesWith}
+use Rattle.cifti.specs.LabelTable.{tableKeys, namesWith}
 use Rattle.cifti.specs.Rows.{ElementKind, cifti, rows, words, namedMap, labelledMap, labelTable}
 use Rattle.cifti.specs.Maps.{Map, mapOf, mapsOf, mapElements, kindOfMap, isLabels, isScalars, hasNames, same-kind, rowFor, countedName}
 use Rattle.cifti.specs.Maps.{dimensionsOf, tablesIn}

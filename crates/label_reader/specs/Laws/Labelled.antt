@@ -24,7 +24,7 @@ use Rattle.nodes.specs.declared.Found.the-variants.{At, Nothing}
 use Rattle.numbers.specs.Numbers as numbers
 use Rattle.numbers.specs.Numbers.{sameKey}
 use Rattle.numbers.specs.Answers.{keyIn}
-use Rattle.label_tables.specs.LabelTable.{labelsOf, keyOf, keysRight, tableKeys, labelsWith, namesWith}
+use Rattle.cifti.specs.LabelTable.{labelsOf, keyOf, keysRight, tableKeys, labelsWith, namesWith}
 use Rattle.label_table.specs.Labels.{labels, labelsFrom, orZero, keyHere, has-key, labelWith}
 use Rattle.inside.specs.Way.{Step, step, nth}
 use Rattle.inside.specs.Walked.{placesFrom, nthPlace, childAt, thence, walked, walkedFrom, wayAt, Stood, none, one, children-stood, Agrees}

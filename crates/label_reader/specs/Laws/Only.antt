@@ -9,8 +9,8 @@ use lib.ListN.{length}
 use Rattle.lists.specs.Lists.{any, those, twoOf, each}
 use Rattle.grammar.specs.Document.{Element}
 use Rattle.numbers.specs.Numbers.{sameKey}
-use Rattle.label_tables.specs.LabelTable.{labelsOf, keyOf, tableKeys, keyTwice, labelsWith}
-use Rattle.label_tables.specs.Laws.LabelTable.{one-label}
+use Rattle.cifti.specs.LabelTable.{labelsOf, keyOf, tableKeys, keyTwice, labelsWith}
+use Rattle.cifti.specs.Laws.LabelTable.{one-label}
 
 module _ (k : ℤ) where
   abbrev with : List Element → List Element

@@ -17,7 +17,7 @@ use Rattle.grammar.specs.Parser.{parse}
 use Rattle.nodes.specs.Places.{Stands, the}
 use Rattle.nodes.specs.declared.Found.{Found}
 use Rattle.nodes.specs.declared.Found.the-variants.{At, Nothing}
-use Rattle.label_tables.specs.LabelTable.{tableKeys, namesWith}
+use Rattle.cifti.specs.LabelTable.{tableKeys, namesWith}
 use Rattle.cifti.specs.Rows.{labelTable}
 use Rattle.cifti.specs.Maps.{mapsOf}
 use Rattle.cifti.specs.Conditions.{conditionsOfHeader, conditionsOfLabels, ofMaps}

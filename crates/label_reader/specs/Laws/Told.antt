@@ -19,7 +19,7 @@ use Rattle.grammar.specs.Document.{Element}
 use Rattle.grammar.specs.Grammar.{Writes}
 use Rattle.grammar.specs.Look.{withinOf}
 use Rattle.numbers.specs.Numbers.{sameKey}
-use Rattle.label_tables.specs.LabelTable.{labelsOf, keyOf, tableKeys, labelsWith, namesWith}
+use Rattle.cifti.specs.LabelTable.{labelsOf, keyOf, tableKeys, labelsWith, namesWith}
 use Rattle.cifti.specs.Rows.{cifti}
 use Rattle.cifti.specs.Maps.{mapsOf}
 use Rattle.cifti.specs.Conditions.{conditionsOfHeader, conditionsOfLabels, ofMaps, listedDimensions, dimensionsWrong, keyTwice}

@@ -18,7 +18,7 @@ use Rattle.numbers.specs.Answers.{keyIn}
 use Rattle.inside.specs.Way.{nth}
 use Rattle.inside.specs.Walked.{Stood, none, one, children-stood, nthPlace, Agrees, not-there, stands-there}
 use Rattle.inside.specs.Treads.{called, called-alike}
-use Rattle.label_tables.specs.LabelTable.{labelsOf, keyOf, keysRight, tableKeys, keyTwice, labelsWith}
+use Rattle.cifti.specs.LabelTable.{labelsOf, keyOf, keysRight, tableKeys, keyTwice, labelsWith}
 use Rattle.label_table.specs.Labels.{labelsFrom, labels, orZero, keyHere, keysAt, filledWith, has-key, labelWith, twiceAt}
 
 -- the places that pass, and the elements that pass, where the tests agree

@@ -22,11 +22,11 @@ use Rattle.cifti.specs.Rows.{ElementKind, cifti, rows, rowTable, elementKinds, 
 use Rattle.cifti.specs.Maps.{kindWords, caseWord, wordsOfKinds}
 use Rattle.cifti.specs.Words.{structures, units, numberIn}
 use Rattle.cifti.specs.Conditions.{shapeWrong, numberWrong}
-use Rattle.shape.specs.Letters.{lettering}
-use Rattle.shape.specs.Table.{tableWords, rowsOf, wordsAt}
-use Rattle.shape.specs.Faults.{fault, faultOf}
-use Rattle.shape.specs.Checked.{Checks, Judges}
-use Rattle.shape.specs.declared.Checked.{Checked}
+use Rattle.schema.specs.Letters.{lettering}
+use Rattle.schema.specs.Table.{tableWords, rowsOf, wordsAt}
+use Rattle.schema.specs.Faults.{fault, faultOf}
+use Rattle.schema.specs.Checked.{Checks, Judges}
+use Rattle.schema.specs.declared.Checked.{Checked}
 use Rattle.numbered_rows.specs.Table.{table, letters}
 use Rattle.numbered_rows.specs.Checks.{rootFault, JudgedBy, ChecksBy, ChecksCifti, Answers}
 use Rattle.schema.specs.Laws.Renamed.{rowNamed, renaming, shaped-named, numbered-named, walk-named}

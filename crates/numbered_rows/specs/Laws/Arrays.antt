@@ -11,11 +11,11 @@ use Rattle.cifti.specs.Rows.{ElementKind, rows, elementNumber}
 use Rattle.gifti.specs.Rows.{GiftiKind, ofCifti, gifti, plainArray, codedArray, otherArray, plainData, codedData, otherData, giftiNumber}
 use Rattle.gifti.specs.Rows.{giftiRows, giftiTable}
 use Rattle.gifti.specs.Conditions.{shapeWrong, numberWrong}
-use Rattle.shape.specs.Letters.{lettering}
-use Rattle.shape.specs.Table.{tableWords, rowsOf}
-use Rattle.shape.specs.Faults.{faultOf}
-use Rattle.shape.specs.Checked.{Checks}
-use Rattle.shape.specs.declared.Checked.{Checked}
+use Rattle.schema.specs.Letters.{lettering}
+use Rattle.schema.specs.Table.{tableWords, rowsOf}
+use Rattle.schema.specs.Faults.{faultOf}
+use Rattle.schema.specs.Checked.{Checks}
+use Rattle.schema.specs.declared.Checked.{Checked}
 use Rattle.numbered_rows.specs.Table.{table, letters}
 use Rattle.numbered_rows.specs.Checks.{giftiFault, ChecksGifti}
 use Rattle.numbered_rows.specs.Laws.Agree.{rows-are, fault-so, checked-by}

@@ -43,17 +43,17 @@ use Rattle.nodes.specs.Laws.Attributes.{keys-go, keys-tag}
 use Rattle.nodes.specs.declared.Found.{Found}
 use Rattle.nodes.specs.declared.Found.the-variants.{At, Nothing}
 use Rattle.schema.specs.Schema.{Form, rowName}
-use Rattle.shape.specs.Table.{wordAt, formAt, kindCell, attributeCell, attributeBy, attributeAt}
-use Rattle.shape.specs.Table.{attributesOfKind, attributesFrom, attributesTo}
-use Rattle.shape.specs.Faults.{sooner}
-use Rattle.shape.specs.Parts.{valueFault, textFault, nameListed, keyListed}
-use Rattle.shape.specs.Asked.{Known}
-use Rattle.shape.specs.Walked.{AllListed, Owns}
-use Rattle.shape.specs.Laws.Asked.{known-small, known-stands, known-other}
-use Rattle.shape.specs.Laws.Attributes.{attribute-there, attribute-missing, attribute-spared}
-use Rattle.shape.specs.Laws.Attributes.{Fitting, fitting-start, fitting-attributed, fitting-room, fitting-on, fitting-end}
-use Rattle.shape.specs.Laws.Attributes.{own-six, own-other, own-text}
-use Rattle.shape.specs.Laws.Keys.{key-ahead, key-inside}
+use Rattle.schema.specs.Table.{wordAt, formAt, kindCell, attributeCell, attributeBy, attributeAt}
+use Rattle.schema.specs.Table.{attributesOfKind, attributesFrom, attributesTo}
+use Rattle.schema.specs.Faults.{sooner}
+use Rattle.schema.specs.Parts.{valueFault, textFault, nameListed, keyListed}
+use Rattle.schema.specs.Asked.{Known}
+use Rattle.schema.specs.Walked.{AllListed, Owns}
+use Rattle.schema.specs.Laws.Asked.{known-small, known-stands, known-other}
+use Rattle.schema.specs.Laws.Attributes.{attribute-there, attribute-missing, attribute-spared}
+use Rattle.schema.specs.Laws.Attributes.{Fitting, fitting-start, fitting-attributed, fitting-room, fitting-on, fitting-end}
+use Rattle.schema.specs.Laws.Attributes.{own-six, own-other, own-text}
+use Rattle.schema.specs.Laws.Keys.{key-ahead, key-inside}
 use Rattle.values.specs.InTurn.{keysFrom, Over, none-passed, one-passed, Within, Placed, Asking, Asked, Begins, Walked}
 
 -- NO NAME TWICE

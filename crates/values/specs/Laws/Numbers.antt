@@ -7,9 +7,9 @@ use native.Mathlib.Omega.{arith}
 use borrow.Author.Needs.{needs}
 use Rattle.grammar.specs.Look.{Word}
 use Rattle.schema.specs.Schema.{isNumber}
-use Rattle.shape.specs.Table.{formAt, formCell}
-use Rattle.shape.specs.Parts.{labelBy}
-use Rattle.shape.specs.Laws.Values.{right-number, by-label}
+use Rattle.schema.specs.Table.{formAt, formCell}
+use Rattle.schema.specs.Parts.{labelBy}
+use Rattle.schema.specs.Laws.Values.{right-number, by-label}
 
 pub right-label : (t l : List ℕ) (x : Word) (f : ℕ) {id : ℕ} → id ≡ formCell t f 0 → 6 < id → {r : Bool} → r ≡ labelBy id x
     → r ≡ isNumber (formAt t l f) x

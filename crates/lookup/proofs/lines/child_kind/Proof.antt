@@ -1,4 +1,4 @@
-use Rattle.shape.specs.Laws.Lines.{of-child}
+use Rattle.schema.specs.Laws.Lines.{of-child}
 use Rattle.lookup.proofs.lines.child_kind.Statement.{statement}
 use Rattle.lookup.proofs.lines.child_kind.Tie as tie
 

@@ -1,4 +1,4 @@
-use Rattle.shape.specs.Laws.Lines.{by-word}
+use Rattle.schema.specs.Laws.Lines.{by-word}
 use Rattle.lookup.proofs.lines.chosen.Statement.{statement}
 use Rattle.lookup.proofs.lines.chosen.Tie as tie
 

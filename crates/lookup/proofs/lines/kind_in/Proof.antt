@@ -1,4 +1,4 @@
-use Rattle.shape.specs.Laws.Lines.{choosing-kind, Choosing}
+use Rattle.schema.specs.Laws.Lines.{choosing-kind, Choosing}
 use Prim.Native.Nat.{_-_}
 use Rattle.nodes.specs.Values.{value-there}
 use Rattle.lookup.proofs.lines.kind_in.Statement.{statement}

@@ -1,4 +1,4 @@
-use Rattle.shape.specs.Laws.Lines.{naming-element}
+use Rattle.schema.specs.Laws.Lines.{naming-element}
 use Rattle.lookup.proofs.lines.name.Statement.{statement}
 use Rattle.lookup.proofs.lines.name.Tie as tie
 

@@ -1,4 +1,4 @@
-use Rattle.shape.specs.Laws.Lines.{or-else}
+use Rattle.schema.specs.Laws.Lines.{or-else}
 use Rattle.lookup.proofs.lines.or_else.Statement.{statement}
 use Rattle.lookup.proofs.lines.or_else.Tie as tie
 

@@ -1,5 +1,5 @@
-use Rattle.shape.specs.Table.{entryWord}
-use Rattle.shape.specs.Laws.Searches.{searching-entries, Searching}
+use Rattle.schema.specs.Table.{entryWord}
+use Rattle.schema.specs.Laws.Searches.{searching-entries, Searching}
 use Prim.Native.Nat.{_-_}
 use Rattle.lookup.proofs.table.entry_named.Statement.{statement}
 use Rattle.lookup.proofs.table.entry_named.Tie as tie

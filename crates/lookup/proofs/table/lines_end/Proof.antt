@@ -1,4 +1,4 @@
-use Rattle.shape.specs.Laws.Table.{ending}
+use Rattle.schema.specs.Laws.Table.{ending}
 use Rattle.lookup.proofs.table.lines_end.Statement.{statement}
 use Rattle.lookup.proofs.table.lines_end.Tie as tie
 

@@ -1,7 +1,7 @@
 use Prim.Native.Nat.{ℕ, _<_}
 use native.Mathlib.Omega.{arith}
 use lib.ListN.{getD}
-use Rattle.shape.specs.Laws.Table.{wording}
+use Rattle.schema.specs.Laws.Table.{wording}
 use Rattle.lookup.proofs.table.word.Statement.{statement}
 use Rattle.lookup.proofs.table.word.Tie as tie
 

@@ -1,7 +1,7 @@
 use Rattle.nodes.specs.Values.{tells}
 use lib.ListN.{drop}
-use Rattle.shape.specs.Table.{wordAt}
-use Rattle.shape.specs.Laws.Searches.{searching-words, Searching}
+use Rattle.schema.specs.Table.{wordAt}
+use Rattle.schema.specs.Laws.Searches.{searching-words, Searching}
 use Prim.Native.Nat.{_-_}
 use Rattle.lookup.proofs.words.rest_place.Statement.{statement}
 use Rattle.lookup.proofs.words.rest_place.Tie as tie

@@ -1,4 +1,4 @@
-use Rattle.shape.specs.Laws.Words.{numbered}
+use Rattle.schema.specs.Laws.Words.{numbered}
 use Rattle.lookup.proofs.words.word_number.Statement.{statement}
 use Rattle.lookup.proofs.words.word_number.Tie as tie
 

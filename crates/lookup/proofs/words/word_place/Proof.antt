@@ -1,4 +1,4 @@
-use Rattle.shape.specs.Laws.Words.{placing}
+use Rattle.schema.specs.Laws.Words.{placing}
 use Rattle.lookup.proofs.words.word_place.Statement.{statement}
 use Rattle.lookup.proofs.words.word_place.Tie as tie
 

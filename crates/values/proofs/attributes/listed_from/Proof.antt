@@ -1,8 +1,8 @@
-use Rattle.shape.specs.Laws.Keys.{listing, listing-end, Listing}
+use Rattle.schema.specs.Laws.Keys.{listing, listing-end, Listing}
 use Prim.Native.Nat.{_-_}
 use lib.ListN.{length}
 use Rattle.lists.specs.Lists.{countUp}
-use Rattle.shape.specs.Table.{attributeAt}
+use Rattle.schema.specs.Table.{attributeAt}
 use Rattle.values.proofs.attributes.listed_from.Statement.{statement}
 use Rattle.values.proofs.attributes.listed_from.Tie as tie
 

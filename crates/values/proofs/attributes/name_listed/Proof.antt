@@ -1,4 +1,4 @@
-use Rattle.shape.specs.Laws.Keys.{naming}
+use Rattle.schema.specs.Laws.Keys.{naming}
 use Rattle.values.proofs.attributes.name_listed.Statement.{statement}
 use Rattle.values.proofs.attributes.name_listed.Tie as tie
 

@@ -1,4 +1,4 @@
-use Rattle.shape.specs.Laws.Values.{keying}
+use Rattle.schema.specs.Laws.Values.{keying}
 use Rattle.values.proofs.text.keys_by.Statement.{statement}
 use Rattle.values.proofs.text.keys_by.Tie as tie
 

@@ -1,4 +1,4 @@
-use Rattle.shape.specs.Laws.Values.{faulting}
+use Rattle.schema.specs.Laws.Values.{faulting}
 use Rattle.values.proofs.value.value_fault.Statement.{statement}
 use Rattle.values.proofs.value.value_fault.Tie as tie
 

@@ -1,4 +1,4 @@
-use Rattle.shape.specs.Laws.Values.{forming}
+use Rattle.schema.specs.Laws.Values.{forming}
 use Rattle.values.proofs.value.word_right.Statement.{statement}
 use Rattle.values.proofs.value.word_right.Tie as tie
 

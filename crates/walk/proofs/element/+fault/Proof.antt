@@ -1,4 +1,4 @@
-use Rattle.shape.specs.Laws.Walk.{walking, Walking, walking-deeper, walking-tallying}
+use Rattle.schema.specs.Laws.Walk.{walking, Walking, walking-deeper, walking-tallying}
 use Prim.Native.Nat.{_-_}
 use lib.ListN.{length}
 use native.Mathlib.Omega.{arith}

@@ -1,4 +1,4 @@
-use Rattle.shape.specs.Laws.Walk.{finishing}
+use Rattle.schema.specs.Laws.Walk.{finishing}
 use Rattle.walk.proofs.element.finished.Statement.{statement}
 use Rattle.walk.proofs.element.finished.Tie as tie
 

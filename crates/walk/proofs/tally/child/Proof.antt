@@ -1,4 +1,4 @@
-use Rattle.shape.specs.Laws.Times.{meeting}
+use Rattle.schema.specs.Laws.Times.{meeting}
 use Rattle.walk.proofs.tally.child.Statement.{statement}
 use Rattle.walk.proofs.tally.child.Tie as tie
 

@@ -1,4 +1,4 @@
-use Rattle.shape.specs.Laws.Times.{hereabout}
+use Rattle.schema.specs.Laws.Times.{hereabout}
 use Rattle.walk.proofs.tally.here.Statement.{statement}
 use Rattle.walk.proofs.tally.here.Tie as tie
 

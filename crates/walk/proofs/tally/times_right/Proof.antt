@@ -1,4 +1,4 @@
-use Rattle.shape.specs.Laws.Times.{timing, Timing}
+use Rattle.schema.specs.Laws.Times.{timing, Timing}
 use Prim.Native.Nat.{_-_}
 use Rattle.walk.proofs.tally.times_right.Statement.{statement}
 use Rattle.walk.proofs.tally.times_right.Tie as tie

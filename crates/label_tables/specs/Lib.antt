@@ -1,3 +1,0 @@
-pub mod LabelTable
-pub mod Laws
-pub mod Tests
