@@ -5,7 +5,8 @@
    pointer of an empty slice is not followed: any address will do, null too. Any other pointer is that of so
    many elements.
 
-   Every function returns its number: 0, or the number of refusal (the smallest that applies):
+   Every function returns its number: 0, or that of the first refusal that applies, by the orders below the list. In a read
+   they rise, so that there it is the number of refusal (the smallest that applies):
 
      1  lengths are not 2 or 3, or one is 0 or above 1,048,576
      2  text above 16,777,216 bytes
@@ -37,8 +38,10 @@
     29  a GIFTI array of another encoding, intent or type than ASCII or Base64Binary, NIFTI_INTENT_LABEL, NIFTI_TYPE_INT32
     30  a GIFTI array does not hold as many keys as its Dim0
     31  a key of a GIFTI array that no Label of the table has
-   In a call on a file 20 to 23 come first, in this order, and then those of the read. Of a GIFTI label file the order is 2, 3, 4, 6,
-   29, 7, 9, 24, 18, 30, 31, 17.
+   In a call on a file 20 to 23 come first, in this order, and then those of the read, 1 to 14, 24, 25. A map name asks 1 to 9, 18, and
+   all names of a dimension then 17; keys and label names 1 to 9, 24, 25, 18, and then 17 or 19; packing and unpacking 15, 16, 17; making a
+   list 15, 16, 26, 17, and asking one 26, 19; two sheets 15, 16 of the first, 15, 16 of the second, 13, 14. Of a GIFTI label file the order
+   is 2, 3, 4, 6, 29, 7, 9, 24, 18, 30, 31, 17.
 
    The slices `answer`, `part`, `place` and `count` take the rest of an answer. They are written on every
    call, refused or not, from their start; what lies past the numbers named below is left as it was. Where
