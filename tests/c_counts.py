@@ -41,7 +41,8 @@ def built(tools, libraries, headers, scratch, language, way):
     words, linked = ways(libraries)[way]
     compiled, program, parts = scratch / "counts.o", scratch / f"counts_{way}", tools / "lib"
     subprocess.run([tools / "bin" / "clang", "--target=x86_64-unknown-linux-gnu", "-nostdinc", "-fPIE",
-                    "-I", ROOT / "tests" / "emulated", "-I", headers, *LANGUAGES[language], *WARNINGS, *words, "-c", SOURCE, "-o", compiled], check=True)
+                    "-I", ROOT / "tests" / "emulated", "-I", headers, *LANGUAGES[language], *WARNINGS, *words,
+                     "-c", SOURCE, "-o", compiled], check=True)
     subprocess.run([tools / "bin" / "ld.lld", "-pie", "-dynamic-linker", "/lib64/ld-linux-x86-64.so.2", parts / "Scrt1.o", parts / "crti.o",
                     parts / "crtbeginS.o", compiled, *linked, parts / "libc.so.6", parts / "libc_nonshared.a", parts / "libgcc.a",
                     parts / "ld-linux-x86-64.so.2", parts / "crtendS.o", parts / "crtn.o", "-o", program], check=True)

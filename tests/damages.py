@@ -188,7 +188,8 @@ def sixteen(rng, doc):
     elif choice == 2:
         node.words = []
     else:
-        node.words[rng.randrange(12, 16)] = rng.choice(["2", "-1", "0.00000000000001", "1.00000000000001", "-1.0", "10", "1E1", "1E-45", "10E-2"])
+        node.words[rng.randrange(12, 16)] = rng.choice(["2", "-1", "0.00000000000001", "1.00000000000001", "-1.0", "10",
+                                                            "1E1", "1E-45", "10E-2"])
     return True
 
 

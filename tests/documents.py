@@ -16,7 +16,8 @@ STRUCTURES = (
 UNITS = ["SECOND", "HERTZ", "METER", "RADIAN"]
 TRANSFORMATION = "TransformationMatrixVoxelIndicesIJKtoXYZ"
 PHRASES = ["", " ", "a", "map 1", "rest & task", "x < y", "\"both\" 'quotes'", "zażółć", "𝛼-band", "]]", "]] >",
-           "&lt;", "&amp;lt;", "tab\there", "two\r\nlines", "\r", "\r\r\n", "\n\r", "old\rmac", "\ufeff", "\u00a0", "\x7f", "5 > 4", "--", "]]>", "<!--no-->"]
+           "&lt;", "&amp;lt;", "tab\there", "two\r\nlines", "\r", "\r\r\n", "\n\r", "old\rmac", "\ufeff", "\u00a0",
+            "\x7f", "5 > 4", "--", "]]>", "<!--no-->"]
 MANY_BLANKS = [" ", " ", " ", "\n", "\t", "\r", "  ", "\r\n", " \n\t"]
 COMMENTS = ["", " ", "a", "<b>&", "]]>", "- -", "é", "12", "]]", "<?xml?>", "&amp;", "\t\n\r", "<![CDATA[", "->", "> "]
 DOCTYPES = ["<!DOCTYPE>", "<!DOCTYPE CIFTI>", '<!DOCTYPE GIFTI SYSTEM "http://www.nitrc.org/frs/download.php/1594/gifti.dtd">',

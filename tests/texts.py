@@ -145,7 +145,8 @@ def case(seed, number, large=False):
     return Case(label, aim, text, list(lengths), records, work)
 
 
-BAD_LINES = [b"", b"\n", b"2\n", b"2,\n", b",2\n", b"2,3\r\n", b" 2,3\n", b"2, 3\n", b"2,3 \n", b"2;3\n", b"+2,3\n", b"2,3,\n", b"00000002,3\n",
+BAD_LINES = [b"", b"\n", b"2\n", b"2,\n", b",2\n", b"2,3\r\n", b" 2,3\n", b"2, 3\n", b"2,3 \n", b"2;3\n", b"+2,3\n", b"2,3,\n",
+             b"00000002,3\n",
              b"0,3\n", b"1048577,3\n", b"2,3,4,5\n", b"x\n", b"2,3", b"99999999999999999999,3\n", b"2,,3\n", b"\xc2\xb2,3\n", b"-2,3\n"]
 
 

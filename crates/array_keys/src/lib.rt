@@ -1,9 +1,9 @@
 // The keys of an array, one after another or many at a time, in whatever encoding they are written.
 
-// Keys of four bytes in Base64.
-mod coded;
 // The key of four bytes.
 mod fours;
+// Keys of four bytes in Base64.
+mod coded;
 // Keys many at a time, into a lent slice.
 mod rows;
 

@@ -33,13 +33,13 @@ fn digit_at(word: &[u8], at: usize) -> u64
         return 10;
     }
     let b = word[at];
-    if b < 48 {
+    if b < b'0' {
         return 10;
     }
-    if 57 < b {
+    if b'9' < b {
         return 10;
     }
-    (b - 48) as u64
+    (b - b'0') as u64
 }
 
 // The digits at `at`, at most seven.
@@ -81,7 +81,7 @@ fn part_at(word: &[u8], at: usize) -> Part
     if word.len() <= j {
         return Part::Last(run.value);
     }
-    if word[j] == 44 {
+    if word[j] == b',' {
         return Part::Comma(run.value, j + 1);
     }
     Part::No
@@ -113,7 +113,7 @@ pub fn first_line(line: &[u8]) -> FirstLine
         return FirstLine::Other;
     }
     let last = line.len() - 1;
-    if line[last] != 10 {
+    if line[last] != b'\n' {
         return FirstLine::Other;
     }
     lengths_in(&line[..last])

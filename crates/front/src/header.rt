@@ -10,7 +10,7 @@ ghost use Rattle.nifti.specs.File.{orderOf, sizeStands, magicAt, offsetStands, 
 ghost use Rattle.nifti.specs.File.{lengthCount, lengthAt};
 ghost use Rattle.nifti.specs.Laws.Header.{Told, Asked, Counted, Looked};
 
-const MAGIC: [u8; 8] = [110, 43, 50, 0, 13, 10, 26, 10];
+const MAGIC: [u8; 8] = [b'n', b'+', b'2', 0, b'\r', b'\n', 26, b'\n'];
 
 // Where the list begins.
 pub(crate) const LIST: usize = 544;

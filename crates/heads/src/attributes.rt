@@ -10,7 +10,7 @@ use steps::Step;
 use steps::attributes::Key;
 ghost use mathlib.Core.Path.{_≡_};
 ghost use lib.ListN.{length, drop};
-ghost use Rattle.grammar.specs.Parser.{attribute-at, attributes-at};
+ghost use Rattle.grammar.specs.Parser.{attributes-at};
 ghost use Rattle.steps.specs.Step.{stepped};
 ghost use Rattle.steps.specs.Keys.{key-at, named-at, keyed, head-at};
 ghost use Rattle.steps.specs.Noted.{Within, part, among, noted};
@@ -43,19 +43,6 @@ pub fn named_at(text: &[u8], at: usize) -> Key
             }
         }
         Key::No => Key::No,
-    }
-}
-
-pub fn attribute_end(text: &[u8], at: usize) -> Step
-    ensures { λ r. ⌜ r ≡ stepped (length (now (text .entry))) (attribute-at (drop at (now (text .entry)))) ⌝ }
-{
-    match named_at(text, at) {
-        Key::Is {
-            from: _,
-            to: _,
-            end,
-        } => Step::To(end),
-        Key::No => Step::No,
     }
 }
 

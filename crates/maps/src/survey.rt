@@ -1,3 +1,4 @@
+// What is noted of each map, by value.
 use super::dims::Dims;
 use cifti::Kind;
 ghost use mathlib.Core.Path.{_≡_};

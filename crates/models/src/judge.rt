@@ -1,3 +1,4 @@
+// What is judged of the maps, with the models of each.
 use super::gather::Models;
 ghost use mathlib.Core.Path.{_≡_};
 ghost use Rattle.models.specs.Judged.{no-models, modelsHeld};

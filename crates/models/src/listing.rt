@@ -1,3 +1,4 @@
+// Where the list of a model begins, and its voxels.
 use elements::children::first_child;
 use inside::texts::text_start;
 use nodes::Found;

@@ -1,3 +1,4 @@
+// The sizes of a volume.
 pub struct Sizes {
     pub i: u64,
     pub j: u64,

@@ -12,13 +12,13 @@ ghost use Rattle.maps.specs.Seen.{Grown, Lists};
 fn one_more(dims: Dims, b: u8) -> Dims
     ensures { λ r. ⌜ Grown b dims r ⌝ }
 {
-    if b < 48 {
+    if b < b'0' {
         return dims;
     }
-    if 57 < b {
+    if b'9' < b {
         return dims;
     }
-    let d = (b - 48) as usize;
+    let d = (b - b'0') as usize;
     let mut next = dims;
     if next.has[d] < 2 {
         next.has[d] = next.has[d] + 1;

@@ -1,3 +1,4 @@
+// The short list asked.
 use super::making::type_number;
 use records::Index;
 use shortlist::Model;

@@ -1,3 +1,4 @@
+// The short list made.
 use flat::put;
 use records::Outcome;
 use shortlist::Made;

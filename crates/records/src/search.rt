@@ -1,3 +1,4 @@
+// The first place of a record, and whether there is one.
 use super::counters::Place;
 
 // 0 and the place, or 19 and place 0.

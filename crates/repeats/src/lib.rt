@@ -1,5 +1,6 @@
 // Whether two records name the same place.
 
+// The repeat check, and a work space of zeros.
 mod repeat;
 
 pub use repeat::clear;

@@ -8,7 +8,8 @@ use Rattle.lists.specs.Lists.{all, any, isSome}
 use Rattle.grammar.specs.Bytes.{blank}
 use Rattle.grammar.specs.Document.{Attribute, Element}
 use Rattle.grammar.specs.Look.{Word, is, attributesOf, contentsOf, elements, textOf}
-use Rattle.schema.specs.Schema.{AttributeRow, rowName, isNamed, isWord, isNumber, attributeShaped, attributeNumbered, isText, childShaped}
+use Rattle.schema.specs.Schema.{AttributeRow, rowName, isNamed, isWord, isNumber, attributeShaped, attributeNumbered, isText}
+use Rattle.schema.specs.Schema.{childShaped}
 use Rattle.schema.specs.Schema.{orderly, kindOf, shaped, numbered}
 use Rattle.numbers.specs.Numbers as numbers
 use Rattle.numbers.specs.Numbers.{whole, volumeDimensions, dimensionList, exponent, decimal, keyList, colour}

@@ -8,8 +8,10 @@ use lib.ListN.{getD, length, take, drop}
 use Rattle.lists.specs.Lists.{countUp}
 use Rattle.numbers.specs.Numbers.{whole, volumeDimensions, dimensionList, exponent, decimal, wholes, sixteen, key, keyList, colour}
 use Rattle.base64.specs.Base64.{coded}
-use Rattle.schema.specs.Schema.{Form, anyValue, word, number, AttributeRow, required, optional, TextForm, anyText, numbers, Times, once}
-use Rattle.schema.specs.Schema.{atMostOnce, anyTimes, atLeastOnce, neededBelow, Case, _⇒_, Which, always, chosen, chosenElse, ChildRow}
+use Rattle.schema.specs.Schema.{Form, anyValue, word, number, AttributeRow, required, optional, TextForm, anyText, numbers, Times}
+use Rattle.schema.specs.Schema.{once}
+use Rattle.schema.specs.Schema.{atMostOnce, anyTimes, atLeastOnce, neededBelow, Case, _⇒_, Which, always, chosen, chosenElse}
+use Rattle.schema.specs.Schema.{ChildRow}
 use Rattle.schema.specs.Schema.{child, Order, anyOrder, inOrder, Row, branch, leaf}
 use Rattle.schema.specs.Letters.{lettered}
 

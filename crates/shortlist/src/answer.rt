@@ -1,3 +1,4 @@
+// A model of the list, and what is answered.
 use records::Index;
 
 // A range of indices whose records are of one type and structure.

@@ -1,3 +1,4 @@
+// Runs in arrays, and what has been seen of a list.
 use records::Index;
 
 // The runs of records as numbers: 0 or the number of refusal, how many runs there are (none where refused), and of each its first index,

@@ -1,3 +1,4 @@
+// The kind of a record; a number of no more bits than a record has.
 use record_fields::i_of;
 use record_fields::is_voxel;
 use record_fields::j_of;

@@ -11,7 +11,8 @@ use Rattle.lists.specs.Lists.{all, any, countUp, isSome}
 use Rattle.grammar.specs.Bytes.{blank}
 use Rattle.grammar.specs.Document.{Attribute, Element, Contents}
 use Rattle.grammar.specs.Look.{attributesOf, contentsOf, elements, characters, textOf}
-use Rattle.schema.specs.Schema.{AttributeRow, ChildRow, childRows, Order, anyOrder, inOrder, isNamed, attributesShaped, attributeShaped}
+use Rattle.schema.specs.Schema.{AttributeRow, ChildRow, childRows, Order, anyOrder, inOrder, isNamed, attributesShaped}
+use Rattle.schema.specs.Schema.{attributeShaped}
 use Rattle.schema.specs.Schema.{attributeNumbered, childrenShaped, orderly, inOrderOf, kindOf, shaped, numbered, everywhere}
 use Rattle.schema.specs.Walk.{atChild, walk-step}
 use Rattle.schema.specs.Table.{textAt, orderAt, orderBy, rowBy, rowsOf, attributesOfKind, lineAt, linesOfKind, linesFrom, linesTo}

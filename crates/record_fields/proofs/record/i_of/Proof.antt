@@ -1,4 +1,4 @@
--- `records::record::i_of` meets its contract. Assumes nothing.
+-- `record_fields::record::i_of` meets its contract. Assumes nothing.
 use Rattle.records.specs.Fields.{bits, parted}
 use Rattle.records.specs.Record.{iIn}
 use native.Mathlib.Omega.{arith}

@@ -1,4 +1,4 @@
--- `records::record::is_voxel` meets its contract. Assumes nothing.
+-- `record_fields::record::is_voxel` meets its contract. Assumes nothing.
 use mathlib.Core.Path.{refl}
 use Rattle.records.specs.Fields.{bits, parted}
 use Rattle.records.specs.Record.{isVoxelIn}

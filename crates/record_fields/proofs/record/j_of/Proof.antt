@@ -1,4 +1,4 @@
--- `records::record::j_of` meets its contract. Assumes nothing.
+-- `record_fields::record::j_of` meets its contract. Assumes nothing.
 use Rattle.records.specs.Fields.{bits, parted}
 use Rattle.records.specs.Record.{jIn}
 use native.Mathlib.Omega.{arith}

@@ -1,4 +1,4 @@
--- `records::record::k_of` meets its contract. Assumes nothing.
+-- `record_fields::record::k_of` meets its contract. Assumes nothing.
 use Rattle.records.specs.Fields.{bits, parted}
 use Rattle.records.specs.Record.{kIn}
 use native.Mathlib.Omega.{arith}

@@ -1,4 +1,4 @@
--- `records::record::key` meets its contract. Assumes nothing.
+-- `record_fields::record::key` meets its contract. Assumes nothing.
 use lib.Pow.{pow-pos}
 use Rattle.records.specs.Laws.Fields.{mod-both}
 use mathlib.Core.Path.{_≡_, sym, _∙_}

@@ -1,4 +1,4 @@
--- `records::record::structure_of` meets its contract. Assumes nothing.
+-- `record_fields::record::structure_of` meets its contract. Assumes nothing.
 use Rattle.records.specs.Fields.{bits, parted}
 use Rattle.records.specs.Record.{structureIn}
 use native.Mathlib.Omega.{arith}

@@ -1,4 +1,4 @@
--- `records::record::vertex_of` meets its contract. Assumes nothing.
+-- `record_fields::record::vertex_of` meets its contract. Assumes nothing.
 use Rattle.records.specs.Fields.{bits, parted}
 use Rattle.records.specs.Record.{payloadIn}
 use native.Mathlib.Omega.{arith}

@@ -1,4 +1,4 @@
--- `records::search::find` meets its contract. Assumes nothing.
+-- `record_fields::search::find` meets its contract. Assumes nothing.
 use mathlib.Core.Path.{_≡_, refl, sym, ap}
 use mathlib.Core.Bool.{true, not}
 use mathlib.Core.List.{List}

@@ -1,4 +1,4 @@
--- `records::sheet::all_legal` meets its contract. The invariant: all are legal exactly where those to come are. Assumes nothing.
+-- `sheets::sheet::all_legal` meets its contract. The invariant: all are legal exactly where those to come are. Assumes nothing.
 use mathlib.Core.Path.{_≡_, refl, sym, ap, _∙_}
 use mathlib.Core.Bool.{Bool, _&&_}
 use Prim.Native.Nat.{_+_, _≤_, _-_}

@@ -1,4 +1,4 @@
--- `records::sheet::count_at` meets its contract. Assumes nothing.
+-- `sheets::sheet::count_at` meets its contract. Assumes nothing.
 use Rattle.records.specs.Laws.Computed.{count-three}
 use native.Mathlib.Omega.{arith}
 use Rattle.sheets.proofs.sheet.count_at.Statement.{statement}

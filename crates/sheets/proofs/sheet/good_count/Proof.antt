@@ -1,4 +1,4 @@
--- `records::sheet::good_count` meets its contract. Assumes nothing.
+-- `sheets::sheet::good_count` meets its contract. Assumes nothing.
 use borrow.Author.Tests.{lt-leb, le-leb}
 use Rattle.records.specs.Sheet.{goodCount}
 use Rattle.sheets.proofs.sheet.good_count.Statement.{statement}

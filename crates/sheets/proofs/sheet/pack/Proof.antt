@@ -1,4 +1,4 @@
--- `records::sheet::pack` meets its contract. Assumes nothing.
+-- `sheets::sheet::pack` meets its contract. Assumes nothing.
 use native.Mathlib.Omega.{arith}
 use Rattle.records.specs.Laws.Packing.{packing, pack-lawful}
 use Rattle.sheets.proofs.sheet.pack.Statement.{statement}

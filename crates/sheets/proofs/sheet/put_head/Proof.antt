@@ -1,4 +1,4 @@
--- `records::sheet::put_head` meets its contract. Assumes nothing.
+-- `sheets::sheet::put_head` meets its contract. Assumes nothing.
 use lib.ListN.{length-set}
 use lib.Seq.{sets-eq}
 use mathlib.Core.List.{[], _∷_}

@@ -1,4 +1,4 @@
--- `records::sheet::put_word` meets its contract. Assumes nothing.
+-- `sheets::sheet::put_word` meets its contract. Assumes nothing.
 use native.Mathlib.Numerals.{add-one, add-two, add-three, add-four, add-five, add-six}
 use lib.ListN.{length-set}
 use lib.Seq.{sets-eq}
