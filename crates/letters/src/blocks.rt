@@ -10,10 +10,10 @@ pub fn block_lacks(text: &[u8], at: usize, sign: u8) -> bool
     ensures { λ r. ⌜ r ≡ through (other sign) (now (text .entry)) at (at + 16) ⌝ }
 {
     let mut free = true;
-    let mut k = 0;
-    while k < 16 {
-        free = free & (text[at + k] != sign);
-        k += 1;
+    let mut i = 0;
+    while i < 16 {
+        free = free & (text[at + i] != sign);
+        i += 1;
     }
     free
 }
