@@ -1,4 +1,4 @@
-use Rattle.table.specs.Stretches.{filling, Fill}
+use Rattle.table.specs.Stretches.{filling, Fill, fill-start, fill-one}
 use Prim.Native.Nat.{_-_}
 use Rattle.maps.specs.Ready.{mapsAt}
 use Rattle.models.specs.Laws.Judged.{OverHeld}
@@ -13,10 +13,10 @@ abbrev μ-loop : tie.MeasureT-loop
 μ-loop text maps judged records₀ next₀ i₀ records next i = maps .count - i
 
 loop-holds : tie.Need-loop-holds Inv-loop μ-loop
-loop-holds c = search filling
+loop-holds c = fill-start (c .before .before .args .records .now) (c .before .before .pre)
 
 fill-one-requires : tie.Need-fill-one-requires Inv-loop μ-loop
-fill-one-requires c κs = search filling
+fill-one-requires c κs = search (fill-one)
 
 pub fill-all-spec : {M : Type 1} → statement M
 fill-all-spec {M = M} =
