@@ -1,4 +1,4 @@
-use Rattle.maps.specs.ListedOnce.{listed-once, once-more, Judging}
+use Rattle.maps.specs.ListedOnce.{listed-once, once-wrong, once-more, Judging}
 use Prim.Native.Nat.{_-_}
 use Rattle.survey.proofs.listed_once.dimensions_wrong.Statement.{statement}
 use Rattle.survey.proofs.listed_once.dimensions_wrong.Tie as tie
@@ -9,6 +9,10 @@ Inv-loop text matrix maps lengths n d₀ d = Judging text matrix maps lengths d
 abbrev μ-loop : tie.MeasureT-loop
 μ-loop text matrix maps lengths n d₀ d = 10 - d
 
+returns-2 : tie.Need-returns-2 Inv-loop μ-loop
+returns-2 c = once-wrong (c .before .before .before .before .loop .inv) (c .before .before .before .loop-test .taken)
+    (c .before .before .listed .ensures) (c .before .times-wanted .ensures) (c .if2 .taken)
+
 pub dimensions-wrong-spec : {M : Type 1} → statement M
 dimensions-wrong-spec {M = M} =
     let closed = tie.spec {M = M}
@@ -18,7 +22,7 @@ dimensions-wrong-spec {M = M} =
     (λ c. search listed-once)
     (λ c κs. search listed-once)
     (λ c κs. search listed-once)
-    (λ c. search listed-once)
+    returns-2
     (λ c. search listed-once)
     (λ c. search listed-once)
     (λ c. once-more (c .before .before .before .before .loop .inv) (c .before .before .listed .ensures)
