@@ -2,7 +2,7 @@ use mathlib.Core.Path.{sym}
 use lib.ListN.{length}
 use lib.Seq.{length-take-le}
 use Rattle.label_table.specs.Laws.Walks.{toCome}
-use Rattle.key_twice.specs.Laws.Parts.{searching, Searching}
+use Rattle.key_twice.specs.Laws.Parts.{searching, Searching, searching-found}
 use Rattle.key_twice.proofs.search_in.Statement.{statement}
 use Rattle.key_twice.proofs.search_in.Tie as tie
 
@@ -17,6 +17,11 @@ aggregate c =
     let turn = c .before .before .before .taken in
     sym (length-take-le (turn .result .n) (turn .last .1 .1 .0) (turn .ensures .inside))
 
+returns : tie.Need-returns Inv-loop μ-loop
+returns c = searching-found (c .before .before .before .before .before .before .before .before .before .loop .inv)
+    (c .before .before .before .before .before .taken .ensures) (c .before .before .before .before .before .taken .kept .1 .1 .0)
+    (c .before .part-twice .ensures) (c .if1 .taken)
+
 pub search-in-spec : {M : Type 1} → statement M
 search-in-spec {M = M} =
     let closed = tie.spec {M = M}
@@ -30,7 +35,7 @@ search-in-spec {M = M} =
     aggregate
     (λ c κs. search searching)
     (λ c. search searching)
-    (λ c. search searching)
+    returns
     (λ c. search searching)
     (λ c. search searching)
     (λ c. search searching)

@@ -1,6 +1,6 @@
 use lib.ListN.{length}
 use Rattle.label_table.specs.Laws.Labels.{row}
-use Rattle.key_twice.specs.Laws.Parts.{meeting, Meeting}
+use Rattle.key_twice.specs.Laws.Parts.{meeting, Meeting, meeting-found}
 use Rattle.key_twice.proofs.parts.one_sifted.Statement.{statement}
 use Rattle.key_twice.proofs.parts.one_sifted.Tie as tie
 
@@ -9,6 +9,11 @@ Inv-loop text keys words kid₀ kid = Meeting text keys words kid₀ kid
 
 abbrev μ-loop : tie.MeasureT-loop
 μ-loop text keys words kid₀ kid = length (row text kid)
+
+returns : tie.Need-returns Inv-loop μ-loop
+returns c = meeting-found (c .before .before .before .before .before .before .before .before .before .loop .inv)
+    (c .before .before .before .before .before .before .before .kid .given .1) (c .before .before .before .before .next-label .ensures)
+    (c .before .before .before .before .before .code-at .ensures) (c .before .place-in .ensures) (c .if2 .taken)
 
 pub one-sifted-spec : {M : Type 1} → statement M
 one-sifted-spec {M = M} =
@@ -21,7 +26,7 @@ one-sifted-spec {M = M} =
     (λ c κs. search meeting)
     (λ c κs. search meeting)
     (λ c κs. search meeting)
-    (λ c. search meeting)
+    returns
     (λ c. search meeting)
     (λ c. search meeting)
     (λ c. search meeting)
