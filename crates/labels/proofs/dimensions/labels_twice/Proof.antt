@@ -1,4 +1,4 @@
-use Rattle.labels.specs.Dimensions.{tallying}
+use Rattle.labels.specs.Dimensions.{tallying, tally-done}
 use Prim.Native.Nat.{_-_}
 use Rattle.maps.specs.Ready.{mapsAt}
 use Rattle.maps.specs.Over.{Over}
@@ -11,6 +11,9 @@ Inv-loop text maps n₀ i₀ n i = Over text maps (Tally (mapsAt text maps) n) i
 
 abbrev μ-loop : tie.MeasureT-loop
 μ-loop text maps n₀ i₀ n i = maps .count - i
+
+returns : tie.Need-returns Inv-loop μ-loop
+returns c = tally-done (c .before .before .loop .inv) (c .if1 .left)
 
 pub labels-twice-spec : {M : Type 1} → statement M
 labels-twice-spec {M = M} =
@@ -25,5 +28,5 @@ labels-twice-spec {M = M} =
     (λ c. search tallying)
     (λ c. search tallying)
     (λ c. search tallying)
-    (λ c. search tallying)
+    returns
     in tie.close closed
