@@ -1,6 +1,10 @@
-use Rattle.gifti_reader.specs.Laws.Keys.{writing}
+use Rattle.gifti_reader.specs.Laws.Keys.{writing, wrote-all}
 use Rattle.gifti_reader.proofs.keys.keys_at.Statement.{statement}
 use Rattle.gifti_reader.proofs.keys.keys_at.Tie as tie
+
+returns-2 : tie.Need-returns-2
+returns-2 c = wrote-all (c .before .before .before .before .before .before .before .pre)
+    (c .before .before .before .before .before .noted .ensures) _ (c .before .before .before .if1 .left) (c .before .fill .ensures)
 
 pub keys-at-spec : {M : Type 1} → statement M
 keys-at-spec {M = M} =
@@ -9,5 +13,5 @@ keys-at-spec {M = M} =
     (λ c. search writing)
     (λ c κs. search writing)
     (λ c. search writing)
-    (λ c. search writing)
+    returns-2
     in tie.close closed
