@@ -1,6 +1,6 @@
 use Prim.Native.Nat.{_-_}
 use lib.ListN.{length}
-use Rattle.nodes.specs.Laws.Attributes.{Placing, placing}
+use Rattle.nodes.specs.Laws.Attributes.{Placing, placing, placing-hit}
 use Rattle.inside.proofs.attributes.place_from.Statement.{statement}
 use Rattle.inside.proofs.attributes.place_from.Tie as tie
 
@@ -9,6 +9,13 @@ Inv-loop text at word i₀ i = Placing text word at i
 
 abbrev μ-loop : tie.MeasureT-loop
 μ-loop text at word i₀ i = length text - i
+
+returns-2 : tie.Need-returns-2 Inv-loop μ-loop
+returns-2 c = placing-hit _ _ _ _ (c .before .before .before .before .before .before .before .before .before .loop .inv)
+    (c .before .before .before .before .before .before .before .before .tag-ends .ensures)
+    (c .before .before .before .before .before .before .before .if1 .left)
+    (c .before .before .before .before .before .before .key-at .ensures) (c .before .before .before .before .from .given .1)
+    (c .before .equal .ensures) (c .if2 .taken)
 
 pub place-from-spec : {M : Type 1} → statement M
 place-from-spec {M = M} =
@@ -24,7 +31,7 @@ place-from-spec {M = M} =
     (λ c. search placing)
     (λ c. search placing)
     (λ c κs. search placing)
-    (λ c. search placing)
+    returns-2
     (λ c κs. search placing)
     (λ c. search placing)
     (λ c. search placing)

@@ -1,6 +1,11 @@
-use Rattle.nodes.specs.Laws.Values.{decoding, decode-ampersand}
+use Rattle.nodes.specs.Laws.Values.{decoding, decode-ampersand, decode-blank}
 use Rattle.inside.proofs.values.any_decoded.Statement.{statement}
 use Rattle.inside.proofs.values.any_decoded.Tie as tie
+
+returns-6 : tie.Need-returns-6
+returns-6 c = decode-blank _ _ _ (c .before .before .before .before .before .before .if1 .left)
+    (c .before .before .before .before .if2 .left) (c .before .before .before .if3 .left) (c .before .before .if4 .left)
+    (c .before .is-blank .ensures) (c .if5 .taken)
 
 pub any-decoded-spec : {M : Type 1} → statement M
 any-decoded-spec {M = M} =
@@ -21,7 +26,7 @@ any-decoded-spec {M = M} =
     (λ c. search decoding)
     (λ c κs. search decoding)
     (λ c. search decoding)
-    (λ c. search decoding)
+    returns-6
     (λ c. search decoding)
     (λ c. search decoding)
     in tie.close closed

@@ -15,6 +15,9 @@ above : (text : List ℕ) (at q : ℕ) → at < length text → (getD text at 0 
 above text at q h nq a =
     decode-plain text at q h nq (λ e. omega arith) (λ e. omega arith) refl (high-no-blank (getD text at 0) (omega arith))
 
+returns-4 : tie.Need-returns-4
+returns-4 c = above _ _ _ (c .before .before .before .if1 .left) (c .before .if2 .left) (c .if3 .left)
+
 pub decoded-spec : {M : Type 1} → statement M
 decoded-spec {M = M} =
     let closed = tie.spec {M = M}
@@ -25,5 +28,5 @@ decoded-spec {M = M} =
     (λ c κs. search decoding)
     (λ c. search decoding)
     (λ c. search decoding)
-    (λ c. search (above, decoding))
+    returns-4
     in tie.close closed

@@ -1,4 +1,4 @@
-use Rattle.inside.specs.Treads.{seeking, Seeking, called, ahead}
+use Rattle.inside.specs.Treads.{seeking, Seeking, called, ahead, seeking-start}
 use Rattle.inside.proofs.ways.child_named.Statement.{statement}
 use Rattle.inside.proofs.ways.child_named.Tie as tie
 
@@ -8,6 +8,9 @@ Inv-loop text at word n left₀ kid₀ left kid = Seeking (called text word) n t
 abbrev μ-loop : tie.MeasureT-loop
 μ-loop text at word n left₀ kid₀ left kid = ahead text kid
 
+loop-holds : tie.Need-loop-holds Inv-loop μ-loop
+loop-holds c = seeking-start _ _ (c .first-child .ensures)
+
 pub child-named-spec : {M : Type 1} → statement M
 child-named-spec =
     tie.close
@@ -15,7 +18,7 @@ child-named-spec =
     Inv-loop
     μ-loop
     (λ c κs. search seeking)
-    (λ c. search seeking)
+    loop-holds
     (λ c. search seeking)
     (λ c κs. search seeking)
     (λ c. search seeking)
