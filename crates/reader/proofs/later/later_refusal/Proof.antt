@@ -2,10 +2,13 @@ use Rattle.reader.specs.Later.{latering, later-judged}
 use Rattle.reader.proofs.later.later_refusal.Statement.{statement}
 use Rattle.reader.proofs.later.later_refusal.Tie as tie
 
+returns : tie.Need-returns
+returns c = search later-judged
+
 pub later-refusal-spec : {M : Type 1} → statement M
 later-refusal-spec {M = M} =
     let closed = tie.spec {M = M}
-    (λ c. search later-judged)
+    returns
     (λ c κs. search latering)
     (λ c. search latering)
     (λ c κs. search latering)
