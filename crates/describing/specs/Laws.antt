@@ -1,1 +1,4 @@
 pub mod Listing
+pub mod Room
+pub mod Said
+pub mod Series

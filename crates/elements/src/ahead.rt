@@ -16,7 +16,7 @@ ghost use Prim.Native.Nat.{_-_};
 ghost use lib.ListN.{length, drop};
 ghost use Rattle.nodes.specs.Ahead.{past-gap, gap-data, ending, ahead-at, first-ahead, ahead-in-tag};
 ghost use Rattle.nodes.specs.Scan.{past-tag};
-ghost use Rattle.nodes.specs.Laws.BlankData.{blank-data-at};
+ghost use Rattle.nodes.specs.BlankData.{blank-data-at};
 ghost use Rattle.grammar.specs.Parser.{data-at};
 ghost use Rattle.steps.specs.Step.{stepped};
 

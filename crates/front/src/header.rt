@@ -8,7 +8,7 @@ ghost use lib.ListN.{length};
 ghost use Rattle.lists.specs.Lists.{allBelow};
 ghost use Rattle.nifti.specs.File.{orderOf, sizeStands, magicAt, offsetStands, frontStands, oneAt, lengthStands, dimsStand};
 ghost use Rattle.nifti.specs.File.{lengthCount, lengthAt};
-ghost use Rattle.nifti.specs.Laws.Header.{Told, Asked, Counted, Looked};
+ghost use Rattle.nifti.specs.Header.{Told, Asked, Counted, Looked};
 
 const MAGIC: [u8; 8] = [b'n', b'+', b'2', 0, b'\r', b'\n', 26, b'\n'];
 

@@ -11,7 +11,7 @@ ghost use lib.ListN.{length, take, drop};
 ghost use lib.Seq.{slice};
 ghost use Rattle.nifti.specs.Extensions.{withoutZeros};
 ghost use Rattle.nifti.specs.Model.{goodSize, cut, notListed, takenBy, listIn};
-ghost use Rattle.nifti.specs.Laws.Front.{Standing};
+ghost use Rattle.nifti.specs.Front.{Standing};
 
 fn good_size(size: usize, left: usize) -> bool
     ensures { λ r. ⌜ r ≡ goodSize size left ⌝ }

@@ -10,8 +10,8 @@ use nifti::Front;
 use nifti::Order;
 ghost use mathlib.Core.Path.{_≡_};
 ghost use Rattle.nifti.specs.File.{Fronts, FrontPart, refusedFront};
-ghost use Rattle.nifti.specs.Laws.Header.{acceptedWith};
-ghost use Rattle.nifti.specs.Laws.Front.{Bodied};
+ghost use Rattle.nifti.specs.Header.{acceptedWith};
+ghost use Rattle.nifti.specs.Front.{Bodied};
 
 fn refused(number: u64) -> Front
     ensures { λ r. ⌜ r ≡ refusedFront number ⌝ }

@@ -10,3 +10,7 @@ pub mod Theorems
 pub mod Words
 pub mod Plain
 pub mod Brackets
+pub mod Read
+pub mod Tidy
+pub mod TidyDocuments
+pub mod Unfuelled

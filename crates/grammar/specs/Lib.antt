@@ -5,8 +5,6 @@ pub mod Grammar
 pub mod Read
 pub mod Parser
 pub mod Erased
-pub mod Tidy
-pub mod TidyDocuments
 pub mod Unfuelled
 pub mod Look
 pub mod Laws

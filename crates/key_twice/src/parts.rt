@@ -9,7 +9,7 @@ ghost use mathlib.Core.Path.{_≡_};
 ghost use mathlib.Core.Bool.{true};
 ghost use lib.Dec.{eqb};
 ghost use Rattle.lists.specs.Lists.{twoOf};
-ghost use Rattle.label_table.specs.Laws.Walks.{toCome};
+ghost use Rattle.label_table.specs.Walks.{toCome};
 ghost use Rattle.known_keys.specs.Order.{inOrder};
 ghost use Rattle.known_keys.specs.Sieve.{Sifting};
 ghost use Rattle.key_twice.specs.Parts.{someIn, partTwice};

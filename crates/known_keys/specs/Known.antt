@@ -10,7 +10,7 @@ use Rattle.numbers.specs.Numbers.{inKeys}
 use Rattle.nodes.specs.declared.Kid.{Kid}
 use Rattle.nodes.specs.declared.Kid.the-variants.{Child}
 use Rattle.comparison.specs.Matched.{member, Reordered}
-use Rattle.label_table.specs.Laws.Walks.{toCome}
+use Rattle.label_table.specs.Walks.{toCome}
 use Rattle.label_table.specs.Codes.{codeOf}
 use Rattle.known_keys.specs.Order.{inOrder}
 

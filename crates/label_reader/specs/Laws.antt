@@ -5,3 +5,6 @@ pub mod Once
 pub mod Only
 pub mod Told
 pub mod First
+pub mod Before
+pub mod Keys
+pub mod Names

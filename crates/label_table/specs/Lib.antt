@@ -1,3 +1,4 @@
+pub mod Walks
 pub mod Labels
 pub mod Codes
 pub mod Laws

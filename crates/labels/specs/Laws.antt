@@ -1,1 +1,4 @@
 pub mod Good
+pub mod Dimensions
+pub mod Lent
+pub mod Twice

@@ -1,4 +1,3 @@
 pub mod Dimensions
-pub mod Lent
 pub mod Twice
 pub mod Laws

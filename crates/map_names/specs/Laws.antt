@@ -1,2 +1,5 @@
 pub mod Held
 pub mod Reached
+pub mod Answered
+pub mod Placed
+pub mod Treads

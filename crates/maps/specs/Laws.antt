@@ -5,3 +5,15 @@ pub mod Chain
 pub mod Fill
 pub mod MapKind
 pub mod Dimensions
+pub mod Digits
+pub mod Fields
+pub mod LengthsAgree
+pub mod Listed
+pub mod ListedOnce
+pub mod Over
+pub mod Ready
+pub mod Seen
+pub mod Sums
+pub mod Survey
+pub mod Table
+pub mod Unread

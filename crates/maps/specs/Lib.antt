@@ -1,3 +1,6 @@
+pub mod Good
+pub mod Kinds
+pub mod MapKind
 pub mod Table
 pub mod Fields
 pub mod Seen

@@ -10,8 +10,8 @@ use borrow.Author.Needs.{needs}
 use lib.ListN.{length, getD, set, length-set}
 use lib.Seq.{getD-set-same, getD-set-other}
 use Rattle.marks.specs.Marks.{bit, marked, Stay, Marked, Unset}
-use Rattle.marks.specs.Bits.{Side, under, same, over, side, sets, keeps, fits, one-shifted}
-use Rattle.marks.specs.Apart.{all-stay}
+use Rattle.marks.specs.Laws.Bits.{Side, under, same, over, side, sets, keeps, fits, one-shifted}
+use Rattle.marks.specs.Laws.Apart.{all-stay}
 
 pub power-is : {s r : ℕ} → s < 64 → r ≡ 1 * 2 ^ s % 2 ^ 64 → r ≡ 2 ^ s
 power-is {s} h e = e ∙ one-shifted s h

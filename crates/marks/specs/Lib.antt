@@ -1,3 +1,3 @@
 pub mod Marks
-pub mod Bits
 pub mod Apart
+pub mod Laws

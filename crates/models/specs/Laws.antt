@@ -9,3 +9,7 @@ pub mod Kind
 pub mod Structures
 pub mod Listings
 pub mod Numbers
+pub mod Brain
+pub mod Held
+pub mod Judging
+pub mod ListingSteps

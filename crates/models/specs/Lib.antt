@@ -1,5 +1,4 @@
 pub mod Brain
-pub mod Structures
 pub mod Kind
 pub mod Gathered
 pub mod Ranges

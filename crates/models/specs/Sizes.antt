@@ -6,7 +6,7 @@ use Rattle.grammar.specs.Look.{attr, contentsOf, elements}
 use Rattle.numbers.specs.Numbers.{commaValues}
 use Rattle.nodes.specs.Places.{Stands, the}
 use Rattle.cifti.specs.Rows.{volume}
-use Rattle.maps.specs.Laws.Good.{Good}
+use Rattle.maps.specs.Good.{Good}
 use Rattle.maps.specs.Sums.{VolumeLeft}
 use Rattle.maps.specs.declared.survey.Seen.{Seen}
 use Rattle.models.specs.Brain.{BrainAt}

@@ -1,3 +1,5 @@
+pub mod Front
+pub mod Header
 pub mod Fields
 pub mod Extensions
 pub mod File

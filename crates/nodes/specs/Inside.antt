@@ -4,14 +4,8 @@ use mathlib.Core.List.{List, []}
 use Prim.Native.Nat.{ℕ}
 use mathlib.Core.Bool.{Bool, true, false}
 use lib.ListN.{drop}
-use Rattle.grammar.specs.Document.{Attribute, Element}
-use Rattle.grammar.specs.Look.{withinOf}
 use Rattle.grammar.specs.Read.{Read, fail, got, before}
-use Rattle.nodes.specs.Places.{Stands, the}
-use Rattle.nodes.specs.Laws.ReadSteps.{Ending, bare, filled, spelled}
-use Rattle.nodes.specs.Scan.{tag-from, tag-at, scan}
-use Rattle.nodes.specs.Skip.{tag-read, tag-bare, tag-filled, closes, scan-ends, scan-contents, name-of}
-use Rattle.grammar.specs.Grammar.{Name}
+use Rattle.nodes.specs.Scan.{tag-at, scan}
 
 -- from behind the start tag up to the end tag; nothing where one of them is missing
 unfoldable pub up-to : List ℕ → Read (Unit {0}) → List ℕ
@@ -25,18 +19,3 @@ within-by (got false r) = []
 
 unfoldable pub between-tags : List ℕ → ℕ → List ℕ
 between-tags text at = within-by (tag-at (drop at text))
-
-ending-within : (n : List ℕ) → Name n → {l : List Attribute} {s : List ℕ} {e : Element} {r : List ℕ} → Ending n l s e r
-    → within-by (tag-from 0 s) ≡ withinOf e
-unfolding within-by withinOf up-to
-ending-within n h₀ {r = r} (bare k q) = rw (k, tag-bare r, q)
-ending-within n h₀ (filled {t} {behind} {c} k h z q) =
-    let m : scan 0 t ≡ got tt behind = scan-contents t c behind h 0 ∙ scan-ends (closes n behind _ h₀ z) in
-    rw (k, tag-filled t, q, m)
-
--- THE LAW OF WHAT IS WITHIN
-pub within-law : {text : List ℕ} {at : ℕ} → Stands text at → between-tags text at ≡ withinOf (the text at)
-unfolding between-tags
-within-law {text} {at} st =
-    let p = spelled (drop at text) (the text at) (st .rest) (st .reads) in
-    rw (tag-read p) (ending-within (p .name) (name-of p) (p .ending))

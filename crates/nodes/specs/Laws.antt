@@ -16,3 +16,16 @@ pub mod Walk
 pub mod Along
 pub mod AheadElements
 pub mod BlankData
+pub mod AheadSteps
+pub mod AttributesSteps
+pub mod ElementEnd
+pub mod Found
+pub mod Inside
+pub mod Places
+pub mod Root
+pub mod Scanned
+pub mod ScanSteps
+pub mod Skipping
+pub mod TextBytes
+pub mod TextSteps
+pub mod NextBytes

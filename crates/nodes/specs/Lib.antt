@@ -1,6 +1,6 @@
+pub mod BlankData
 pub mod Places
 pub mod Scan
-pub mod Skip
 pub mod Children
 pub mod Ahead
 pub mod Names

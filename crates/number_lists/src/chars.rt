@@ -9,7 +9,7 @@ ghost use Rattle.grammar.specs.Bytes.{blank};
 ghost use Rattle.numbers.specs.Numbers.{withSign};
 ghost use Rattle.numbers.specs.Stream.{letterAt, charAt, stream, wordEnds, digitsAt, behind, leading};
 ghost use Rattle.numbers.specs.Answers.{signIf};
-ghost use Rattle.numbers.specs.Laws.Read.{Running};
+ghost use Rattle.numbers.specs.Read.{Running};
 ghost use Rattle.numbers.specs.declared.Source.the-variants.{Contents, Value};
 ghost use Rattle.number_lists.specs.Digits.{plainDigit};
 ghost use Rattle.number_lists.specs.Letters.{odd};

@@ -27,3 +27,4 @@ pub mod Spelled
 pub mod Three
 pub mod Theorems
 pub mod Powers
+pub mod SpelledSame

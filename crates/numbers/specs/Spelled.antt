@@ -1,18 +1,17 @@
 -- Decimals, as a reader meets them: a sign, digits, a point, digits, a mark, a sign, digits, and the end of the word.
-use mathlib.Core.Path.{_≡_, refl, sym, ap, _∙_}
-use mathlib.Core.List.{List, [], _∷_, _++_, append-assoc}
-use mathlib.Core.Bool.{Bool, true, false, _&&_, cond}
+use mathlib.Core.Path.{_≡_, _∙_}
+use mathlib.Core.List.{List, [], _∷_, _++_}
+use mathlib.Core.Bool.{Bool, true, false, _&&_}
 use Prim.Native.Nat.{ℕ, _+_, _-_, _≤_, _<_}
-use lib.Dec.{eqb}
 use lib.IntN.{ℤ, pos, _-ℤ_}
 use lib.ListN.{length}
 use Rattle.grammar.specs.Bytes.{blank}
 use Rattle.grammar.specs.Document.{together}
 use Rattle.grammar.specs.Look.{Word}
 use Rattle.lists.specs.Lists.{all}
-use Rattle.numbers.specs.Numbers.{digit, digits, value, parts, point, mark, Sign, plus, Signed, unsigned, withSign, mantissa, places}
+use Rattle.numbers.specs.Numbers.{digit, digits, value, parts, point, mark, Sign, unsigned, withSign, mantissa, places}
 use Rattle.numbers.specs.Numbers.{inPower, scaled, scaledValue, decimal, decimalValue}
-use Rattle.numbers.specs.Laws.Cuts.{Uncut, none, more, uncut-join}
+use Rattle.numbers.specs.Cuts.{Uncut}
 use Rattle.numbers.specs.Stream.{stream, wordEnds}
 use Rattle.numbers.specs.Answers.{signIf}
 use Rattle.numbers.specs.declared.Source.{Source}
@@ -87,18 +86,6 @@ pub record Leads (source : Source) (text : List ℕ) (at : ℕ) (r : Lead) : Typ
   pub signs : (x y : Word) → stream source text (r .next) ≡ x ++ y
       → unsigned true (front ++ x) ≡ record { sign = signIf (r .negative); rest = x }
 
--- WHAT IS FOUND BEHIND A BEGINNING, by tests that agree with those of the whole, is found from the beginning on.
-pub onward : {source : Source} {text : List ℕ} {at j : ℕ} {right right₁ : Word → Bool} {valued valued₁ : Word → Decimal} (u : Word)
-    → ((x y : Word) → stream source text j ≡ x ++ y → (right (u ++ x) ≡ right₁ x) × (right₁ x ≡ true → valued (u ++ x) ≡ valued₁ x))
-    → Uncut blank u → stream source text at ≡ u ++ stream source text j → {r : Spelling} → Reading source text j right₁ valued₁ r
-    → Reading source text at right valued r
-onward {source} {text} u same k e (reads x {j = i} f d c s n) =
-    let q = same x (stream source text i) s in
-    reads (u ++ x) (q .0 ∙ f) (d ∙ sym (q .1 f)) (uncut-join k c)
-    (e ∙ ap (λ l. u ++ l) s ∙ sym (append-assoc u x (stream source text i))) n
-onward u same k e (fails x y f c s n) =
-    fails (u ++ x) y (same x y s .0 ∙ f) (uncut-join k c) (e ∙ ap (λ l. u ++ l) s ∙ sym (append-assoc u x y)) n
-
 -- A word is cut off at the first blank.
 pub record Cut (w : Word) : Type 0 where
   pub front : Word
@@ -106,18 +93,3 @@ pub record Cut (w : Word) : Type 0 where
   pub splits : w ≡ front ++ rest
   pub uncut : Uncut blank front
   pub ends : wordEnds rest ≡ true
-
-pub cut-word : (w : Word) → Cut w
-unfolding wordEnds
-cut-word [] = record { front = []; rest = []; splits = refl; uncut = none; ends = refl }
-cut-word (a ∷ w) = go (blank a) refl (cut-word w)
-  where
-    go : (t : Bool) → blank a ≡ t → Cut w → Cut (a ∷ w)
-    go true h k = record { front = []; rest = a ∷ w; splits = refl; uncut = none; ends = h }
-    go false h k = record {
-      front = a ∷ k .front;
-      rest = k .rest;
-      splits = ap (λ l. a ∷ l) (k .splits);
-      uncut = more h (k .uncut);
-      ends = k .ends;
-    }

@@ -7,7 +7,8 @@ use native.Mathlib.Omega.{arith}
 use lib.ListN.{length, drop}
 use Rattle.grammar.specs.Bytes.{blank}
 use Rattle.grammar.specs.Look.{Word}
-use Rattle.nodes.specs.Values.{tells, decoded-at, Decodes, decoded-byte, decoded-end}
+use Rattle.nodes.specs.Values.{tells, decoded-at}
+use Rattle.nodes.specs.Laws.NextBytes.{Decodes, decoded-byte, decoded-end}
 use Rattle.nodes.specs.Texts.{saysAt, left, text-step}
 use Rattle.nodes.specs.declared.Char.{Char}
 use Rattle.nodes.specs.declared.Char.the-variants.{Byte, End}

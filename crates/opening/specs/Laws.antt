@@ -1,2 +1,3 @@
 pub mod Unread
 pub mod Unique
+pub mod Opening

@@ -1,2 +1,3 @@
 pub mod Reading
 pub mod Naming
+pub mod Later

@@ -18,3 +18,4 @@ pub mod Counted
 pub mod Walk
 pub mod Checked
 pub mod Unique
+pub mod Everywhere

@@ -1,3 +1,4 @@
+pub mod Good
 pub mod Schema
 pub mod Walk
 pub mod Words

@@ -29,3 +29,6 @@ pub mod CommentsAlike
 pub mod DataAlike
 pub mod PrologueAlike
 pub mod DocumentsAlike
+pub mod Leaves
+pub mod Row
+pub mod Step

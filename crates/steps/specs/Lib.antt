@@ -1,3 +1,4 @@
+pub mod Until
 pub mod Step
 pub mod Leaves
 pub mod Keys

@@ -13,3 +13,9 @@ pub mod Chain
 pub mod Stretches
 pub mod TableLists
 pub mod MapsListed
+pub mod Listing
+pub mod Model
+pub mod Placing
+pub mod Ready
+pub mod Stretch
+pub mod Twice

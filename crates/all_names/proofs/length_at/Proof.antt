@@ -1,4 +1,4 @@
-use Rattle.maps.specs.LengthsAgree.{length-there}
+use Rattle.maps.specs.Laws.LengthsAgree.{length-there}
 use Rattle.all_names.proofs.length_at.Statement.{statement}
 use Rattle.all_names.proofs.length_at.Tie as tie
 

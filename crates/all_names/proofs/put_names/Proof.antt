@@ -1,4 +1,4 @@
-use Rattle.inside.specs.Treads.{ahead}
+use Rattle.inside.specs.Laws.Treads.{ahead}
 use Rattle.all_names.specs.Laws.Walk.{filling, Filling, fill-start}
 use Rattle.all_names.proofs.put_names.Statement.{statement}
 use Rattle.all_names.proofs.put_names.Tie as tie

@@ -20,11 +20,11 @@ use Rattle.cifti.specs.Maps.{Map, mapOf, mapsOf, dimensionsOf, mapElements, len
 use Rattle.cifti.specs.Conditions.{listedDimensions, lengthWrong}
 use Rattle.cifti.specs.Names.{holdsName, noName, namesOn}
 use Rattle.cifti.specs.declared.answer.Kind.the-variants.{Scalars, Labels}
-use Rattle.maps.specs.Laws.Good.{Good}
+use Rattle.maps.specs.Good.{Good}
 use Rattle.maps.specs.Laws.Kinds.{OnlyChild, root-child}
-use Rattle.maps.specs.Laws.MapKind.{GoodMap}
-use Rattle.maps.specs.Ready.{GoodMaps, no-maps, one-map, good-maps}
-use Rattle.maps.specs.Listed.{any-some}
+use Rattle.maps.specs.MapKind.{GoodMap}
+use Rattle.maps.specs.Laws.Ready.{GoodMaps, no-maps, one-map, good-maps}
+use Rattle.maps.specs.Laws.Listed.{any-some}
 use Rattle.inside.specs.Way.{nth, onward, reached}
 use Rattle.map_names.specs.Way.{ofName, mapThatLists, mapWay}
 use Rattle.map_names.specs.Laws.Held.{Named, no-named, one-named, each-named, holds-so}

@@ -33,14 +33,18 @@ use Rattle.cifti.specs.Conditions.{conditionsOfHeader, ofMaps}
 use Rattle.cifti.specs.Maps.{mapsOf}
 use Rattle.cifti.specs.Names.{noName, namesOn}
 use Rattle.cifti.specs.Laws.Text.{answers-by}
-use Rattle.inside.specs.Walked.{nthPlace, childAt, thence, Stood, none, one, those-stood, children-stood, those-same}
-use Rattle.inside.specs.Walked.{Agrees, not-there, stands-there, way-agrees}
-use Rattle.inside.specs.Treads.{called, childNamed, called-alike, tread, trod}
+use Rattle.inside.specs.Walked.{nthPlace, childAt, thence}
+use Rattle.inside.specs.Laws.Walked.{Stood, none, one, those-stood, children-stood, those-same}
+use Rattle.inside.specs.Laws.Walked.{Agrees, not-there, stands-there, way-agrees}
+use Rattle.inside.specs.Treads.{called, childNamed, tread, trod}
+use Rattle.inside.specs.Laws.Treads.{called-alike}
 use Rattle.inside.specs.One.{tagEnd}
 use Rattle.map_names.specs.Way.{nameWay, mapWay}
-use Rattle.map_names.specs.Treads.{inMapTreads, mapThere, namedAt, name-thence, name-way, map-way}
-use Rattle.map_names.specs.Answered.{answered-found}
-use Rattle.map_names.specs.Placed.{NamePlaced, placed-name, Fine, fine}
+use Rattle.map_names.specs.Treads.{inMapTreads, mapThere, namedAt}
+use Rattle.map_names.specs.Laws.Treads.{name-thence, name-way, map-way}
+use Rattle.map_names.specs.Laws.Answered.{answered-found}
+use Rattle.map_names.specs.Placed.{NamePlaced}
+use Rattle.map_names.specs.Laws.Placed.{placed-name, Fine, fine}
 use Rattle.map_names.specs.Laws.Reached.{NameOf, no-name, a-name, name-of, listed-once}
 use Rattle.survey.specs.Header.{Surveys}
 use Rattle.survey.specs.declared.header.Survey.{Survey}

@@ -8,7 +8,8 @@ use lib.ListN.{length, getD, drop}
 use lib.Seq.{ext-getD, getD-drop}
 use Rattle.records.specs.declared.outcome.Outcome.{Outcome}
 use Rattle.cifti.specs.Laws.Text.{answers-unique}
-use Rattle.map_names.specs.Placed.{NamePlaced, place-unique}
+use Rattle.map_names.specs.Placed.{NamePlaced}
+use Rattle.map_names.specs.Laws.Placed.{place-unique}
 use Rattle.map_names.specs.declared.NamePlace.{NamePlace}
 use Rattle.all_names.specs.Names.{MapNamesPlaced}
 

@@ -22,7 +22,8 @@ use Rattle.nodes.specs.declared.Kid.the-variants.{Child, Done}
 use Rattle.nodes.specs.declared.Found.{Found}
 use Rattle.nodes.specs.declared.Found.the-variants.{At, Nothing}
 use Rattle.inside.specs.Walked.{placesFrom, nthPlace, childAt}
-use Rattle.inside.specs.Treads.{called, childNamed, ahead, next-ahead, places-done, places-child}
+use Rattle.inside.specs.Treads.{called, childNamed}
+use Rattle.inside.specs.Laws.Treads.{ahead, next-ahead, places-done, places-child}
 use Rattle.inside.specs.One.{tagEnd}
 use Rattle.all_names.specs.Walk.{namedIn, startBy, sizeBy, nameIn, pairOf, pairsAt, Counted, numberOn, NamesOn}
 

@@ -6,7 +6,7 @@ use native.Mathlib.Omega.{arith}
 use lib.Dec.{eqb, ltb, leb}
 use borrow.Author.Tests.{eqb-true, eq-eqb, ne-eqb, lt-ltb, leb-true}
 use Rattle.lists.specs.Lists.{allBelow}
-use Rattle.lists.specs.Quantifiers.{allBelow-iff}
+use Rattle.lists.specs.Laws.Quantifiers.{allBelow-iff}
 use Rattle.lists.specs.Laws.Booleans.{both-ways}
 use Rattle.grammar.specs.Bytes.{between, blank}
 use Rattle.base64.specs.Base64.{alphabet, letterOf, worth, isValue}

@@ -9,7 +9,7 @@ use lib.ListN.{length, getD}
 use borrow.Author.Needs.{needs}
 use borrow.Author.Tests.{not-true}
 use Rattle.lists.specs.Lists.{allBelow}
-use Rattle.lists.specs.Quantifiers.{allBelow-iff}
+use Rattle.lists.specs.Laws.Quantifiers.{allBelow-iff}
 use Rattle.lists.specs.Laws.Booleans.{and-left, and-right, both-ways}
 use Rattle.grammar.specs.Bytes.{blank, special}
 use Rattle.nodes.specs.declared.Char.the-variants as chars

@@ -10,7 +10,7 @@ use lib.Dec.{eqb}
 use lib.ListN.{length, getD, List·getD-eq-default}
 use borrow.Author.Needs.{needs}
 use Rattle.lists.specs.Lists.{allBelow}
-use Rattle.lists.specs.Quantifiers.{allBelow-iff}
+use Rattle.lists.specs.Laws.Quantifiers.{allBelow-iff}
 use Rattle.lists.specs.Laws.Booleans.{refute}
 use Rattle.grammar.specs.Bytes.{between}
 use Rattle.base64.specs.Base64.{worth, isValue, sixes, fourValues}

@@ -8,7 +8,8 @@ use Prim.Native.Nat.{ℕ, zero, suc, _+_, _*_, _<_, _≤_}
 use native.Mathlib.Omega.{arith}
 use borrow.Author.Needs.{needs}
 use Rattle.lists.specs.Lists.{isSome, those}
-use Rattle.nodes.specs.Texts.{saysAt, left, inside, text-of, text-none, text-some}
+use Rattle.nodes.specs.Texts.{saysAt, left, inside, text-of}
+use Rattle.nodes.specs.Laws.TextSteps.{text-none, text-some}
 use Rattle.nodes.specs.declared.Found.{Found}
 use Rattle.nodes.specs.declared.Found.the-variants.{At, Nothing}
 use Rattle.base64.specs.Base64.{unblanked, decode, bytesIn, coded}

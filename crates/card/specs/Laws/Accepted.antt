@@ -12,7 +12,7 @@ use lib.Dec.{eqb, leb, ltb}
 use lib.ListN.{length, getD, drop, length-append, List·getD-append}
 use lib.Seq.{getD-append-add}
 use Rattle.lists.specs.Lists.{any, count, those, total, each, eachIn, allBelow, there}
-use Rattle.lists.specs.Quantifiers.{allBelow-iff}
+use Rattle.lists.specs.Laws.Quantifiers.{allBelow-iff}
 use Rattle.lists.specs.Laws.Booleans.{and-right, or-first, or-left, or-right, both-ways}
 use Rattle.lists.specs.Laws.Lists.{any-append, any-in, count-append, none-counted}
 use Rattle.lists.specs.Laws.Refusals.{row-fails, rows-past}

@@ -10,7 +10,7 @@ use lib.Dec.{eqb}
 use lib.ListN.{length, getD, length-append, List·getD-append}
 use Rattle.lists.specs.Laws.Booleans.{or-left, or-right}
 use Rattle.lists.specs.Lists.{any, total, those, eachIn, there}
-use Rattle.lists.specs.Quantifiers.{OnePlace}
+use Rattle.lists.specs.Laws.Quantifiers.{OnePlace}
 use Rattle.lists.specs.Laws.Refusals.{row-fails, rows-past}
 use Rattle.grammar.specs.Document.{Element}
 use Rattle.grammar.specs.Grammar.{Writes}

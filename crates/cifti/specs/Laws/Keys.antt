@@ -13,7 +13,7 @@ use borrow.Author.Tests.{ltb-true}
 use Rattle.lists.specs.Laws.Booleans.{and-halves}
 use Rattle.lists.specs.Lists.{twoOf, each, total}
 use Rattle.lists.specs.Laws.Lists.{length-each}
-use Rattle.lists.specs.Quantifiers.{EveryPlace, OnePlace}
+use Rattle.lists.specs.Laws.Quantifiers.{EveryPlace, OnePlace}
 use Rattle.records.specs.Width.{Width}
 use Rattle.records.specs.Record.{Location, onSurface, recordOf, keyOf, FitsIn, Fits, surface, volume}
 use Rattle.records.specs.Laws.Record.{seven-sound, same-place-key, key-same-place}

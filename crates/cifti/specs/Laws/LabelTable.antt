@@ -8,7 +8,7 @@ use native.Mathlib.Omega.{arith}
 use lib.IntN.{ℤ, pos}
 use lib.ListN.{length, getD}
 use Rattle.lists.specs.Lists.{any, those, twoOf, each}
-use Rattle.lists.specs.Quantifiers.{twoOf-iff}
+use Rattle.lists.specs.Laws.Quantifiers.{twoOf-iff}
 use Rattle.grammar.specs.Document.{Element}
 use Rattle.numbers.specs.Numbers.{sameKey}
 use Rattle.numbers.specs.Laws.Keys.{same-key, key-same}

@@ -11,7 +11,7 @@ use lib.IntN.{ℤ, pos}
 use lib.ListN.{length, getD}
 use borrow.Author.Tests.{ltb-true, lt-ltb}
 use Rattle.lists.specs.Lists.{any, twoOf}
-use Rattle.lists.specs.Quantifiers.{any-iff}
+use Rattle.lists.specs.Laws.Quantifiers.{any-iff}
 use Rattle.lists.specs.Refusals.{_when_, first}
 use Rattle.lists.specs.Laws.Refusals.{first-kept}
 use Rattle.grammar.specs.Document.{Element}

@@ -12,7 +12,7 @@ use lib.ListN.{length, getD}
 use borrow.Author.Tests.{eqb-true, eq-eqb, leb-true, le-leb, ltb-true, lt-ltb}
 use Rattle.lists.specs.Laws.Booleans.{and-halves, and-both, or-elim, or-first, or-second}
 use Rattle.lists.specs.Lists.{any, count, twoOf, allBelow, each, eachIn}
-use Rattle.lists.specs.Quantifiers.{EveryPlace, OnePlace, any-iff, twoOf-iff, count-one-iff, allBelow-iff}
+use Rattle.lists.specs.Laws.Quantifiers.{EveryPlace, OnePlace, any-iff, twoOf-iff, count-one-iff, allBelow-iff}
 use Rattle.records.specs.Record.{Location, onSurface, recordOf, recordWords}
 use Rattle.cifti.specs.Maps.{Voxel, voxel, Listed, vertices, voxels, Model, Map, brainMaps, lengthOf, covers, locations}
 use Rattle.cifti.specs.Maps.{vertexNumbers, voxelsOf, sameVoxel}

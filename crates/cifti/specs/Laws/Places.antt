@@ -14,7 +14,7 @@ use borrow.Author.Tests.{leb-true, ltb-true, le-leb, lt-ltb}
 use Rattle.lists.specs.Laws.Booleans.{or-elim, or-first, or-second}
 use Rattle.lists.specs.Lists.{any, twoOf, eachIn}
 use Rattle.lists.specs.Laws.Lists.{any-in, two-append}
-use Rattle.lists.specs.Quantifiers.{any-iff, twoOf-iff, OnePlace}
+use Rattle.lists.specs.Laws.Quantifiers.{any-iff, twoOf-iff, OnePlace}
 use Rattle.cifti.specs.Maps.{Model, covers}
 use Rattle.cifti.specs.Laws.Cover.{covers-yes, covers-is}
 

@@ -11,7 +11,7 @@ use lib.ListN.{length, getD}
 use borrow.Author.Tests.{eq-eqb, eqb-true}
 use Rattle.lists.specs.Laws.Booleans.{and-halves, or-false}
 use Rattle.lists.specs.Lists.{any, twoOf, eachIn, total}
-use Rattle.lists.specs.Quantifiers.{EveryPlace, OnePlace, count-one-iff}
+use Rattle.lists.specs.Laws.Quantifiers.{EveryPlace, OnePlace, count-one-iff}
 use Rattle.cifti.specs.Laws.Cover.{ranges-within}
 use Rattle.records.specs.Record.{Location, onSurface, inVolume, SamePlace, sameVertex}
 use Rattle.records.specs.Record as Record

@@ -9,7 +9,8 @@ use Rattle.grammar.specs.Document.{Element}
 use Rattle.grammar.specs.Look.{is, nameOf, attributesOf, contentsOf, attr, elements, children}
 use Rattle.numbers.specs.Numbers.{key}
 use Rattle.schema.specs.Schema.{ChildRow, child, anyTimes, always, kindOf, kindBy, shaped, numbered, attributesShaped}
-use Rattle.schema.specs.Laws.Good.{Good, GoodAs, good-as, EachGood, no-good, also-good, those-good, shape-here, number-here}
+use Rattle.schema.specs.Laws.Good.{GoodAs, good-as, EachGood, no-good, also-good, those-good, shape-here, number-here}
+use Rattle.schema.specs.Good.{Good}
 use Rattle.schema.specs.Laws.Good.{good-children, required-number}
 use Rattle.cifti.specs.LabelTable.{labelsOf, keysRight}
 use Rattle.cifti.specs.Rows.{ElementKind, rows, labelAttributes, labelTable, label}

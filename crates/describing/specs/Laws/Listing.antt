@@ -8,7 +8,7 @@ use lib.Dec.{eqb}
 use borrow.Author.Tests.{eq-eqb}
 use Rattle.lists.specs.Lists.{any, count}
 use Rattle.lists.specs.Laws.Lists.{none-counted}
-use Rattle.maps.specs.Listed.{any-some}
+use Rattle.maps.specs.Laws.Listed.{any-some}
 
 module _ (d : ℕ) (l : List ℕ) {c : ℕ} (p : c ≡ min 2 (count (eqb d) l)) where
   pub counted-some : (c ≡ 0 → ⊥) → count (eqb d) l ≡ 0 → ⊥

@@ -5,7 +5,7 @@ use Prim.Native.Nat.{ℕ}
 use lib.IntN.{ℤ}
 use Rattle.cifti.specs.Laws.Labels.{keys-unique}
 use Rattle.map_names.specs.declared.NamePlace.{NamePlace}
-use Rattle.label_reader.specs.Names.{label-place-unique}
+use Rattle.label_reader.specs.Laws.Names.{label-place-unique}
 use Rattle.flat.specs.Flat.{laidOver}
 use Rattle.dzwonolin.specs.Labels.{KeysFlat, LabelsFlat}
 

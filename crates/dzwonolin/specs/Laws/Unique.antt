@@ -4,7 +4,7 @@ use mathlib.Core.List.{List, [], _∷_}
 use Prim.Native.Nat.{ℕ}
 use Rattle.cifti.specs.Laws.Theorems.{reads-unique}
 use Rattle.cifti.specs.declared.answer.Answer.{Answer}
-use Rattle.map_names.specs.Placed.{place-unique}
+use Rattle.map_names.specs.Laws.Placed.{place-unique}
 use Rattle.map_names.specs.declared.NamePlace.{NamePlace}
 use Rattle.flat.specs.Flat.{answerNumbers, laidOver}
 use Rattle.nifti.specs.Laws.File.{front-unique}

@@ -10,7 +10,7 @@ use borrow.Author.Needs.{needs}
 use borrow.Author.Tests.{eq-eqb, ne-eqb}
 use Rattle.grammar.specs.Bytes.{quote}
 use Rattle.grammar.specs.Parser.{closing}
-use Rattle.steps.specs.Step.{at-byte}
+use Rattle.steps.specs.Laws.Step.{at-byte}
 use Rattle.nodes.specs.Places.{pick}
 use Rattle.nodes.specs.Scan.{Quoted, quoting, finishes, finish, tag-from}
 use Rattle.nodes.specs.ScanSteps.{tagged}

@@ -9,7 +9,8 @@ use Rattle.nifti.specs.declared.Front.{Front}
 use Rattle.cifti.specs.Answer.{Reads, refusedWith}
 use Rattle.cifti.specs.Laws.Theorems.{reads-unique}
 use Rattle.cifti.specs.declared.answer.Answer.{Answer}
-use Rattle.map_names.specs.Placed.{NamePlaced, place-unique}
+use Rattle.map_names.specs.Placed.{NamePlaced}
+use Rattle.map_names.specs.Laws.Placed.{place-unique}
 use Rattle.map_names.specs.declared.NamePlace.{NamePlace}
 use Rattle.file_reader.specs.Whole.{givenLengths, ReadsFile, front-refused, front-read, movedBy, FilePlaced, name-refused}
 use Rattle.file_reader.specs.Whole.{name-placed, FileNumber, FileName}

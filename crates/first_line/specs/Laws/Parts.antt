@@ -13,7 +13,8 @@ use lib.Seq.{drop-cons}
 use Rattle.lists.specs.Lists.{all}
 use Rattle.grammar.specs.Look.{Word}
 use Rattle.numbers.specs.Numbers.{digit, digits, number, value, parts, onFirst, comma}
-use Rattle.numbers.specs.Laws.Cuts.{Uncut, digits-uncut, digit-no-comma, digit-in, parts-some, parts-end, parts-cut, parts-join, all-append}
+use Rattle.numbers.specs.Laws.Cuts.{digits-uncut, digit-no-comma, digit-in, parts-some, parts-end, parts-cut, parts-join, all-append}
+use Rattle.numbers.specs.Cuts.{Uncut}
 use Rattle.numbers.specs.Laws.Cuts.{number-append, grown, digits-are, digits-few, digits-stopped, powers}
 use Rattle.first_line.specs.Parted.{digitFirst, FirstDigit, Ran, Parted, part-comma, part-last, part-no}
 use Rattle.first_line.specs.declared.lengths.Run.{Run}

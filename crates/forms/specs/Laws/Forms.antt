@@ -10,7 +10,8 @@ use borrow.Author.Tests.{le-leb, lt-leb}
 use borrow.Author.Needs.{needs}
 use Rattle.lists.specs.Lists.{all, those}
 use Rattle.grammar.specs.Look.{Word}
-use Rattle.nodes.specs.Texts.{saysAt, left, inside, text-of, text-none, text-some}
+use Rattle.nodes.specs.Texts.{saysAt, left, inside, text-of}
+use Rattle.nodes.specs.Laws.TextSteps.{text-none, text-some}
 use Rattle.nodes.specs.declared.Found.{Found}
 use Rattle.nodes.specs.declared.Found.the-variants.{At, Nothing}
 use Rattle.numbers.specs.Numbers.{parts, filled, words, whole, dimensionList, exponent, decimal, volumeDimensions, wholes, lastRow, sixteen}

@@ -19,8 +19,10 @@ use Rattle.schema.specs.Schema.{atLeastOnce, always, chosenElse, anyOrder}
 use Rattle.schema.specs.Schema.{inOrder, branch, kindOf, kindBy, kindChosen, kindAmong, orElse, shaped, numbered}
 use Rattle.schema.specs.Schema.{childShaped, standsSo}
 use Rattle.schema.specs.Laws.Renamed.{walk-named, shaped-named, numbered-named}
-use Rattle.schema.specs.Laws.Good.{Good, GoodAs, good-as, AllGood, none-left, one-good, good-children, row-met, in-form}
-use Rattle.schema.specs.Laws.Good.{text-in-form, not-both, One, one-good-of}
+use Rattle.schema.specs.Laws.Good.{GoodAs, good-as, AllGood, none-left, one-good, good-children, row-met, in-form}
+use Rattle.schema.specs.Good.{Good}
+use Rattle.schema.specs.Laws.Good.{text-in-form, not-both, one-good-of}
+use Rattle.schema.specs.Good.{One}
 use Rattle.cifti.specs.Rows.{ElementKind, metaData, labelTable, rows}
 use Rattle.cifti.specs.Laws.Tables.{keys-in-form}
 use Rattle.gifti.specs.Rows.{GiftiKind, ofCifti, gifti, plainArray, codedArray, otherArray, plainData, codedData, encodings, endians}

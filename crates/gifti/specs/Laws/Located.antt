@@ -11,7 +11,7 @@ use lib.IntN.{ℤ, pos}
 use lib.ListN.{length, getD, drop, List·getD-append}
 use Rattle.lists.specs.Lists.{all, there}
 use Rattle.lists.specs.Laws.Lists.{length-each}
-use Rattle.lists.specs.Quantifiers.{all-iff, any-iff}
+use Rattle.lists.specs.Laws.Quantifiers.{all-iff, any-iff}
 use Rattle.lists.specs.Refusals.{positive, NoneApplies}
 use Rattle.lists.specs.Laws.Refusals.{given-none, row-fails, rows-past}
 use Rattle.grammar.specs.Document.{Element}

@@ -16,13 +16,16 @@ use Rattle.grammar.specs.Document.{Element}
 use Rattle.grammar.specs.Look.{is, nameOf, attr, has, contentsOf, elements, children, textOf}
 use Rattle.grammar.specs.Parser.{same}
 use Rattle.nodes.specs.Places.{Stands, the}
-use Rattle.nodes.specs.Found.{value-at-name, has-law}
-use Rattle.nodes.specs.Texts.{text-of, text-law}
+use Rattle.nodes.specs.Found.{value-at-name}
+use Rattle.nodes.specs.Laws.Found.{has-law}
+use Rattle.nodes.specs.Texts.{text-of}
+use Rattle.nodes.specs.Laws.TextSteps.{text-law}
 use Rattle.nodes.specs.declared.Found.{Found}
 use Rattle.nodes.specs.declared.Found.the-variants.{At, Nothing}
 use Rattle.inside.specs.Way.{nth}
-use Rattle.inside.specs.Walked.{child-same, child-agrees, Agrees, not-there, stands-there}
-use Rattle.inside.specs.Treads.{called-alike, childNamed}
+use Rattle.inside.specs.Laws.Walked.{child-same, child-agrees, Agrees, not-there, stands-there}
+use Rattle.inside.specs.Treads.{childNamed}
+use Rattle.inside.specs.Laws.Treads.{called-alike}
 use Rattle.gifti.specs.Arrays.{isCoded, endianOf, dataOf, dim0, arrayKeys, fillsDim0}
 use Rattle.array_keys.specs.Ahead.{keysAhead, spareBytes, keysStart}
 use Rattle.array_keys.specs.declared.Encoding.{Encoding}
@@ -32,7 +35,8 @@ use Rattle.lists.specs.Laws.Booleans.{never-some, and-true}
 use Rattle.numbers.specs.Numbers.{inKeys, listedKeys, value, keyList}
 use Rattle.base64.specs.Base64.{bytesIn, coded}
 use Rattle.base64.specs.Fours.{big, little, bytesOr, codedKeys, codedBytes}
-use Rattle.maps.specs.Fields.{attributeWord, numberSeen, word-at, number-seen}
+use Rattle.maps.specs.Fields.{attributeWord, numberSeen}
+use Rattle.maps.specs.Laws.Fields.{word-at, number-seen}
 use Rattle.array_keys.specs.Laws.Ahead.{plain-keys, big-keys, little-keys, big-spare, little-spare, key-bytes}
 use Rattle.gifti.specs.Laws.Held.{data-of}
 use Rattle.gifti_arrays.specs.Ready.{ArrayHere}

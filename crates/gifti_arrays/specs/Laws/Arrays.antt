@@ -14,8 +14,10 @@ use Rattle.grammar.specs.Bytes.{ascii}
 use Rattle.grammar.specs.Document.{Element}
 use Rattle.grammar.specs.Look.{is, nameOf, contentsOf, elements, children}
 use Rattle.nodes.specs.Places.{the}
-use Rattle.nodes.specs.Names.{named, name-is-law}
-use Rattle.nodes.specs.Children.{first, next, left}
+use Rattle.nodes.specs.Names.{named}
+use Rattle.nodes.specs.Laws.Names.{name-is-law}
+use Rattle.nodes.specs.Children.{first, next}
+use Rattle.nodes.specs.Laws.Children.{left}
 use Rattle.nodes.specs.Laws.Along.{Along, along-start, along-done, along-stands, along-here, along-less, along-next, children-few}
 use Rattle.nodes.specs.declared.Kid.{Kid}
 use Rattle.nodes.specs.declared.Kid.the-variants.{Child, Done}

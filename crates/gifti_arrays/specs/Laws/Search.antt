@@ -16,7 +16,8 @@ use Rattle.nodes.specs.declared.Kid.the-variants.{Child, Done}
 use Rattle.label_table.specs.Labels.{firstLabel}
 use Rattle.label_table.specs.Laws.Labels.{row}
 use Rattle.label_table.specs.Codes.{codesAt}
-use Rattle.label_table.specs.Laws.Walks.{toCome, come-first, come-done}
+use Rattle.label_table.specs.Laws.Walks.{come-first, come-done}
+use Rattle.label_table.specs.Walks.{toCome}
 use Rattle.known_keys.specs.Known.{knownIn, Taken}
 use Rattle.known_keys.specs.Laws.Turns.{taken-less, known-parts, two-rest, known-none}
 use Rattle.gifti.specs.Arrays.{arraysOf}

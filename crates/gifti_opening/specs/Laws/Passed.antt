@@ -15,7 +15,8 @@ use Rattle.lists.specs.Laws.Refusals.{given-none, row-fails, rows-past, first-n
 use Rattle.grammar.specs.Document.{Element}
 use Rattle.grammar.specs.Parser.{parse}
 use Rattle.nodes.specs.Places.{Stands, the}
-use Rattle.nodes.specs.Root.{root, root-law}
+use Rattle.nodes.specs.Root.{root}
+use Rattle.nodes.specs.Laws.Root.{root-law}
 use Rattle.nodes.specs.declared.Kid.the-variants.{Child}
 use Rattle.cifti.specs.Conditions.{textTooLong, noDocument}
 use Rattle.gifti.specs.Conditions.{shapeWrong, arrayNotRead, numberWrong, conditionsOfFile, conditionsOfArrays, giftiRefusals, giftiRefusal}

@@ -23,7 +23,7 @@ use Rattle.nodes.specs.Places.{the}
 use Rattle.nodes.specs.declared.Found.{Found}
 use Rattle.nodes.specs.declared.Found.the-variants.{At, Nothing}
 use Rattle.inside.specs.Way.{nth}
-use Rattle.inside.specs.Walked.{Agrees}
+use Rattle.inside.specs.Laws.Walked.{Agrees}
 use Rattle.inside.specs.Treads.{childNamed}
 use Rattle.label_table.specs.Labels.{filledWith, Wrote}
 use Rattle.label_table.specs.Laws.Told.{filled-told}

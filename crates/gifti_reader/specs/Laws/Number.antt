@@ -22,9 +22,10 @@ use Rattle.nodes.specs.declared.Found.{Found}
 use Rattle.nodes.specs.declared.Found.the-variants.{At, Nothing}
 use Rattle.numbers.specs.Numbers.{inKeys}
 use Rattle.inside.specs.Way.{nth}
-use Rattle.inside.specs.Walked.{Agrees}
+use Rattle.inside.specs.Laws.Walked.{Agrees}
 use Rattle.inside.specs.Treads.{childNamed}
-use Rattle.maps.specs.Fields.{attributeWord, numberSeen, word-at, number-seen}
+use Rattle.maps.specs.Fields.{attributeWord, numberSeen}
+use Rattle.maps.specs.Laws.Fields.{word-at, number-seen}
 use Rattle.cifti.specs.LabelTable.{keysRight, tableKeys, keyTwice}
 use Rattle.label_table.specs.Labels.{keysAt, twiceAt}
 use Rattle.label_table.specs.Laws.Told.{keys-told, twice-told}

@@ -15,9 +15,10 @@ use Rattle.grammar.specs.Document.{Attribute, attribute, Element, elemen
 use Rattle.grammar.specs.Grammar
 use Rattle.grammar.specs.Grammar.{Name, Gap, Equals, Reference, TextCharacter, Attributes, Comment, CData, Doctype, Prologue}
 use Rattle.grammar.specs.Grammar.{WritesElement, WritesContents, Setting, Encoding, Declaration, Aside, Writes}
-use Rattle.grammar.specs.Read.{Read, fail, got, Reader, bind, test, mark, byte, span, stops, alt, all-of, test-complete}
-use Rattle.grammar.specs.Read.{mark-complete, mark-other, byte-complete, byte-other, span-complete, Item, all-of-complete}
-use Rattle.grammar.specs.Read.{with-fuel, seen-complete}
+use Rattle.grammar.specs.Read.{Read, fail, got, Reader, bind, test, mark, byte, span, stops, alt, all-of}
+use Rattle.grammar.specs.Laws.Read.{test-complete}
+use Rattle.grammar.specs.Laws.Read.{mark-complete, mark-other, byte-complete, byte-other, span-complete, Item, all-of-complete}
+use Rattle.grammar.specs.Laws.Read.{with-fuel, seen-complete}
 use Rattle.grammar.specs.Laws.Facts.{blank-in, nameStart-in}
 use Rattle.grammar.specs.Laws.Tokens.{name-complete, gap-complete, equals-complete, blanks-end-name, high-no-blank}
 use Rattle.grammar.specs.Laws.Tokens.{quote-ends-blanks, text-complete, text-long, parted-apart, ends-blanks}

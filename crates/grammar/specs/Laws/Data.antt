@@ -11,7 +11,8 @@ use Rattle.lists.specs.Laws.Booleans.{and-right, or-left, or-right, not-so}
 use Rattle.grammar.specs.Bytes.{_⊹_, ascii, begins, parted, closed, skipped}
 use Rattle.grammar.specs.Grammar
 use Rattle.grammar.specs.Grammar.{DataCharacter, CData, Skipped, Doctype}
-use Rattle.grammar.specs.Read.{got, bind, alt, mark-complete, Item, all-of-complete, RowItem, row-complete}
+use Rattle.grammar.specs.Read.{got, bind, alt}
+use Rattle.grammar.specs.Laws.Read.{mark-complete, Item, all-of-complete, RowItem, row-complete}
 use Rattle.grammar.specs.Parser.{data-byte, data-character-at, data-at, skipped-at, doctype-at}
 use Rattle.grammar.specs.Laws.Tokens.{literal-complete, line-end-complete, line-end-other, line-end-long, parted-apart}
 

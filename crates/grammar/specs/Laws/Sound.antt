@@ -17,9 +17,10 @@ use Rattle.grammar.specs.Grammar.{Name, Gap, Equals, Reference, LineEnd,
 use Rattle.grammar.specs.Grammar.{Absent, Distinct, Attributes, Remark, Comment, DataCharacter, CData, Setting, Encoding}
 use Rattle.grammar.specs.Grammar.{Declaration, Aside}
 use Rattle.grammar.specs.Grammar.{Skipped, Doctype, Prologue}
-use Rattle.grammar.specs.Read.{Read, fail, got, Reader, bind, test, mark, byte, span, alt, all-of, Ok, failed, good, bind-ok}
-use Rattle.grammar.specs.Read.{ok-map, ok-got, alt-ok, Takes, test-sound, mark-sound, byte-sound, span-sound, all-of-sound}
-use Rattle.grammar.specs.Read.{TakesWhole, whole-takes, row-sound}
+use Rattle.grammar.specs.Read.{Read, fail, got, Reader, bind, test, mark, byte, span, alt, all-of}
+use Rattle.grammar.specs.Laws.Read.{Ok, failed, good, bind-ok}
+use Rattle.grammar.specs.Laws.Read.{ok-map, ok-got, alt-ok, Takes, test-sound, mark-sound, byte-sound, span-sound, all-of-sound}
+use Rattle.grammar.specs.Laws.Read.{TakesWhole, whole-takes, row-sound}
 use Rattle.grammar.specs.Parser
 use Rattle.grammar.specs.Parser.{name-at, gap-at, equals-at, CharacterWidth, one, two, three, four, width, rest-by, rest-at}
 use Rattle.grammar.specs.Parser.{literal-at, standsFor, reference-at, feed-if, feed-at, line-end-at, text-byte, text-at}

@@ -11,8 +11,9 @@ use Rattle.grammar.specs.Bytes.{_⊹_, ascii, blank, begins}
 use Rattle.grammar.specs.Document.{Element, Contents}
 use Rattle.grammar.specs.Grammar
 use Rattle.grammar.specs.Grammar.{WritesElement, WritesContents, Writes}
-use Rattle.grammar.specs.Read.{Read, Reader, Ok, failed, good, bind-ok, ok-map, alt-ok, Takes, test-sound, mark-sound, span-sound}
-use Rattle.grammar.specs.Read.{all-of-sound, seen-sound}
+use Rattle.grammar.specs.Read.{Read, Reader}
+use Rattle.grammar.specs.Laws.Read.{Ok, failed, good, bind-ok, ok-map, alt-ok, Takes, test-sound, mark-sound, span-sound}
+use Rattle.grammar.specs.Laws.Read.{all-of-sound, seen-sound}
 use Rattle.grammar.specs.Parser.{Look, at-close, at-comment, at-data, at-element, at-text, look, empty-at, full-at, element-at}
 use Rattle.grammar.specs.Parser.{contents-by, contents-at, no-aside, end-at, document-at, answer, parse}
 use Rattle.grammar.specs.Laws.Sound.{name-sound, attributes-sound, comment-sound, data-sound, text-whole, parted-less, begins-less}

@@ -16,9 +16,10 @@ use Rattle.grammar.specs.Document.{Attribute, attribute, together}
 use Rattle.grammar.specs.Grammar
 use Rattle.grammar.specs.Grammar.{Name, Gap, Equals, Reference, TextCharacter, ValueCharacter, Value, WritesAttribute, Absent}
 use Rattle.grammar.specs.Grammar.{Distinct, Attributes, Remark, Comment, LineEnd}
-use Rattle.grammar.specs.Read.{Read, fail, got, Reader, bind, test, mark, byte, span, stops, alt, all-of, test-complete}
-use Rattle.grammar.specs.Read.{mark-complete, mark-other, byte-complete, byte-other, span-complete, Item, all-of-complete}
-use Rattle.grammar.specs.Read.{RowItem, row-complete}
+use Rattle.grammar.specs.Read.{Read, fail, got, Reader, bind, test, mark, byte, span, stops, alt, all-of}
+use Rattle.grammar.specs.Laws.Read.{test-complete}
+use Rattle.grammar.specs.Laws.Read.{mark-complete, mark-other, byte-complete, byte-other, span-complete, Item, all-of-complete}
+use Rattle.grammar.specs.Laws.Read.{RowItem, row-complete}
 use Rattle.grammar.specs.Laws.Facts.{blank-in, nameStart-in, nameByte-in, quote-in, closing-in, lead1-in, lead2-in, lead3-in}
 use Rattle.grammar.specs.Laws.Facts.{lead4-in, no-return}
 use Rattle.grammar.specs.Parser.{name-at, gap-at, equals-at, CharacterWidth, one, two, three, four, width, width-by, rest-by}

@@ -16,11 +16,13 @@ use Rattle.grammar.specs.Parser.{Look, at-close, at-comment, at-data, at-elemen
 use Rattle.grammar.specs.Laws.Tokens.{comment-complete}
 use Rattle.grammar.specs.Laws.Data.{data-complete}
 use Rattle.grammar.specs.Laws.Complete.{opening-looks, comment-looks, data-looks, element-long}
-use Rattle.nodes.specs.Places.{element₁₆, Stands, the, stands-read, the-read, Tail, tail-more}
+use Rattle.nodes.specs.Places.{element₁₆, Stands, the}
+use Rattle.nodes.specs.Laws.Places.{stands-read, the-read, Tail, tail-more}
 use Rattle.nodes.specs.Scan.{to-tag, tag-from, tag-at, skip-at}
 use Rattle.nodes.specs.Laws.ScanEnds.{to-tag-free, text-free, tag-name, tag-blanks, tag-attributes}
-use Rattle.nodes.specs.Skip.{no-text-comment, no-text-data, no-text-element, tag-bare, tag-filled, skip-element}
-use Rattle.nodes.specs.Children.{kid-then, kid-by, kid-at, kid-step, kid-look, first-by, first, next, next-read, elements-joined}
+use Rattle.nodes.specs.Laws.Skipping.{no-text-comment, no-text-data, no-text-element, tag-bare, tag-filled, skip-element}
+use Rattle.nodes.specs.Children.{kid-then, kid-by, kid-at, first-by, first, next}
+use Rattle.nodes.specs.Laws.Children.{kid-step, kid-look, next-read, elements-joined}
 use Rattle.nodes.specs.declared.Kid.{Kid}
 use Rattle.nodes.specs.declared.Kid.the-variants.{Child, Done}
 use Rattle.nodes.specs.declared.Found.{Found}

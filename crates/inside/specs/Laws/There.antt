@@ -19,7 +19,7 @@ use Rattle.grammar.specs.Laws.Sound.{begins-less, parted-less}
 use Rattle.grammar.specs.Laws.SoundElements.{parse-sound}
 use Rattle.inside.specs.Way.{Step, step, nth, onward, reached, StartTag, start-tag, OnlyTag, only-tag, Leads, here, down, Tagged}
 use Rattle.inside.specs.Way.{between, nothing-between, Place, place}
-use Rattle.nodes.specs.Children.{elements-joined}
+use Rattle.nodes.specs.Laws.Children.{elements-joined}
 
 -- ---- In contents: what stands before the n-th child that passes, the child, and what stands behind it.
 

@@ -8,7 +8,7 @@ use Rattle.grammar.specs.Document.{Element}
 use Rattle.grammar.specs.Grammar.{WritesElement, Declaration, Prologue}
 use Rattle.grammar.specs.Read.{got, bind}
 use Rattle.grammar.specs.Laws.Complete.{Opening, element-read, declaration-complete, prologue-complete, prologue-no-ask}
-use Rattle.grammar.specs.Unfuelled.{element-enough}
+use Rattle.grammar.specs.Laws.Unfuelled.{element-enough}
 use Rattle.steps.specs.Prologue.{preamble-at}
 use Rattle.nodes.specs.Places.{element₁₆}
 use Rattle.nodes.specs.Laws.Depth.{element-deeper}

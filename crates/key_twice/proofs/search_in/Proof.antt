@@ -1,7 +1,7 @@
 use mathlib.Core.Path.{sym}
 use lib.ListN.{length}
 use lib.Seq.{length-take-le}
-use Rattle.label_table.specs.Laws.Walks.{toCome}
+use Rattle.label_table.specs.Walks.{toCome}
 use Rattle.key_twice.specs.Laws.Parts.{searching, Searching, searching-found}
 use Rattle.key_twice.proofs.search_in.Statement.{statement}
 use Rattle.key_twice.proofs.search_in.Tie as tie

@@ -13,14 +13,15 @@ use borrow.Author.Tests.{leb-true, eq-eqb, ne-eqb}
 use Rattle.lists.specs.Lists.{any, count, twoOf}
 use Rattle.lists.specs.Laws.Lists.{any-same, two-append}
 use Rattle.lists.specs.Laws.Booleans.{and-left, and-right, or-first, or-neither, or-true, refute}
-use Rattle.lists.specs.Permuted.{two-permuted, append-turned}
+use Rattle.lists.specs.Laws.Permuted.{two-permuted, append-turned}
 use Rattle.nodes.specs.declared.Kid.{Kid}
 use Rattle.nodes.specs.declared.Kid.the-variants.{Child, Done}
 use Rattle.comparison.specs.Matched.{member, Reordered}
 use Rattle.label_table.specs.Labels.{twiceAt, firstLabel, nextLabel}
 use Rattle.label_table.specs.Codes.{codeHere, codesAt}
 use Rattle.label_table.specs.Laws.Codes.{twice-codes}
-use Rattle.label_table.specs.Laws.Walks.{toCome, walk-less, come-more, come-first, come-done}
+use Rattle.label_table.specs.Laws.Walks.{walk-less, come-more, come-first, come-done}
+use Rattle.label_table.specs.Walks.{toCome}
 use Rattle.known_keys.specs.Order.{orderedFrom, inOrder}
 use Rattle.known_keys.specs.Known.{Placed, Taken}
 use Rattle.known_keys.specs.Sieve.{sifted, Sieve, Sifting}

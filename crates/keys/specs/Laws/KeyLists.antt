@@ -16,7 +16,8 @@ use Rattle.lists.specs.Lists.{all, those}
 use Rattle.lists.specs.Laws.Booleans.{and-left, both-ways, clash}
 use Rattle.grammar.specs.Bytes.{blank, between}
 use Rattle.grammar.specs.Look.{Word}
-use Rattle.nodes.specs.Texts.{saysAt, left, inside, text-of, text-none, text-some}
+use Rattle.nodes.specs.Texts.{saysAt, left, inside, text-of}
+use Rattle.nodes.specs.Laws.TextSteps.{text-none, text-some}
 use Rattle.nodes.specs.declared.Char.{Char}
 use Rattle.nodes.specs.declared.Char.the-variants as chars
 use Rattle.nodes.specs.declared.Found.{Found}
@@ -25,7 +26,8 @@ use Rattle.numbers.specs.Numbers.{digit, digits, value, number, words, parts, f
 use Rattle.numbers.specs.Answers.{signIf, keyLimit}
 use Rattle.numbers.specs.Stream.{charAt, letterAt, stream, leftIn, behind, leading, wordEnds, digitsAt}
 use Rattle.numbers.specs.Quick.{Quick}
-use Rattle.numbers.specs.Laws.Cuts.{Uncut, none, more, digit-no-blank, digits-uncut, digits-are, digits-split, digits-stopped, words-none}
+use Rattle.numbers.specs.Laws.Cuts.{digit-no-blank, digits-uncut, digits-are, digits-split, digits-stopped, words-none}
+use Rattle.numbers.specs.Cuts.{Uncut, none, more}
 use Rattle.numbers.specs.Laws.Keys.{within}
 use Rattle.numbers.specs.Laws.Listed.{begun, word-ahead}
 use Rattle.numbers.specs.Laws.Stream.{char-byte, char-end, Ran, digits-law, Blanked, blanked}

@@ -13,7 +13,8 @@ use Rattle.grammar.specs.Bytes.{blank, between}
 use Rattle.grammar.specs.Look.{Word}
 use Rattle.numbers.specs.Numbers.{digit, digits, value, unsigned, withSign, key, keyValue, inKeys}
 use Rattle.numbers.specs.Answers.{signIf, keyLimit}
-use Rattle.numbers.specs.Laws.Cuts.{Uncut, none, more, digit-in, digit-no-blank, digits-uncut, digits-are, digits-stopped}
+use Rattle.numbers.specs.Laws.Cuts.{digit-in, digit-no-blank, digits-uncut, digits-are, digits-stopped}
+use Rattle.numbers.specs.Cuts.{Uncut, none, more}
 use Rattle.numbers.specs.Laws.Keys.{within}
 use Rattle.keys.specs.KeyLists.{spelled}
 

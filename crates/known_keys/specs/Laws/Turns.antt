@@ -22,7 +22,8 @@ use Rattle.label_table.specs.Labels.{labels, keyHere, keysAt, nextLabel}
 use Rattle.label_table.specs.Laws.Labels.{row}
 use Rattle.label_table.specs.Codes.{codeOf, codeHere, codesAt}
 use Rattle.label_table.specs.Laws.Codes.{code-small, code-same, here-in}
-use Rattle.label_table.specs.Laws.Walks.{toCome, come-more, walk-less}
+use Rattle.label_table.specs.Laws.Walks.{come-more, walk-less}
+use Rattle.label_table.specs.Walks.{toCome}
 use Rattle.known_keys.specs.Order.{Arranged, Within}
 use Rattle.known_keys.specs.Known.{knownIn, Gathered, Taken}
 use Rattle.known_keys.specs.Laws.Order.{all-within, member-kept}

@@ -23,10 +23,12 @@ use Rattle.cifti.specs.Maps.{dimensionsOf, tablesIn}
 use Rattle.cifti.specs.Conditions.{listedDimensions}
 use Rattle.cifti.specs.Labels.{holdsTable, noTable, keysOn, tablesOn, labelsOn}
 use Rattle.cifti.specs.declared.answer.Kind.the-variants.{Scalars, Labels}
-use Rattle.maps.specs.Laws.Good.{Good, row-met}
+use Rattle.maps.specs.Laws.Good.{row-met}
+use Rattle.maps.specs.Good.{Good}
 use Rattle.maps.specs.Laws.Kinds.{root-child}
-use Rattle.maps.specs.Laws.MapKind.{GoodMap, rowsName, namesChild, childless}
-use Rattle.maps.specs.Ready.{GoodMaps, no-maps, one-map, good-maps}
+use Rattle.maps.specs.Laws.MapKind.{rowsName, namesChild, childless}
+use Rattle.maps.specs.MapKind.{GoodMap}
+use Rattle.maps.specs.Laws.Ready.{GoodMaps, no-maps, one-map, good-maps}
 use Rattle.inside.specs.Way.{Step, step, nth, onward, reached}
 use Rattle.map_names.specs.Way.{ofName, inMap}
 use Rattle.map_names.specs.Laws.Held.{OneRow, all-named, scalars-children, labels-children, good-labels, no-named-maps, namedOf, named-kind}

@@ -14,7 +14,7 @@ use Rattle.grammar.specs.Bytes.{ascii}
 use Rattle.grammar.specs.Document.{Element}
 use Rattle.grammar.specs.Look.{Word, is, nameOf, attr, contentsOf, withinOf, elements, children}
 use Rattle.nodes.specs.Places.{Stands, the}
-use Rattle.nodes.specs.Found.{attr-law}
+use Rattle.nodes.specs.Laws.Found.{attr-law}
 use Rattle.nodes.specs.Children.{first}
 use Rattle.nodes.specs.Root.{root}
 use Rattle.nodes.specs.declared.Kid.{Kid}
@@ -27,9 +27,11 @@ use Rattle.numbers.specs.Answers.{keyIn}
 use Rattle.cifti.specs.LabelTable.{labelsOf, keyOf, keysRight, tableKeys, labelsWith, namesWith}
 use Rattle.label_table.specs.Labels.{labels, labelsFrom, orZero, keyHere, has-key, labelWith}
 use Rattle.inside.specs.Way.{Step, step, nth}
-use Rattle.inside.specs.Walked.{placesFrom, nthPlace, childAt, thence, walked, walkedFrom, wayAt, Stood, none, one, children-stood, Agrees}
-use Rattle.inside.specs.Walked.{not-there, stands-there}
-use Rattle.inside.specs.Treads.{called, called-alike}
+use Rattle.inside.specs.Walked.{placesFrom, nthPlace, childAt, thence, walked, walkedFrom, wayAt}
+use Rattle.inside.specs.Laws.Walked.{Stood, none, one, children-stood, Agrees}
+use Rattle.inside.specs.Laws.Walked.{not-there, stands-there}
+use Rattle.inside.specs.Treads.{called}
+use Rattle.inside.specs.Laws.Treads.{called-alike}
 use Rattle.label_reader.specs.Way.{tableWay, labelOf, toLabel, labelWay}
 
 -- ---- What a found Label says of the keys.

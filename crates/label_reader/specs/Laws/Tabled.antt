@@ -22,11 +22,13 @@ use Rattle.cifti.specs.Rows.{labelTable}
 use Rattle.cifti.specs.Maps.{mapsOf}
 use Rattle.cifti.specs.Conditions.{conditionsOfHeader, conditionsOfLabels, ofMaps}
 use Rattle.cifti.specs.Labels.{noTable, labelsRefusals, keysOn, labelsOn}
-use Rattle.maps.specs.Laws.Good.{Good}
+use Rattle.maps.specs.Good.{Good}
 use Rattle.inside.specs.Way.{reached}
-use Rattle.inside.specs.Walked.{wayAt, Agrees, not-there, stands-there, way-agrees}
-use Rattle.map_names.specs.Treads.{namedAt, way-in-map}
-use Rattle.map_names.specs.Placed.{Fine, fine}
+use Rattle.inside.specs.Walked.{wayAt}
+use Rattle.inside.specs.Laws.Walked.{Agrees, not-there, stands-there, way-agrees}
+use Rattle.map_names.specs.Treads.{namedAt}
+use Rattle.map_names.specs.Laws.Treads.{way-in-map}
+use Rattle.map_names.specs.Laws.Placed.{Fine, fine}
 use Rattle.map_names.specs.Laws.Reached.{listed-once}
 use Rattle.label_reader.specs.Way.{tableWay}
 use Rattle.label_reader.specs.Before.{rowsBefore, numberBefore}

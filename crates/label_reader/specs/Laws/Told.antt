@@ -27,9 +27,9 @@ use Rattle.cifti.specs.Answer.{mapsIn}
 use Rattle.cifti.specs.Labels.{noTable, labelsRefusals, keysOn, keysShort, keysRefusal, keysBy, keysGiven, keysCount, overwritten}
 use Rattle.cifti.specs.Labels.{keysAfterwards, noKey, labelRefusal, labelBy, labelPart, labelsOn, Keys, LabelNumber, LabelPart}
 use Rattle.cifti.specs.Laws.Text.{answers-of}
-use Rattle.maps.specs.Laws.Good.{Good}
+use Rattle.maps.specs.Good.{Good}
 use Rattle.inside.specs.Way.{reached}
-use Rattle.map_names.specs.Placed.{Fine, fine}
+use Rattle.map_names.specs.Laws.Placed.{Fine, fine}
 use Rattle.map_names.specs.Laws.Reached.{listed-once}
 use Rattle.label_reader.specs.Way.{tableWay}
 use Rattle.label_reader.specs.Laws.Found.{TableOf, no-table, a-table, table-of}

@@ -17,7 +17,8 @@ use Rattle.grammar.specs.Bytes.{ascii}
 use Rattle.nodes.specs.Names.{named}
 use Rattle.nodes.specs.Attributes.{place}
 use Rattle.nodes.specs.Values.{value-there}
-use Rattle.nodes.specs.Found.{value-at-name, value-found, value-missing}
+use Rattle.nodes.specs.Found.{value-at-name}
+use Rattle.nodes.specs.Laws.Found.{value-found, value-missing}
 use Rattle.nodes.specs.Children.{first, next}
 use Rattle.nodes.specs.declared.Kid.{Kid}
 use Rattle.nodes.specs.declared.Kid.the-variants.{Child, Done}
@@ -29,7 +30,8 @@ use Rattle.numbers.specs.Laws.Keys.{same-key, key-same}
 use Rattle.numbers.specs.declared.Key.{Key}
 use Rattle.numbers.specs.declared.Key.the-variants.{Is, No}
 use Rattle.inside.specs.Walked.{placesWithin, placesFrom, nthPlace}
-use Rattle.inside.specs.Treads.{ahead, next-ahead, places-done, places-child, called, called-is}
+use Rattle.inside.specs.Treads.{called}
+use Rattle.inside.specs.Laws.Treads.{ahead, next-ahead, places-done, places-child, called-is}
 use Rattle.label_table.specs.Labels.{labelsFrom, labels, headOf, labelFrom, firstLabel, nextLabel, orZero, keyHere, keysAt}
 use Rattle.label_table.specs.Labels.{has-key, labelWith, filledWith}
 

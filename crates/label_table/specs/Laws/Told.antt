@@ -12,12 +12,14 @@ use Rattle.grammar.specs.Bytes.{ascii}
 use Rattle.grammar.specs.Document.{Element}
 use Rattle.grammar.specs.Look.{is, nameOf, attr, children, contentsOf, elements}
 use Rattle.nodes.specs.Places.{Stands, the}
-use Rattle.nodes.specs.Found.{attr-law}
+use Rattle.nodes.specs.Laws.Found.{attr-law}
 use Rattle.numbers.specs.Numbers.{key, keyValue, sameKey}
 use Rattle.numbers.specs.Answers.{keyIn}
 use Rattle.inside.specs.Way.{nth}
-use Rattle.inside.specs.Walked.{Stood, none, one, children-stood, nthPlace, Agrees, not-there, stands-there}
-use Rattle.inside.specs.Treads.{called, called-alike}
+use Rattle.inside.specs.Walked.{nthPlace}
+use Rattle.inside.specs.Laws.Walked.{Stood, none, one, children-stood, Agrees, not-there, stands-there}
+use Rattle.inside.specs.Treads.{called}
+use Rattle.inside.specs.Laws.Treads.{called-alike}
 use Rattle.cifti.specs.LabelTable.{labelsOf, keyOf, keysRight, tableKeys, keyTwice, labelsWith}
 use Rattle.label_table.specs.Labels.{labelsFrom, labels, orZero, keyHere, keysAt, filledWith, has-key, labelWith, twiceAt}
 

@@ -10,10 +10,7 @@ use Rattle.nodes.specs.declared.Kid.the-variants.{Child, Done}
 use Rattle.label_table.specs.Labels.{firstLabel, nextLabel}
 use Rattle.label_table.specs.Laws.Labels.{row, row-first, row-done, row-next}
 use Rattle.label_table.specs.Codes.{codeHere, codesAt}
-
--- what is still to come
-abbrev pub toCome : List ℕ → Kid → List ℕ
-toCome text kid = each (codeHere text) (row text kid)
+use Rattle.label_table.specs.Walks.{toCome}
 
 module _ (text : List ℕ) {kid kid₁ : Kid} {k : ℕ} (is-child : kid ≡ Child k) (e : kid₁ ≡ nextLabel text k) where
   pub walk-less : length (row text kid₁) < length (row text kid)

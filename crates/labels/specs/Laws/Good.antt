@@ -12,7 +12,8 @@ use Rattle.schema.specs.Laws.Good as good
 pub use Rattle.schema.specs.Laws.Good.{no-good, also-good, those-good}
 use Rattle.cifti.specs.Rows.{ElementKind, rows, words, metaData, labels, labelledMap, labelTable}
 pub use Rattle.cifti.specs.Laws.Tables.{keys-in-form}
-use Rattle.maps.specs.Laws.Good.{Good, GoodAs, good-as, good-children}
+use Rattle.maps.specs.Laws.Good.{GoodAs, good-as, good-children}
+use Rattle.maps.specs.Good.{Good}
 use Rattle.maps.specs.Laws.Kinds.{not-both}
 use Rattle.map_names.specs.Laws.Held.{namedOf, named-kind, labels-children}
 

@@ -1,5 +1,6 @@
-use Rattle.map_names.specs.Treads.{first-map, mapAt}
-use Rattle.inside.specs.Treads.{Seeking, ahead}
+use Rattle.map_names.specs.Treads.{mapAt}
+use Rattle.map_names.specs.Laws.Treads.{first-map}
+use Rattle.inside.specs.Laws.Treads.{Seeking, ahead}
 use Rattle.map_names.proofs.map_on.Statement.{statement}
 use Rattle.map_names.proofs.map_on.Tie as tie
 

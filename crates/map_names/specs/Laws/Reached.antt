@@ -14,7 +14,7 @@ use lib.ListN.{length, getD, List·getD-append}
 use borrow.Author.Tests.{eqb-true, lt-ltb, le-ltb}
 use Rattle.lists.specs.Lists.{any, count, each, eachIn, those, allBelow}
 use Rattle.lists.specs.Laws.Lists.{none-counted, count-append}
-use Rattle.lists.specs.Quantifiers.{allBelow-iff}
+use Rattle.lists.specs.Laws.Quantifiers.{allBelow-iff}
 use Rattle.lists.specs.Laws.Booleans.{both-ways}
 use Rattle.grammar.specs.Document.{Element}
 use Rattle.grammar.specs.Look.{is, nameOf, contentsOf, withinOf, elements, children, attr}
@@ -23,11 +23,12 @@ use Rattle.cifti.specs.Rows.{cifti, matrix}
 use Rattle.cifti.specs.Maps.{Map, mapOf, mapsOf, dimensionsOf, mapElements}
 use Rattle.cifti.specs.Conditions.{listedDimensions, dimensionsWrong}
 use Rattle.cifti.specs.Names.{holdsName, noName, namesOn}
-use Rattle.maps.specs.Laws.Good.{Good}
+use Rattle.maps.specs.Good.{Good}
 use Rattle.maps.specs.Laws.Kinds.{OnlyChild, root-child}
-use Rattle.maps.specs.Laws.MapKind.{GoodMap, map-dimensions}
-use Rattle.maps.specs.Ready.{GoodMaps, no-maps, one-map, good-maps}
-use Rattle.maps.specs.Listed.{any-some}
+use Rattle.maps.specs.Laws.MapKind.{map-dimensions}
+use Rattle.maps.specs.MapKind.{GoodMap}
+use Rattle.maps.specs.Laws.Ready.{GoodMaps, no-maps, one-map, good-maps}
+use Rattle.maps.specs.Laws.Listed.{any-some}
 use Rattle.inside.specs.Way.{Step, step, nth, onward, reached}
 use Rattle.map_names.specs.Way.{ofName, listsDimension, mapThatLists, inMap, wayInMap, nameWay}
 use Rattle.map_names.specs.Laws.Held.{Named, no-named, one-named, each-named, holds-so}

@@ -3,8 +3,8 @@ use mathlib.Core.Path.{_≡_}
 use mathlib.Core.List.{List}
 use Prim.Native.Nat.{ℕ, _<_}
 use Rattle.lists.specs.Lists.{count}
-use Rattle.lists.specs.Ranges as Ranges
-pub use Rattle.lists.specs.Ranges.{none-counts, one-counts}
+use Rattle.lists.specs.Laws.Ranges as Ranges
+pub use Rattle.lists.specs.Laws.Ranges.{none-counts, one-counts}
 use Rattle.cifti.specs.Maps.{Model, covers}
 pub use Rattle.cifti.specs.Laws.Cover.{covers-is, covers-yes}
 

@@ -4,12 +4,9 @@ use Rattle.grammar.specs.Document.{Element}
 use Rattle.schema.specs.Schema.{ChildRow}
 use Rattle.schema.specs.Laws.Good as good
 use Rattle.cifti.specs.Rows.{ElementKind, rows}
+use Rattle.maps.specs.Good.{Good}
 pub use Rattle.schema.specs.Laws.Good.{good-as, none-left, one-good, good-head, good-tail, shape-here, number-here, good-children, row-met}
 pub use Rattle.schema.specs.Laws.Good.{attributes-shape, attributes-number, required-number, required-word}
-
--- the element, taken for one of the kind, passes both tests at every place
-abbrev pub Good : ElementKind → Element → Type 0
-Good k e = good.Good rows k e
 
 -- a child that its parent's rows know, good as what they take it for
 abbrev pub GoodAs : List (ChildRow ElementKind) → Element → Type 0

@@ -1,36 +1,36 @@
 -- WHAT A GOOD ELEMENT OF EACH KIND HOLDS: its numbers are in form, and its children are of the kinds that its row names.
-use mathlib.Core.Path.{_≡_, refl, sym, ap, _∙_, subst}
+use mathlib.Core.Path.{_≡_, refl, sym, _∙_, subst}
 use mathlib.Core.List.{List, [], _∷_, _++_}
 use mathlib.Core.Option.{Option, some}
 use mathlib.Core.Option
-use mathlib.Core.Bool.{Bool, true, false, _&&_, _||_, not, cond, true≢false, false≢true}
-use Prim.Native.Nat.{ℕ, zero, suc, _+_, _<_, _≤_}
+use mathlib.Core.Bool.{Bool, true, false, _&&_, _||_, cond}
+use Prim.Native.Nat.{ℕ, _+_, _<_, _≤_}
 use Prim.Native.String.{String}
 use native.Mathlib.Omega.{arith}
-use lib.Dec.{eqb, leb}
-use lib.ListN.{length, getD}
+use lib.ListN.{length}
 use borrow.Author.Tests.{eqb-true}
-use Rattle.lists.specs.Lists.{all, any, count, isSome, ifThere, there, those}
+use Rattle.lists.specs.Lists.{all, any, count}
 use Rattle.lists.specs.Laws.Booleans.{never-some}
-use Rattle.lists.specs.Quantifiers.{EveryPlace, all-iff}
 use Rattle.grammar.specs.Bytes.{ascii}
-use Rattle.grammar.specs.Document.{Attribute, attribute, Element, Contents}
-use Rattle.grammar.specs.Look.{Word, is, nameOf, attributesOf, contentsOf, valueIn, orEmpty, attr, has, elements, characters, children}
+use Rattle.grammar.specs.Document.{Element}
+use Rattle.grammar.specs.Look.{Word, is, nameOf, attributesOf, contentsOf, valueIn, orEmpty, attr, has, elements}
 use Rattle.grammar.specs.Look.{textOf}
 use Rattle.grammar.specs.Parser.{same}
 use Rattle.grammar.specs.Laws.Facts.{and-left, and-right}
-use Rattle.numbers.specs.Numbers.{whole, volumeDimensions, dimensionList, exponent, decimal, wholes, sixteen}
-use Rattle.schema.specs.Schema.{Form, anyValue, word, number, AttributeRow, required, optional, TextForm, numbers, ChildRow, child, Which}
-use Rattle.schema.specs.Schema.{always, chosen, Case, _⇒_, Row, branch, leaf, Order, anyOrder, Times, once, kindOf, kindBy, kindChosen}
-use Rattle.schema.specs.Schema.{kindAmong, childRows, everywhere, shaped, numbered, attributesShaped, attributeShaped, attributeNumbered}
-use Rattle.schema.specs.Schema.{isWord, isNumber, isText, childrenShaped, childShaped, standsSo, orderly, neededBelow, atLeastOnce}
+use Rattle.numbers.specs.Numbers.{whole, volumeDimensions, exponent, decimal, wholes}
+use Rattle.schema.specs.Schema.{anyValue, word, number, AttributeRow, required, numbers, ChildRow, child}
+use Rattle.schema.specs.Schema.{always, chosen, Case, _⇒_, branch, anyOrder, Times, once, kindOf, kindBy, kindChosen}
+use Rattle.schema.specs.Schema.{kindAmong, numbered, attributeNumbered}
+use Rattle.schema.specs.Schema.{isText, childShaped, standsSo, neededBelow, atLeastOnce}
 use Rattle.schema.specs.Schema.{atMostOnce}
 use Rattle.cifti.specs.Words.{structures, units, mostLength, mostVoxel}
-use Rattle.cifti.specs.Rows.{ElementKind, cifti, matrix, metaData, md, brainModels, series, volume, transform}
+use Rattle.cifti.specs.Rows.{ElementKind, cifti, matrix, metaData, brainModels, series, volume, transform}
 use Rattle.cifti.specs.Rows.{surface, voxels, vertexIndices, voxelIndices, mapKinds, modelTypes, mapAttributes, seriesAttributes}
 use Rattle.cifti.specs.Rows.{modelAttributes, rows}
-use Rattle.maps.specs.Laws.Good.{Good, GoodAs, good-as, AllGood, none-left, one-good, shape-here, number-here, good-children}
+use Rattle.maps.specs.Laws.Good.{GoodAs, good-as, AllGood, none-left, one-good, number-here, good-children}
+use Rattle.maps.specs.Good.{Good}
 use Rattle.maps.specs.Laws.Good.{row-met}
+use Rattle.maps.specs.Kinds.{GoodModel, surface-model, voxel-model}
 pub use Rattle.schema.specs.Laws.Good.{no-row, in-form, in-words, is-word, not-both}
 
 -- ---- The children's rows.
@@ -86,10 +86,6 @@ map-word e {k} q n = go (valueIn "IndicesMapToDataType" (attributesOf e)) refl
     go : (o : Option Word) → valueIn "IndicesMapToDataType" (attributesOf e) ≡ o → kindChosen mapKinds o ≡ some k → MapWord e k
     go Option.none p r = never-some (rw chosen-none at r)
     go (some v) p r = record { word = v; said = p; chooses = r }
-
-pub data GoodModel (e : Element) : Type 0 where
-  surface-model : Good surface e → has "ModelType" "CIFTI_MODEL_TYPE_VOXELS" e ≡ false → GoodModel e
-  voxel-model : Good voxels e → has "ModelType" "CIFTI_MODEL_TYPE_VOXELS" e ≡ true → GoodModel e
 
 surface-voxels : is "CIFTI_MODEL_TYPE_VOXELS" (ascii "CIFTI_MODEL_TYPE_SURFACE") ≡ false
 unfolding is same

@@ -31,9 +31,11 @@ use Rattle.cifti.specs.Maps.{isSeries}
 use Rattle.cifti.specs.Laws.Kinds.{kind-named, no-word}
 use Rattle.cifti.specs.declared.answer.Kind.{Kind}
 use Rattle.cifti.specs.declared.answer.Kind.the-variants.{None, Brain, Series}
-use Rattle.maps.specs.Laws.Good.{Good, GoodAs, good-as, AllGood, none-left, one-good, good-children}
+use Rattle.maps.specs.Laws.Good.{GoodAs, good-as, AllGood, none-left, one-good, good-children}
+use Rattle.maps.specs.Good.{Good}
 use Rattle.maps.specs.Laws.Kinds.{is-word, matrixRows, map-word, no-row, in-form}
-use Rattle.maps.specs.Fields.{word-at, found-value, found-none}
+use Rattle.maps.specs.Laws.Fields.{word-at, found-value, found-none}
+use Rattle.maps.specs.MapKind.{Among, further, here, RowOf, GoodMap}
 
 unfoldable rowed : Case Kind → Case ElementKind
 rowed (s ⇒ k) = s ⇒ rowFor k
@@ -43,20 +45,11 @@ same-words : mapKinds ≡ each rowed kindWords
 unfolding mapKinds kindWords each rowed rowFor
 same-words = refl
 
--- a kind of the list
-pub data Among (k : Kind) : List Kind → Type 0 where
-  here : {l : List Kind} → Among k (k ∷ l)
-  further : {j : Kind} {l : List Kind} → Among k l → Among k (j ∷ l)
-
 -- what a computed equation says of all kinds holds of each
 pub of-all : {A : Type 0} (f : Kind → A) (a : A) (l : List Kind) {k : Kind} → each f l ≡ replicate (length l) a → Among k l → f k ≡ a
 unfolding each
 of-all f a (j ∷ l) h here = cc
 of-all f a (j ∷ l) h (further m) = of-all f a l (cc) m
-
-record RowOf (l : List (Case Kind)) (k : Kind) (r : ElementKind) : Type 0 where
-  row : rowFor k ≡ r
-  known : Among k (each caseKind l)
 
 row-chosen : (l : List (Case Kind)) (v : Word) (r : ElementKind) → kindAmong (each rowed l) v ≡ some r → RowOf l (kindIn l v) r
 unfolding kindAmong each rowed caseKind kindIn
@@ -90,11 +83,6 @@ lists-first {k} {e} g h = go (rows k) refl h
     go (branch [] o r) q f = clash (cc)
     go (branch (a ∷ l) o r) q f = in-form g (a ∷ l) o r q 0 (omega arith) "AppliesToMatrixDimension" dimensionList f
     go (leaf a t) q f = clash (cc)
-
--- a MatrixIndicesMap that passes 6 and 7: of a kind, and good as its row
-pub record GoodMap (e : Element) : Type 0 where
-  pub good : Good (rowFor (kindOfMap e)) e
-  pub known : Among (kindOfMap e) allKinds
 
 kind-by : (e : Element) (v : Word) → valueIn "IndicesMapToDataType" (attributesOf e) ≡ some v → kindOfMap e ≡ kindIn kindWords v
 unfolding kindOfMap attr orEmpty

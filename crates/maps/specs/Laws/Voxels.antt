@@ -19,10 +19,12 @@ use Rattle.grammar.specs.Document.{Element}
 use Rattle.grammar.specs.Parser.{same}
 use Rattle.grammar.specs.Look.{is, nameOf, attributesOf, contentsOf, has, elements}
 use Rattle.schema.specs.Schema.{AttributeRow, TextForm, leaf, kindOf, shaped, attributesShaped, below}
-use Rattle.schema.specs.Walk.{called, below-children}
+use Rattle.schema.specs.Laws.Everywhere.{called, below-children}
 use Rattle.cifti.specs.Rows.{ElementKind, brainModels, volume, transform, vertexIndices, voxelIndices, rows}
-use Rattle.maps.specs.Laws.Good.{Good, GoodAs, good-as, AllGood, none-left, one-good, shape-here, good-children, row-met}
-use Rattle.maps.specs.Laws.Kinds.{not-both, brainRows, OnlyChild, GoodModel, surface-model, voxel-model, good-model, good-volume}
+use Rattle.maps.specs.Laws.Good.{GoodAs, good-as, AllGood, none-left, one-good, shape-here, good-children, row-met}
+use Rattle.maps.specs.Good.{Good}
+use Rattle.maps.specs.Laws.Kinds.{not-both, brainRows, OnlyChild, good-model, good-volume}
+use Rattle.maps.specs.Kinds.{GoodModel, surface-model, voxel-model}
 use Rattle.maps.specs.Laws.Kinds.{surface-child, voxels-child, only-child, brain-children}
 
 -- an element with text has no children, so nothing stands below it

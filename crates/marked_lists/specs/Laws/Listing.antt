@@ -21,10 +21,14 @@ use Rattle.cifti.specs.Maps.{Voxel, voxel, Listed, vertices, voxels, modelOf, t
 use Rattle.cifti.specs.Conditions.{outside}
 use Rattle.maps.specs.Fields.{attributeWord, numberSeen}
 use Rattle.marks.specs.Marks.{Stay, Marked}
-use Rattle.marks.specs.Apart.{Marking, all-stay, marking-start, marking-not, marking-none, marking-apart, marking-one}
-use Rattle.models.specs.Kind.{typeAndStructure, typeNumber, structure-small}
-use Rattle.models.specs.Listings.{numbersOf, StartOf, Known, list-numbers}
-use Rattle.models.specs.Numbers.{valuesAt, InForm, number-passes, number-ends, NextVoxel, voxel-passes, voxels-end}
+use Rattle.marks.specs.Apart.{Marking}
+use Rattle.marks.specs.Laws.Apart.{all-stay, marking-start, marking-not, marking-none, marking-apart, marking-one}
+use Rattle.models.specs.Kind.{typeAndStructure, typeNumber}
+use Rattle.models.specs.Laws.Kind.{structure-small}
+use Rattle.models.specs.Listings.{numbersOf, StartOf, Known}
+use Rattle.models.specs.Laws.ListingSteps.{list-numbers}
+use Rattle.models.specs.Numbers.{valuesAt, InForm, NextVoxel}
+use Rattle.models.specs.Laws.Numbers.{number-passes, number-ends, voxel-passes, voxels-end}
 use Rattle.models.specs.Verdicts.{verdictBy, verticesVerdict, voxelsVerdict}
 use Rattle.models.specs.Laws.Listings.{judge-stands, judge-none, judge-form, judge-voxels, judge-vertices}
 use Rattle.models.specs.Laws.Verdicts.{Vertices, vertices-start, vertices-done, vertices-bad, vertices-less, vertices-on}

@@ -13,15 +13,18 @@ use Rattle.lists.specs.Ranges.{tiling}
 use Rattle.nodes.specs.Places.{the}
 use Rattle.cifti.specs.Maps.{Voxel, Model, modelOf, mapOf, vertexNumbers, voxelsOf, sameVoxel}
 use Rattle.cifti.specs.Conditions.{repeats}
-use Rattle.marks.specs.Apart.{Marking, marking-start, marking-apart, marking-list}
+use Rattle.marks.specs.Apart.{Marking}
+use Rattle.marks.specs.Laws.Apart.{marking-start, marking-apart, marking-list}
 use Rattle.maps.specs.declared.survey.Seen.{Seen}
-use Rattle.models.specs.Held.{Holding, modelAt, modelsAt, held-models}
+use Rattle.models.specs.Held.{Holding, modelAt, modelsAt}
+use Rattle.models.specs.Laws.Held.{held-models}
 use Rattle.models.specs.Judged.{ListsTold}
 use Rattle.models.specs.Ranges.{rangesOf}
-use Rattle.models.specs.Judging as J
-use Rattle.models.specs.Judging.{ahead, ahead-all, ahead-one, ahead-none, judging-start, judging-out, judging-fine, judging-place}
-use Rattle.models.specs.Judging.{judging-known, judging-uneven, judging-on, Listable, rule-ranged, rule-volume, rule-holding}
-use Rattle.models.specs.Judging.{rule-untiled, rule-lists}
+use Rattle.models.specs.Laws.Judging as J
+use Rattle.models.specs.Laws.Judging.{ahead, ahead-all, ahead-one, ahead-none, judging-start, judging-out, judging-fine, judging-place}
+use Rattle.models.specs.Judging.{Listable}
+use Rattle.models.specs.Laws.Judging.{judging-known, judging-uneven, judging-on, rule-ranged, rule-volume, rule-holding}
+use Rattle.models.specs.Laws.Judging.{rule-untiled, rule-lists}
 use Rattle.models.specs.Listings.{Known}
 use Rattle.models.specs.Verdicts.{verdictBy, listsVerdict, volumeFrom}
 use Rattle.models.specs.declared.gather.Models.{Models}

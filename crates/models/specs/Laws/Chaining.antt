@@ -11,8 +11,9 @@ use lib.ListN.{getD}
 use borrow.Author.Needs.{needs}
 use borrow.Author.Tests.{eqb-true, lt-ltb, le-ltb, eqb-false}
 use Rattle.lists.specs.Lists.{countUp, table, total}
-use Rattle.lists.specs.Ranges.{Range, sumOf, tiling, beginsAt, Chain, start, on, Counting, counting-up, chain-through, chain-past}
-use Rattle.lists.specs.Ranges.{chain-stops}
+use Rattle.lists.specs.Ranges.{Range, sumOf, tiling, beginsAt}
+use Rattle.lists.specs.Laws.Ranges.{Chain, start, on, Counting, counting-up, chain-through, chain-past}
+use Rattle.lists.specs.Laws.Ranges.{chain-stops}
 use Rattle.models.specs.Gathered.{Sized}
 use Rattle.models.specs.Ranges.{rangeOf, rangesOf, rangeIf, Ranged}
 use Rattle.models.specs.Laws.Ranges.{range-size}

@@ -20,7 +20,8 @@ use Rattle.grammar.specs.Document.{Element}
 use Rattle.grammar.specs.Look.{attr, children}
 use Rattle.nodes.specs.Places.{the}
 use Rattle.nodes.specs.Children.{first, next}
-use Rattle.nodes.specs.Names.{named, name-is-law}
+use Rattle.nodes.specs.Names.{named}
+use Rattle.nodes.specs.Laws.Names.{name-is-law}
 use Rattle.nodes.specs.Laws.Along.{Along, along-start, along-done, along-stands, along-here, along-less, along-next}
 use Rattle.nodes.specs.declared.Kid.{Kid}
 use Rattle.nodes.specs.declared.Kid.the-variants.{Child, Done}
@@ -28,9 +29,12 @@ use Rattle.cifti.specs.Maps.{Model, modelOf, mapOf}
 use Rattle.cifti.specs.Conditions.{alike}
 use Rattle.maps.specs.Laws.Good.{AllGood, good-head, good-tail}
 use Rattle.maps.specs.Laws.Kinds.{brainRows, good-model, brain-children, model-facts}
-use Rattle.maps.specs.Fields.{numberSeen, word-at, number-seen}
-use Rattle.models.specs.Brain.{BrainAt, map-models, isModel, models-are}
-use Rattle.models.specs.Kind.{typeAndStructure, ModelAt, alike-number, structure-small, kind-small}
+use Rattle.maps.specs.Fields.{numberSeen}
+use Rattle.maps.specs.Laws.Fields.{word-at, number-seen}
+use Rattle.models.specs.Brain.{BrainAt}
+use Rattle.models.specs.Laws.Brain.{map-models, isModel, models-are}
+use Rattle.models.specs.Kind.{typeAndStructure, ModelAt}
+use Rattle.models.specs.Laws.Kind.{alike-number, structure-small, kind-small}
 use Rattle.models.specs.Gathered.{Holds, HoldsAt, gathered, Sized, Gathers, Room, offsetSeen, lengthSeen, withModel}
 use Rattle.models.specs.declared.gather.Models.{Models}
 

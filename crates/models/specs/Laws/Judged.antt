@@ -21,10 +21,12 @@ use Rattle.cifti.specs.Conditions as C
 use Rattle.cifti.specs.Conditions.{_when_, modelsShare, rangesWrong, numbersOutside, repeats, locationTwice}
 use Rattle.maps.specs.Survey.{Noted}
 use Rattle.maps.specs.Ready.{Ready, mapsAt}
-use Rattle.maps.specs.Over.{Over, over-start, over-done, over-place, over-note, over-next, noteAt, entry-same, mapped-long}
+use Rattle.maps.specs.Over.{noteAt}
+use Rattle.maps.specs.Laws.Over.{Over, over-start, over-done, over-place, over-note, over-next, entry-same, mapped-long}
 use Rattle.maps.specs.declared.survey.MapNote.{MapNote}
 use Rattle.maps.specs.declared.survey.Maps.{Maps}
-use Rattle.models.specs.Brain.{BrainAt, noted-kind, noted-brain, noted-plain}
+use Rattle.models.specs.Brain.{BrainAt}
+use Rattle.models.specs.Laws.Brain.{noted-kind, noted-brain, noted-plain}
 use Rattle.models.specs.Fine.{Fine}
 use Rattle.models.specs.Gathered.{Gathers}
 use Rattle.models.specs.Judged.{modelRows, mapRows, modelRefusal, mapRefusal, modelsHeld, no-models, HeldFor, HeldAll, Rules}

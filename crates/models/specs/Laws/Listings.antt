@@ -13,19 +13,24 @@ use Rattle.grammar.specs.Document.{Element}
 use Rattle.grammar.specs.Look.{attr, textOf}
 use Rattle.numbers.specs.Numbers.{value, words, values, parts, filled}
 use Rattle.nodes.specs.Places.{Stands, the}
-use Rattle.nodes.specs.Texts.{text-from, from-none}
+use Rattle.nodes.specs.Texts.{text-from}
+use Rattle.nodes.specs.Laws.TextSteps.{from-none}
 use Rattle.nodes.specs.declared.Found.{Found}
 use Rattle.nodes.specs.declared.Found.the-variants.{At, Nothing}
 use Rattle.cifti.specs.Maps.{Voxel, Listed, vertices, voxels, modelOf, voxelsOf}
 use Rattle.cifti.specs.Conditions.{listsCount, beyond}
-use Rattle.maps.specs.Laws.Kinds.{GoodModel, model-facts}
-use Rattle.maps.specs.Fields.{attributeWord, numberSeen, word-at, number-seen}
-use Rattle.models.specs.Brain.{whole-within}
-use Rattle.models.specs.Kind.{typeAndStructure, typeNumber, structure-small}
+use Rattle.maps.specs.Laws.Kinds.{model-facts}
+use Rattle.maps.specs.Kinds.{GoodModel}
+use Rattle.maps.specs.Fields.{attributeWord, numberSeen}
+use Rattle.maps.specs.Laws.Fields.{word-at, number-seen}
+use Rattle.models.specs.Laws.Brain.{whole-within}
+use Rattle.models.specs.Kind.{typeAndStructure, typeNumber}
+use Rattle.models.specs.Laws.Kind.{structure-small}
 use Rattle.models.specs.Numbers.{valuesAt, InForm}
 use Rattle.models.specs.Verdicts.{verdictBy, listVerdict, verticesVerdict, voxelsVerdict}
-use Rattle.models.specs.Listings.{Lists, lists-vertices, lists-voxels, model-lists, numbersOf, ListAt, StartOf, Known, list-none}
-use Rattle.models.specs.Listings.{list-there, list-form, list-numbers, listed-is}
+use Rattle.models.specs.Listings.{numbersOf, ListAt, StartOf, Known}
+use Rattle.models.specs.Laws.ListingSteps.{Lists, lists-vertices, lists-voxels, model-lists, list-none}
+use Rattle.models.specs.Laws.ListingSteps.{list-there, list-form, list-numbers, listed-is}
 
 pub ruleset starting = (list-none, list-there, needs)
 

@@ -19,11 +19,12 @@ use Rattle.nodes.specs.declared.Found.the-variants.{At, Nothing}
 use Rattle.cifti.specs.Words.{mostLength}
 use Rattle.cifti.specs.Rows.{volume}
 use Rattle.cifti.specs.Maps.{Voxel, voxel, sizesBy, sizesOf, mapOf}
-use Rattle.maps.specs.Laws.Good.{Good, AllGood, none-left, one-good}
+use Rattle.maps.specs.Laws.Good.{AllGood, none-left, one-good}
+use Rattle.maps.specs.Good.{Good}
 use Rattle.maps.specs.Laws.Kinds.{brainRows, brain-children, good-volume, volume-sizes}
 use Rattle.maps.specs.Sums.{isVolume, VolumeLeft}
 use Rattle.maps.specs.declared.survey.Seen.{Seen}
-use Rattle.maps.specs.Fields.{word-at, found-value, found-none}
+use Rattle.maps.specs.Laws.Fields.{word-at, found-value, found-none}
 use Rattle.models.specs.Brain.{BrainAt}
 use Rattle.numbers.specs.Answers.{threeIn, lengthsOf}
 use Rattle.numbers.specs.declared.Lengths.{Lengths}

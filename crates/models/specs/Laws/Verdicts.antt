@@ -10,12 +10,14 @@ use borrow.Author.Needs.{needs}
 use borrow.Author.Tests.{eqb-true, eq-eqb, ne-eqb, eqb-false, not-true, not-false}
 use Rattle.lists.specs.Laws.Booleans.{or-assoc, or-false}
 use Rattle.lists.specs.Lists.{any}
-use Rattle.nodes.specs.Texts.{left, left-most}
+use Rattle.nodes.specs.Texts.{left}
+use Rattle.nodes.specs.Laws.TextSteps.{left-most}
 use Rattle.numbers.specs.Answers.{nextNumber}
 use Rattle.cifti.specs.Maps.{Voxel, voxel, threes}
 use Rattle.cifti.specs.Conditions.{outside}
-use Rattle.models.specs.Numbers.{valuesAt, InForm, Passes, number-passes, number-ends, number-bad, Threes, NextVoxel, Passes3}
-use Rattle.models.specs.Numbers.{voxel-passes, voxels-end, voxels-cut}
+use Rattle.models.specs.Numbers.{valuesAt, InForm, Passes, Threes, NextVoxel, Passes3}
+use Rattle.models.specs.Laws.Numbers.{number-passes, number-ends, number-bad}
+use Rattle.models.specs.Laws.Numbers.{voxel-passes, voxels-end, voxels-cut}
 use Rattle.numbers.specs.declared.Next.{Next}
 use Rattle.numbers.specs.declared.Next.the-variants.{Number, End, Bad}
 use Rattle.models.specs.declared.listing.Triple.{Triple}

@@ -1,6 +1,6 @@
 -- THE FRONT AS CODE ANSWERS IT: the body that a walk takes is the first of code 32, and it lies inside the file. Assumes nothing.
 use mathlib.Core.Path.{_≡_, refl, sym, ap, _∙_, subst}
-use mathlib.Core.List.{List, [], _∷_, _++_, append-assoc}
+use mathlib.Core.List.{List, [], _∷_, _++_}
 use mathlib.Core.Option.{Option, some}
 use mathlib.Core.Option
 use mathlib.Core.Bool.{Bool, true, false, _&&_, _||_, not, cond}
@@ -12,9 +12,9 @@ use mir.Syntax.{w8}
 use mir.Val.{Fits}
 use lib.ListN.{length, getD, take, drop, length-append}
 use lib.Seq.{slice, drop-drop, drop-at, take-append-seam, length-slice}
-use borrow.Author.Tests.{eqb-true, eqb-false, leb-true, ltb-true, lt-ltb, le-ltb, le-leb, lt-leb, eq-eqb, ne-eqb, not-false}
+use borrow.Author.Tests.{leb-true, ltb-true, lt-ltb, le-ltb, le-leb, lt-leb, eq-eqb, ne-eqb, not-false}
 use Rattle.lists.specs.Lists.{isSome, allBelow}
-use Rattle.lists.specs.Laws.Booleans.{and-left, and-right, or-right, both-ways, clash, never-some}
+use Rattle.lists.specs.Laws.Booleans.{and-left, and-right, or-right, both-ways, never-some}
 use Rattle.lists.specs.Refusals.{_when_, first, positive}
 use Rattle.lists.specs.Laws.Refusals.{given-none, row-fails}
 use Rattle.records.specs.Bytes.{Below}
@@ -25,7 +25,8 @@ use Rattle.nifti.specs.File.{magicAt, offsetStands, frontStands, noFront
 use Rattle.nifti.specs.File.{lengthCount, lengthAt, refusedFront, acceptedFront, frontBy, frontTo, Fronts, FrontPart, partOf}
 use Rattle.nifti.specs.Model.{notListed, cut, cutTo, taken, takenBy, listIn, frontOf}
 use Rattle.nifti.specs.Laws.File.{fronts-by, listing}
-use Rattle.nifti.specs.Laws.Header.{Told, acceptedWith, count-few}
+use Rattle.nifti.specs.Laws.Header.{count-few}
+use Rattle.nifti.specs.Header.{Told, acceptedWith}
 use Rattle.nifti.specs.Laws.Fields.{least-signed, signed-pos}
 use Rattle.nifti.specs.Laws.Lists.{written-size, behind-eight}
 use Rattle.nifti.specs.Laws.Walk.{take-within}
@@ -33,18 +34,7 @@ use Rattle.nifti.specs.Laws.Zeros.{kept-few}
 use Rattle.nifti.specs.declared.Order.{Order}
 use Rattle.nifti.specs.declared.Taken.{Taken}
 use Rattle.nifti.specs.declared.Front.{Front}
-
--- ---- What code asks for.
-
--- a file whose header stands, and its order
-pub record Standing (file : List ℕ) (o : Order) : Type 0 where
-  pub told : Told file o
-  pub stands : frontStands file ≡ true
-
--- and a part inside it
-pub record Bodied (file : List ℕ) (o : Order) (start size : ℕ) : Type 0 where
-  pub told : Told file o
-  pub inside : start + size ≤ length file
+use Rattle.nifti.specs.Front.{Standing, Bodied}
 
 pub told-so : {file : List ℕ} {o : Order} → 544 ≤ length file → o ≡ orderOf file → Told file o
 told-so h e = record { long = h; is = e }

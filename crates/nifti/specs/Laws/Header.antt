@@ -8,42 +8,16 @@ use native.Mathlib.Numerals.{add-one}
 use lib.Dec.{eqb, leb, ltb}
 use lib.ListN.{length, getD, take, drop}
 use lib.Seq.{drop-cons, take-add, drop-drop}
-use borrow.Author.Tests.{lt-ltb, le-ltb, le-leb, lt-leb, eq-eqb, ne-eqb, not-true, not-false}
+use borrow.Author.Tests.{lt-ltb, le-ltb, eq-eqb, ne-eqb, not-true, not-false}
 use Rattle.lists.specs.Lists.{allBelow}
 use Rattle.records.specs.Bytes.{numberWritten, byteWords}
 use Rattle.nifti.specs.Fields.{ordered, numberAt, signed, isNumber, atLeast, natural}
-use Rattle.nifti.specs.Extensions.{withoutZeros}
 use Rattle.nifti.specs.File.{orderOf, dim, offset, sizeStands, magicAt, offsetStands, frontStands, lengthCount, oneAt, lengthStands}
-use Rattle.nifti.specs.File.{dimsStand, lengthAt, frontWith, magic}
+use Rattle.nifti.specs.File.{dimsStand, lengthAt, magic}
 use Rattle.nifti.specs.Laws.Fields.{least-signed, is-bits, natural-signed}
 use Rattle.nifti.specs.declared.Order.{Order}
 use Rattle.nifti.specs.declared.Order.the-variants.{MostFirst, LeastFirst}
-use Rattle.nifti.specs.declared.Front.{Front}
-
--- a file that is long enough, and its order
-pub record Told (file : List ℕ) (o : Order) : Type 0 where
-  pub long : 544 ≤ length file
-  pub is : o ≡ orderOf file
-
--- and a place among the lengths; a number of lengths; a place, and how many lengths there are
-pub record Asked (file : List ℕ) (o : Order) (i : ℕ) : Type 0 where
-  pub told : Told file o
-  pub small : i < 3
-
-pub record Counted (file : List ℕ) (o : Order) (count : ℕ) : Type 0 where
-  pub told : Told file o
-  pub few : count ≤ 3
-
-pub record Looked (file : List ℕ) (o : Order) (count i : ℕ) : Type 0 where
-  pub told : Told file o
-  pub counted : count ≡ lengthCount file
-  pub small : i < 3
-
--- the answer of a file that is not refused, by the place of the body
-unfoldable pub acceptedWith : List ℕ → (start size : ℕ) → Front
-acceptedWith file start size =
-    frontWith 0 (lengthCount file) (lengthAt file 0) (lengthAt file 1) (lengthAt file 2) start
-    (length (withoutZeros (take size (drop start file))))
+use Rattle.nifti.specs.Header.{Told, Asked, Counted, Looked}
 
 -- ---- Four bytes, and eight.
 

@@ -9,18 +9,24 @@ use lib.ListN.{length, drop, length-drop}
 use Rattle.lists.specs.Lists.{all}
 use Rattle.lists.specs.Laws.Booleans.{clash}
 use Rattle.grammar.specs.Bytes.{blank}
-use Rattle.grammar.specs.Read.{Read, fail, got, Reader, span, Ok, failed, good, ok-got}
+use Rattle.grammar.specs.Read.{Read, fail, got, Reader, span}
+use Rattle.grammar.specs.Laws.Read.{Ok, failed, good, ok-got}
 use Rattle.grammar.specs.Parser.{comment-at, data-at, Look, at-close, at-comment, at-data, at-element, at-text, look}
 use Rattle.grammar.specs.Laws.Sound.{comment-sound, data-sound}
-use Rattle.steps.specs.Step.{stepped, at-end, fell, Tails, tails, Went, went}
+use Rattle.steps.specs.Step.{stepped, Went}
+use Rattle.steps.specs.Laws.Step.{at-end, fell, Tails, tails, went}
 use Rattle.steps.specs.declared.Step.{Step}
 use Rattle.steps.specs.declared.Step.the-variants.{To, No}
-use Rattle.nodes.specs.Places.{tail-of, pick}
+use Rattle.nodes.specs.Places.{pick}
+use Rattle.nodes.specs.Laws.Places.{tail-of}
 use Rattle.nodes.specs.Laws.Depth.{comment-eats}
-use Rattle.nodes.specs.Scan.{to-tag, past-tag, tag-from, tag-from-less, tag-at, InTag}
+use Rattle.nodes.specs.Scan.{to-tag, past-tag, tag-from, tag-at, InTag}
+use Rattle.nodes.specs.Laws.Scanned.{tag-from-less}
 use Rattle.nodes.specs.ScanSteps.{tagged}
-use Rattle.nodes.specs.Ahead.{afterGap, past-gap, gap-short, ending, ahead-then, ahead-by, ahead-at, ahead-step, first-by}
-use Rattle.nodes.specs.Ahead.{first-ahead, ahead-in-tag, gap-data, gap-data-eats}
+use Rattle.nodes.specs.Ahead.{afterGap, past-gap, ending, ahead-then, ahead-by, ahead-at, first-by}
+use Rattle.nodes.specs.Laws.AheadSteps.{gap-short, ahead-step}
+use Rattle.nodes.specs.Ahead.{first-ahead, ahead-in-tag, gap-data}
+use Rattle.nodes.specs.Laws.AheadSteps.{gap-data-eats}
 use Rattle.nodes.specs.Laws.AheadElements.{gap-tail}
 use Rattle.nodes.specs.declared.ahead.Ahead.{Ahead}
 use Rattle.nodes.specs.declared.ahead.Ahead.the-variants.{Child, End, Stray}

@@ -15,23 +15,31 @@ use Rattle.grammar.specs.Laws.Facts.{blank-in, no-return}
 use Rattle.grammar.specs.Laws.Tokens.{line-end-other}
 use Rattle.grammar.specs.Grammar
 use Rattle.grammar.specs.Grammar.{Reference}
-use Rattle.grammar.specs.Read.{Read, fail, got, bind, Ok, good, ok-map, span, span-sound, Takes}
+use Rattle.grammar.specs.Read.{Read, fail, got, bind, span}
+use Rattle.grammar.specs.Laws.Read.{Ok, good, ok-map, span-sound, Takes}
 use Rattle.grammar.specs.Parser.{Look, at-close, at-comment, at-data, at-element, at-text, look, comment-at, data-at, reference-at}
 use Rattle.grammar.specs.Laws.Sound.{comment-sound, data-sound, reference-sound}
-use Rattle.steps.specs.Step.{Tails, tails}
-use Rattle.steps.specs.Leaves.{first-byte, span-tails}
+use Rattle.steps.specs.Laws.Step.{Tails, tails}
+use Rattle.steps.specs.Leaves.{first-byte}
+use Rattle.steps.specs.Laws.Leaves.{span-tails}
 use Rattle.steps.specs.Laws.Feeds.{left-by, fed}
-use Rattle.nodes.specs.Places.{Stands, the, Tail, tail-of, tail-more, tail-read, pick}
+use Rattle.nodes.specs.Places.{Stands, the, pick}
+use Rattle.nodes.specs.Laws.Places.{Tail, tail-of, tail-more, tail-read}
 use Rattle.nodes.specs.Laws.Depth.{comment-eats, data-eats}
-use Rattle.nodes.specs.Scan.{to-tag, to-tag-tail, past-tag, past-tag-less, Less, tag-at, tag-less, scan-by, scan, scan-step}
+use Rattle.nodes.specs.Scan.{to-tag, past-tag, tag-at, scan-by, scan}
+use Rattle.nodes.specs.Laws.Scanned.{to-tag-tail, past-tag-less, Less, tag-less, scan-step}
 use Rattle.nodes.specs.Scan.{leave-at, passed, skip-at}
-use Rattle.nodes.specs.Skip.{tag-here, no-text, no-text-comment, no-text-data, no-text-element, scan-element, skip-element}
-use Rattle.nodes.specs.Children.{kid-then, kid-by, kid-at, kid-step, first, first-by, left}
+use Rattle.nodes.specs.Laws.Skipping.{tag-here, no-text, no-text-comment, no-text-data, no-text-element, scan-element, skip-element}
+use Rattle.nodes.specs.Children.{kid-then, kid-by, kid-at, first, first-by}
+use Rattle.nodes.specs.Laws.Children.{kid-step, left}
 use Rattle.nodes.specs.ElementEnd.{Behind}
-use Rattle.nodes.specs.TextBytes.{outside, Move, referring, past, bare-char, step-by, step, say, saysFrom, says, says-step, plain}
-use Rattle.nodes.specs.TextBytes.{returned, child-says, marked-says}
-use Rattle.nodes.specs.Texts.{saysAt-tail, inside-by, inside, text-from, text-of}
-use Rattle.nodes.specs.Ahead.{afterGap, past-gap, gap-short, gap-data, ending, ahead-then, ahead-by, ahead-at, ahead-step}
+use Rattle.nodes.specs.TextBytes.{outside, Move, referring, past, bare-char, step-by, step, say, saysFrom}
+use Rattle.nodes.specs.Laws.TextBytes.{says, says-step, plain}
+use Rattle.nodes.specs.Laws.TextBytes.{returned, child-says, marked-says}
+use Rattle.nodes.specs.Texts.{inside-by, inside, text-from, text-of}
+use Rattle.nodes.specs.Laws.TextSteps.{saysAt-tail}
+use Rattle.nodes.specs.Ahead.{afterGap, past-gap, gap-data, ending, ahead-then, ahead-by, ahead-at}
+use Rattle.nodes.specs.Laws.AheadSteps.{gap-short, ahead-step}
 use Rattle.nodes.specs.Ahead.{first-ahead}
 use Rattle.nodes.specs.Ahead as Ahead-of
 use Rattle.nodes.specs.declared.Kid.{Kid}

@@ -13,10 +13,12 @@ use Rattle.grammar.specs.Look.{contentsOf, elements}
 use Rattle.grammar.specs.Read.{Read}
 use Rattle.nodes.specs.Places.{Stands, the}
 use Rattle.nodes.specs.Scan.{skip-at, leave-at}
-use Rattle.nodes.specs.Skip.{skip-element}
-use Rattle.nodes.specs.Children.{first, next, left, Siblings, no-more, one-more, children}
-use Rattle.nodes.specs.ElementEnd.{Behind, next-behind}
-use Rattle.nodes.specs.TextBytes.{says}
+use Rattle.nodes.specs.Laws.Skipping.{skip-element}
+use Rattle.nodes.specs.Children.{first, next}
+use Rattle.nodes.specs.Laws.Children.{left, Siblings, no-more, one-more, children}
+use Rattle.nodes.specs.ElementEnd.{Behind}
+use Rattle.nodes.specs.Laws.ElementEnd.{next-behind}
+use Rattle.nodes.specs.Laws.TextBytes.{says}
 use Rattle.nodes.specs.Texts.{text-of}
 use Rattle.nodes.specs.Ahead.{ahead-at, first-ahead}
 use Rattle.nodes.specs.Laws.AheadElements.{Facing, facing, facing-first, Met, Over, facing-child, facing-end, facing-stray}

@@ -7,13 +7,16 @@ use mathlib.Core.Bool.{Bool, true, false}
 use borrow.Author.Needs.{needs}
 use lib.ListN.{length, drop, length-drop}
 use Rattle.lists.specs.Laws.Booleans.{clash}
-use Rattle.grammar.specs.Read.{Read, fail, got, bind, byte, ok-got}
+use Rattle.grammar.specs.Read.{Read, fail, got, bind, byte}
+use Rattle.grammar.specs.Laws.Read.{ok-got}
 use Rattle.grammar.specs.Parser.{name-at, gap-at, equals-at, value-at, ends, closing, same}
 use Rattle.grammar.specs.Laws.Sound.{attribute-sound}
-use Rattle.steps.specs.Step.{stepped, at-end, fell, Went, went}
-use Rattle.steps.specs.Leaves.{name-tails, value-tails}
+use Rattle.steps.specs.Step.{stepped, Went}
+use Rattle.steps.specs.Laws.Step.{at-end, fell, went}
+use Rattle.steps.specs.Laws.Leaves.{name-tails, value-tails}
 use Rattle.steps.specs.Noted.{part}
 use Rattle.steps.specs.Keys as tokens-keys
+use Rattle.steps.specs.Laws.Keys as laws-of-tokens-keys
 use Rattle.steps.specs.Keys.{keyed, Keyed}
 use Rattle.steps.specs.declared.Step.{Step}
 use Rattle.steps.specs.declared.Step.the-variants.{To, No}
@@ -21,7 +24,8 @@ use Rattle.steps.specs.declared.attributes.Key.{Key}
 use Rattle.steps.specs.declared.attributes.Key.the-variants as key-is
 use Rattle.nodes.specs.Places.{pick}
 use Rattle.nodes.specs.Attributes as node-keys
-use Rattle.nodes.specs.Attributes.{key-bytes, key, keys-at, keys-by, keys-then, keys-step, key-eats, value-keeps, keys, keys-in}
+use Rattle.nodes.specs.Attributes.{key-bytes, key, keys-at, keys-by, keys-then, keys, keys-in}
+use Rattle.nodes.specs.Laws.AttributesSteps.{keys-step, key-eats, value-keeps}
 use Rattle.nodes.specs.Attributes.{place-in, place}
 use Rattle.nodes.specs.declared.Found.{Found}
 use Rattle.nodes.specs.declared.Found.the-variants.{At, Nothing}
@@ -57,12 +61,12 @@ module _ (text : List ℕ) (i : ℕ) {b : Bool} (eb : b ≡ ends closing (drop i
   module _ (on : b ≡ false) {k : Key} (ek : k ≡ keyed (length text) (tokens-keys.key-at (drop i text))) where
     pub keys-none : k ≡ key-is.No → keys-at (length text) (drop i text) ≡ []
     unfolding keys-by
-    keys-none z = let m : key-bytes (drop i text) ≡ fail = missed (drop i text) (tokens-keys.key-missed text i ek z) in
+    keys-none z = let m : key-bytes (drop i text) ≡ fail = missed (drop i text) (laws-of-tokens-keys.key-missed text i ek z) in
         keys-step (length text) (drop i text) ∙ rw (sym eb ∙ on, m)
 
     module _ {from to end : ℕ} (z : k ≡ key-is.Is from to end) where
       found : Keyed text i from to end
-      found = tokens-keys.key-found text i ek z
+      found = laws-of-tokens-keys.key-found text i ek z
 
       named : part from to text ≡ found .name .value
       named = part-is (found .name) (found .gap .inside)
@@ -96,7 +100,7 @@ module _ (text : List ℕ) (i : ℕ) {b : Bool} (eb : b ≡ ends closing (drop i
           pub keys-tag : tag-from 0 (drop i text) ≡ tag-from 0 (drop j text)
           keys-tag =
               let n : tokens-keys.Named text i from to j = record { middle = end; key = found; value = valued } in
-              let h = ok-got (rw (tokens-keys.named-reads-it text i from to j n) at (attribute-sound (drop i text))) in
+              let h = ok-got (rw (laws-of-tokens-keys.named-reads-it text i from to j n) at (attribute-sound (drop i text))) in
               ap (tag-from 0) (h .1) ∙ tag-attribute (h .2) (drop j text)
 
           pub keys-fall : length text - j < length text - i
@@ -146,11 +150,11 @@ placing-less text i eb on ek z ex w = keys-fall text i eb on ek z ex w
 
 pub key-ahead : (text : List ℕ) (i : ℕ) {k : Key} → k ≡ keyed (length text) (tokens-keys.key-at (drop i text)) → {from to end : ℕ}
     → k ≡ key-is.Is from to end → from ≤ to
-key-ahead text i ek z = let f = tokens-keys.key-found text i ek z in f .name .ahead (f .gap .inside)
+key-ahead text i ek z = let f = laws-of-tokens-keys.key-found text i ek z in f .name .ahead (f .gap .inside)
 
 pub key-inside : (text : List ℕ) (i : ℕ) {k : Key} → k ≡ keyed (length text) (tokens-keys.key-at (drop i text)) → {from to end : ℕ}
     → k ≡ key-is.Is from to end → to ≤ length text
-key-inside text i ek z = tokens-keys.key-found text i ek z .name .inside
+key-inside text i ek z = laws-of-tokens-keys.key-found text i ek z .name .inside
 
 pub ruleset placing = (
   placing-start,

@@ -15,32 +15,26 @@ use Rattle.grammar.specs.Bytes.{ascii, blank, begins, parted}
 use Rattle.grammar.specs.Characters.{utf8-1, lead1}
 use Rattle.grammar.specs.Document.{together}
 use Rattle.grammar.specs.Grammar
-use Rattle.grammar.specs.Grammar.{DataCharacter, LineEnd}
-use Rattle.grammar.specs.Read.{Read, fail, got, Reader, bind, _>>=_, _>>_, mark, span, all-of, many-step, Ok, good, Takes}
+use Rattle.grammar.specs.Grammar.{DataCharacter}
+use Rattle.grammar.specs.Read.{Read, fail, got, bind, _>>=_, _>>_, mark, span, all-of, many-step}
+use Rattle.grammar.specs.Laws.Read.{Ok, good, Takes}
 use Rattle.grammar.specs.Parser.{data-character-at, data-at}
 use Rattle.grammar.specs.Laws.Facts.{blank-in}
 use Rattle.grammar.specs.Laws.Sound.{data-character-sound}
 use Rattle.grammar.specs.Laws.Data.{data-character-reads}
-use Rattle.grammar.specs.Unfuelled.{all-of-step}
-use Rattle.steps.specs.Leaves.{data-character-eats}
+use Rattle.grammar.specs.Laws.Unfuelled.{all-of-step}
+use Rattle.steps.specs.Laws.Leaves.{data-character-eats}
 use Rattle.steps.specs.Laws.Until.{bind-assoc, bind-each}
 use Rattle.steps.specs.Laws.Feeds.{fed, left-by, feed-got}
 use Rattle.steps.specs.Laws.Characters.{mark-fails}
 use Rattle.steps.specs.Laws.Data.{inner-at, data-return, data-nil}
 use Rattle.steps.specs.Step.{stepped}
-use Rattle.steps.specs.Leaves.{mark-tails, span-tails}
+use Rattle.steps.specs.Laws.Leaves.{mark-tails, span-tails}
 use Rattle.steps.specs.Laws.Parsing.{stuck, follows}
 use Rattle.steps.specs.declared.Step.{Step}
 use Rattle.steps.specs.declared.Step.the-variants.{To, No}
-use Rattle.nodes.specs.Places.{pick}
 use Rattle.nodes.specs.Ahead.{gap-data}
-
--- behind the mark
-unfoldable pub blanks-at : List ℕ → Read (Unit {0})
-blanks-at s = bind (span blank s) (λ _ r. mark (ascii "]]>") r)
-
-unfoldable pub blank-data-at : Reader (Unit {0})
-blank-data-at s = bind (mark (ascii "<![CDATA[") s) (λ _ r. blanks-at r)
+use Rattle.nodes.specs.BlankData.{blanks-at, blank-data-at}
 
 -- the characters of CDATA, one by one
 inner-stop : (s : List ℕ) → begins (ascii "]]>") s ≡ true → inner-at s ≡ bind (mark (ascii "]]>") s) (λ _ r. got [] r)

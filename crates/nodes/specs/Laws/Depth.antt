@@ -8,14 +8,16 @@ use lib.ListN.{length, length-append}
 use Rattle.lists.specs.Laws.Booleans.{clash}
 use Rattle.grammar.specs.Bytes.{ascii, blank, begins}
 use Rattle.grammar.specs.Document.{Element, Contents}
-use Rattle.grammar.specs.Read.{Read, fail, got, Reader, bind, seen, alt, Ok, failed, good, mark-sound, span-sound, test-sound}
+use Rattle.grammar.specs.Read.{Read, fail, got, Reader, bind, seen, alt}
+use Rattle.grammar.specs.Laws.Read.{Ok, failed, good, mark-sound, span-sound, test-sound}
 use Rattle.grammar.specs.Parser.{Look, at-close, at-comment, at-data, at-element, at-text, look, comment-at, data-at, empty-at, full-at}
 use Rattle.grammar.specs.Parser.{element-at, contents-by}
 use Rattle.grammar.specs.Laws.Sound.{name-sound, attributes-sound, comment-sound, data-sound, text-sound}
 use Rattle.grammar.specs.Laws.Tokens.{text-long}
 use Rattle.grammar.specs.Laws.Complete.{comment-long, data-long}
-use Rattle.grammar.specs.Unfuelled.{less, contents, contents-step}
-pub use Rattle.steps.specs.Row.{element-tails, element-eats}
+use Rattle.grammar.specs.Unfuelled.{contents}
+use Rattle.grammar.specs.Laws.Unfuelled.{less, contents-step}
+pub use Rattle.steps.specs.Laws.Row.{element-tails, element-eats}
 
 pub comment-eats : (s : List ℕ) → Ok (λ _ r. length r < length s) (comment-at s)
 comment-eats s = less (λ _ w h. comment-long h) (comment-sound s)

@@ -11,9 +11,10 @@ use lib.ListN.{length, drop, getD, List·getD-eq-default}
 use Rattle.lists.specs.Laws.Booleans.{clash}
 use Rattle.grammar.specs.Bytes.{begins}
 use Rattle.grammar.specs.Parser.{same}
-use Rattle.steps.specs.Step.{at-byte, at-end}
+use Rattle.steps.specs.Laws.Step.{at-byte, at-end}
 use Rattle.nodes.specs.Places.{pick}
-use Rattle.nodes.specs.Values.{decoded-at, value-there, tells, decoded-byte, decoded-end, value-begins}
+use Rattle.nodes.specs.Values.{decoded-at, value-there, tells}
+use Rattle.nodes.specs.Laws.NextBytes.{decoded-byte, decoded-end, value-begins}
 use Rattle.nodes.specs.Fronts.{behind-quote, met, behind-front, begins-at}
 use Rattle.nodes.specs.declared.Found.{Found}
 use Rattle.nodes.specs.declared.Found.the-variants.{At, Nothing}

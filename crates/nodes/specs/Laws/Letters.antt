@@ -15,7 +15,8 @@ use Rattle.grammar.specs.Laws.Tokens.{reference-other, line-end-other}
 use Rattle.steps.specs.Leaves.{first-byte}
 use Rattle.steps.specs.Laws.Feeds.{fed, feed-got, return-read}
 use Rattle.nodes.specs.TextBytes.{outside, step, step-by, bare-char, referring, char}
-use Rattle.nodes.specs.Texts.{rest-outside, place-of, text-step, as-text}
+use Rattle.nodes.specs.Texts.{place-of, text-step, as-text}
+use Rattle.nodes.specs.Laws.TextSteps.{rest-outside}
 use Rattle.nodes.specs.declared.Text.the-variants.{Letter}
 
 plain-step : (a : ℕ) (s : List ℕ) → special a ≡ false → eqb a 13 ≡ false → step (outside (a ∷ s)) ≡ char a (outside s)

@@ -1,22 +1,56 @@
 -- Names, at a position of the text: one law for each way through the code.
-use mathlib.Core.Path.{_≡_, refl, ap, sym, _∙_}
-use mathlib.Core.List.{List, _++_}
-use Prim.Native.Nat.{ℕ, _+_, _-_, _≤_, _<_}
-use native.Mathlib.Omega.{arith}
+use mathlib.Core.Path.{_≡_}
+use mathlib.Core.List.{List, [], _∷_}
+use Prim.Native.Nat.{ℕ}
+use Prim.Native.String.{String}
 use mathlib.Core.Bool.{Bool, false}
+use lib.ListN.{drop}
+use Rattle.grammar.specs.Bytes.{ascii}
+use Rattle.grammar.specs.Document.{Attribute, Element}
+use Rattle.grammar.specs.Look.{nameOf, attributesOf, is}
+use Rattle.grammar.specs.Parser.{name-at, same}
+use Rattle.nodes.specs.Places.{the, Stands}
+use Rattle.nodes.specs.Laws.ReadSteps.{Ending, bare, filled, spelled}
+use Rattle.nodes.specs.Names.{named-in, named-by, named}
+use mathlib.Core.Path.{refl, ap, sym, _∙_}
+use mathlib.Core.List.{_++_}
+use Prim.Native.Nat.{_+_, _-_, _≤_, _<_}
+use native.Mathlib.Omega.{arith}
 use borrow.Author.Needs.{needs}
 use borrow.Author.Tests.{eq-eqb, ne-eqb}
-use lib.ListN.{length, drop, getD, length-append, length-drop}
+use lib.ListN.{length, getD, length-append, length-drop}
 use lib.Seq.{take-at}
-use Rattle.grammar.specs.Read.{ok-got}
-use Rattle.grammar.specs.Parser.{name-at, same}
+use Rattle.grammar.specs.Laws.Read.{ok-got}
 use Rattle.grammar.specs.Laws.Sound.{name-sound}
-use Rattle.steps.specs.Step.{stepped, at-byte, at-end, fell, Went, went}
-use Rattle.steps.specs.Leaves.{name-tails}
+use Rattle.steps.specs.Step.{stepped, Went}
+use Rattle.steps.specs.Laws.Step.{at-byte, at-end, fell, went}
+use Rattle.steps.specs.Laws.Leaves.{name-tails}
 use Rattle.steps.specs.Noted.{part}
 use Rattle.steps.specs.declared.Step.{Step}
 use Rattle.steps.specs.declared.Step.the-variants.{To, No}
-use Rattle.nodes.specs.Names.{named, named-by, named-in}
+
+-- what an element is made of
+pub ending-name : {n : List ℕ} {l : List Attribute} {s : List ℕ} {e : Element} {r : List ℕ} → Ending n l s e r → nameOf e ≡ n
+unfolding nameOf
+ending-name (bare _ q) = rw q
+ending-name (filled _ _ _ q) = rw q
+
+pub ending-attributes : {n : List ℕ} {l : List Attribute} {s : List ℕ} {e : Element} {r : List ℕ} → Ending n l s e r → attributesOf e ≡ l
+unfolding attributesOf
+ending-attributes (bare _ q) = rw q
+ending-attributes (filled _ _ _ q) = rw q
+
+-- THE LAW OF NAMES
+pub name-law : {text : List ℕ} {at : ℕ} (w : List ℕ) → Stands text at → named text at w ≡ same (nameOf (the text at)) w
+unfolding named named-by named-in
+name-law {text} {at} w st =
+    let p = spelled (drop at text) (the text at) (st .rest) (st .reads) in
+    rw (p .opens, p .names, ending-name (p .ending))
+
+-- for a word given in letters
+pub name-is-law : {text : List ℕ} {at : ℕ} (s : String) → Stands text at → named text at (ascii s) ≡ is s (nameOf (the text at))
+unfolding is
+name-is-law s st = name-law (ascii s) st
 
 -- the name that was read
 pub part-is : {text : List ℕ} {at to : ℕ} (w : Went name-at text at to) → at ≤ length text → part at to text ≡ w .value

@@ -8,16 +8,19 @@ use lib.ListN.{length, length-append}
 use Rattle.grammar.specs.Bytes.{ascii, blank, begins, parted}
 use Rattle.grammar.specs.Document.{Attribute, Element, element, Contents, nothing, child, merged}
 use Rattle.grammar.specs.Grammar.{TextCharacter}
-use Rattle.grammar.specs.Read.{Read, fail, got, Reader, bind, test, mark, span, seen, before, alt, ok-got, mark-complete, mark-sound}
-use Rattle.grammar.specs.Read.{test-sound}
+use Rattle.grammar.specs.Read.{Read, fail, got, Reader, bind, test, mark, span, seen, before, alt}
+use Rattle.grammar.specs.Laws.Read.{ok-got, mark-complete, mark-sound}
+use Rattle.grammar.specs.Laws.Read.{test-sound}
 use Rattle.grammar.specs.Parser.{Look, at-close, at-comment, at-data, at-element, at-text, look, comment-at, data-at, text-at, name-at}
 use Rattle.grammar.specs.Parser.{attributes-at, empty-at, full-at, element-at, contents-by}
 use Rattle.grammar.specs.Laws.Sound.{text-whole}
 use Rattle.grammar.specs.Laws.Tokens.{text-long}
-use Rattle.grammar.specs.Unfuelled.{contents, contents-step}
+use Rattle.grammar.specs.Unfuelled.{contents}
+use Rattle.grammar.specs.Laws.Unfuelled.{contents-step}
 use Rattle.steps.specs.Laws.Until.{bind-assoc, bind-each}
 use Rattle.steps.specs.Tags.{close-at}
-use Rattle.nodes.specs.Places.{element₁₆, unbind}
+use Rattle.nodes.specs.Places.{element₁₆}
+use Rattle.nodes.specs.Laws.Places.{unbind}
 use Rattle.nodes.specs.Laws.Depth.{contents-deeper, element-eats, comment-eats, data-eats}
 
 full-split : (f : Reader Contents) (n : List ℕ) (l : List Attribute) (s : List ℕ)

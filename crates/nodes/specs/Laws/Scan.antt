@@ -10,7 +10,8 @@ use borrow.Author.Tests.{eq-eqb, ne-eqb, eqb-false, not-true}
 use lib.ListN.{length, drop, getD, length-drop}
 use Rattle.grammar.specs.Read.{got, bind, mark, test}
 use Rattle.grammar.specs.Parser.{Look, at-close, at-comment, at-data, at-element, at-text, look}
-use Rattle.steps.specs.Step.{stepped, at-byte, at-end, arrives, refuses}
+use Rattle.steps.specs.Step.{stepped}
+use Rattle.steps.specs.Laws.Step.{at-byte, at-end, arrives, refuses}
 use Rattle.steps.specs.declared.Step.the-variants.{To, No}
 use Rattle.steps.specs.Blocks.{Through, other}
 use Rattle.steps.specs.Laws.Blocks.{through-passed}

@@ -7,17 +7,22 @@ use mathlib.Core.Bool.{Bool, true, false}
 use borrow.Author.Needs.{needs}
 use lib.ListN.{length, drop, length-drop}
 use Rattle.lists.specs.Laws.Booleans.{clash}
-use Rattle.grammar.specs.Read.{Read, fail, got, bind, Ok, good, ok-got}
+use Rattle.grammar.specs.Read.{Read, fail, got, bind}
+use Rattle.grammar.specs.Laws.Read.{Ok, good, ok-got}
 use Rattle.grammar.specs.Parser.{comment-at, data-at, Look, at-close, at-comment, at-data, at-element, at-text, look}
 use Rattle.grammar.specs.Laws.Sound.{comment-sound, data-sound}
-use Rattle.steps.specs.Step.{stepped, at-end, arrives, refuses, fell, Tails, tails, Went, went}
+use Rattle.steps.specs.Step.{stepped, Went}
+use Rattle.steps.specs.Laws.Step.{at-end, arrives, refuses, fell, Tails, tails, went}
 use Rattle.steps.specs.declared.Step.{Step}
 use Rattle.steps.specs.declared.Step.the-variants.{To, No}
-use Rattle.nodes.specs.Places.{Tail, tail-of, tail-more}
+use Rattle.nodes.specs.Laws.Places.{Tail, tail-of, tail-more}
 use Rattle.nodes.specs.Laws.Depth.{comment-eats, data-eats}
-use Rattle.nodes.specs.Scan.{to-tag, to-tag-tail, to-tag-short, past-tag, past-tag-less, tag-at, tag-less, scan, skip-at, passed}
-use Rattle.nodes.specs.Scan.{leave-at, scan-tails, Less, less-tails, less-falls}
-use Rattle.nodes.specs.ScanSteps.{tagged, Mark, closes, opens, flat, none, flat-of, mark-of, sign-by, sign, signed, go-on, scan-on}
+use Rattle.nodes.specs.Scan.{to-tag, past-tag, tag-at, scan, skip-at, passed}
+use Rattle.nodes.specs.Laws.Scanned.{to-tag-tail, to-tag-short, past-tag-less, tag-less}
+use Rattle.nodes.specs.Scan.{leave-at}
+use Rattle.nodes.specs.Laws.Scanned.{scan-tails, Less, less-tails, less-falls}
+use Rattle.nodes.specs.ScanSteps.{tagged, Mark, closes, opens, flat, none, flat-of, mark-of, sign-by, sign, signed}
+use Rattle.nodes.specs.Laws.ScanSteps.{go-on, scan-on}
 use Rattle.nodes.specs.declared.scan.Tag.{Tag}
 use Rattle.nodes.specs.declared.scan.Tag.the-variants as tag-is
 use Rattle.nodes.specs.declared.scan.Sign.{Sign}

@@ -9,15 +9,17 @@ use borrow.Author.Tests.{ne-eqb, not-true, not-false}
 use lib.ListN.{length, drop, getD, length-drop}
 use Rattle.lists.specs.Laws.Booleans.{clash}
 use Rattle.grammar.specs.Bytes.{ascii, blank, begins}
-use Rattle.grammar.specs.Read.{Read, fail, got, mark, before, Ok, good}
+use Rattle.grammar.specs.Read.{Read, fail, got, mark, before}
+use Rattle.grammar.specs.Laws.Read.{Ok, good}
 use Rattle.grammar.specs.Parser.{reference-at, feed-at, line-end-at, comment-at, Look, at-close, at-comment, at-data, at-element, at-text}
 use Rattle.grammar.specs.Parser.{look}
 use Rattle.grammar.specs.Laws.Tokens.{reference-other, line-end-other}
 use Rattle.steps.specs.Laws.Feeds.{fed, feed-got, return-read}
 use Rattle.lists.specs.Lists.{all}
-use Rattle.steps.specs.Step.{stepped, at-byte, at-end, fell, Went, went}
+use Rattle.steps.specs.Step.{stepped, Went}
+use Rattle.steps.specs.Laws.Step.{at-byte, at-end, fell, went}
 use Rattle.steps.specs.Noted.{part}
-use Rattle.nodes.specs.Places.{tail-of, tail-more}
+use Rattle.nodes.specs.Laws.Places.{tail-of, tail-more}
 use Rattle.steps.specs.Leaves.{referred, first-byte}
 use Rattle.steps.specs.Laws.Characters.{starts-so, starts-not}
 use Rattle.steps.specs.Laws.Data.{brackets-other}
@@ -25,10 +27,12 @@ use Rattle.steps.specs.declared.Step.{Step}
 use Rattle.steps.specs.declared.Step.the-variants.{To, No}
 use Rattle.steps.specs.declared.characters.Reference.{Reference}
 use Rattle.steps.specs.declared.characters.Reference.the-variants as reference-is
-use Rattle.nodes.specs.Scan.{tag-at, tag-less, Less, skip-at, scan, scan-tails}
+use Rattle.nodes.specs.Scan.{tag-at, skip-at, scan}
+use Rattle.nodes.specs.Laws.Scanned.{tag-less, Less, scan-tails}
 use Rattle.nodes.specs.ScanSteps.{tagged}
 use Rattle.nodes.specs.TextBytes.{Rest, outside, within, Move, char, past, referring, bare-char, step-by, step-in, step}
-use Rattle.nodes.specs.Texts.{inside, inside-by, place-of, rest-outside, rest-within, as-text, text-step}
+use Rattle.nodes.specs.Texts.{inside, inside-by, place-of, as-text, text-step}
+use Rattle.nodes.specs.Laws.TextSteps.{rest-outside, rest-within}
 use Rattle.nodes.specs.Inside.{between-tags, within-by, up-to}
 use Rattle.nodes.specs.declared.Found.{Found}
 use Rattle.nodes.specs.declared.Found.the-variants.{At, Nothing}

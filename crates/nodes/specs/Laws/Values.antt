@@ -13,17 +13,20 @@ use Rattle.grammar.specs.Bytes.{ascii, blank}
 use Rattle.grammar.specs.Read.{Read, fail, got}
 use Rattle.grammar.specs.Parser.{reference-at, feed-at, line-end-at, same}
 use Rattle.grammar.specs.Laws.Tokens.{reference-other, line-end-other}
-use Rattle.steps.specs.Step.{stepped, at-byte, at-end}
+use Rattle.steps.specs.Step.{stepped}
+use Rattle.steps.specs.Laws.Step.{at-byte, at-end}
 use Rattle.steps.specs.Laws.Feeds.{fed, feed-got, return-read}
 use Rattle.steps.specs.declared.Step.the-variants.{To}
 use Rattle.steps.specs.Leaves.{referred, first-byte}
 use Rattle.steps.specs.declared.characters.Reference.{Reference}
 use Rattle.steps.specs.declared.characters.Reference.the-variants as reference-is
 use Rattle.nodes.specs.Places.{pick}
-use Rattle.nodes.specs.Values.{Next, a-byte, or-else, bare-byte, next-byte, as-char, decoded-at, value-there, tells, Decodes}
-use Rattle.nodes.specs.Values.{decoded-byte, decoded-end}
+use Rattle.nodes.specs.Values.{Next, a-byte, or-else, bare-byte, next-byte, as-char, decoded-at, value-there, tells}
+use Rattle.nodes.specs.Laws.NextBytes.{Decodes}
+use Rattle.nodes.specs.Laws.NextBytes.{decoded-byte, decoded-end}
 use Rattle.nodes.specs.Attributes.{place}
-use Rattle.nodes.specs.Found.{value-at-name, value-found, value-missing}
+use Rattle.nodes.specs.Found.{value-at-name}
+use Rattle.nodes.specs.Laws.Found.{value-found, value-missing}
 use Rattle.nodes.specs.declared.Found.{Found}
 use Rattle.nodes.specs.declared.Found.the-variants.{At, Nothing}
 use Rattle.nodes.specs.declared.Char.{Char}

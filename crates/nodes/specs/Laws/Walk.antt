@@ -7,7 +7,8 @@ use lib.ListN.{length}
 use Rattle.grammar.specs.Document.{Element}
 use Rattle.grammar.specs.Look.{contentsOf, elements}
 use Rattle.nodes.specs.Places.{Stands, the}
-use Rattle.nodes.specs.Children.{first, next, left, Siblings, no-more, one-more, children}
+use Rattle.nodes.specs.Children.{first, next}
+use Rattle.nodes.specs.Laws.Children.{left, Siblings, no-more, one-more, children}
 use Rattle.nodes.specs.declared.Kid.{Kid}
 use Rattle.nodes.specs.declared.Kid.the-variants.{Child, Done}
 

@@ -14,7 +14,8 @@ use Rattle.nodes.specs.Laws.Values.{decode-plain}
 use Rattle.nodes.specs.declared.Char.the-variants.{Byte}
 use Rattle.numbers.specs.Numbers.{digit}
 use Rattle.numbers.specs.Stream.{charAt}
-use Rattle.numbers.specs.Laws.Read.{Running, running-start, running-times, running-room, running-on}
+use Rattle.numbers.specs.Laws.Read.{running-start, running-times, running-room, running-on}
+use Rattle.numbers.specs.Read.{Running}
 use Rattle.numbers.specs.declared.Source.{Source}
 use Rattle.numbers.specs.declared.Source.the-variants.{Value}
 use Rattle.number_lists.specs.Digits.{plainDigit}

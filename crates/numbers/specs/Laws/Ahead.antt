@@ -11,11 +11,13 @@ use Rattle.grammar.specs.Bytes.{blank}
 use Rattle.grammar.specs.Look.{Word}
 use Rattle.lists.specs.Lists.{all}
 use Rattle.numbers.specs.Numbers.{digit, digits, parts, onFirst, point, mark, mantissa, powerParts, power, inPower, scaled}
-use Rattle.numbers.specs.Laws.Cuts.{Uncut, none, more, uncut-join, Parts, parts-some, parts-end, parts-cut, parts-join}
+use Rattle.numbers.specs.Laws.Cuts.{uncut-join, Parts, parts-some, parts-end, parts-cut, parts-join}
+use Rattle.numbers.specs.Cuts.{Uncut, none, more}
 use Rattle.numbers.specs.Laws.Cuts.{digit-no-blank, digit-no-point, digit-no-mark, digits-uncut, digits-few, digits-stopped}
 use Rattle.numbers.specs.Stream.{stream, wordEnds}
 use Rattle.numbers.specs.Laws.Stream.{Ran}
-use Rattle.numbers.specs.Spelled.{Cut, cut-word}
+use Rattle.numbers.specs.Spelled.{Cut}
+use Rattle.numbers.specs.Laws.SpelledSame.{cut-word}
 use Rattle.numbers.specs.declared.Source.{Source}
 use Rattle.numbers.specs.declared.Run.{Run}
 

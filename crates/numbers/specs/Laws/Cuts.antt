@@ -1,26 +1,22 @@
 -- Words cut into parts, as a reader that goes on byte by byte meets them; digits in a row.
-use mathlib.Core.Path.{_≡_, refl, sym, ap, _∙_}
-use mathlib.Core.List.{List, [], _∷_, _++_, append-assoc, append-nil}
-use mathlib.Core.Bool.{Bool, true, false, _||_, not, cond, false≢true, true≢false, and-false, and-true}
-use Prim.Native.Nat.{ℕ, zero, suc, _+_, _*_, _-_, _^_, _<_, _≤_}
+use mathlib.Core.Path.{_≡_, refl, ap, _∙_}
+use mathlib.Core.List.{List, [], _∷_, _++_, append-assoc}
+use mathlib.Core.Bool.{Bool, true, false, _||_, and-false}
+use Prim.Native.Nat.{ℕ, suc, _+_, _*_, _-_, _^_, _<_, _≤_}
 use native.Mathlib.Omega.{arith}
 use native.Mathlib.Nat.{pow-suc, pow-le-pow-right}
 use native.Mathlib.Numerals.{add-one}
-use lib.Dec.{eqb, leb}
+use lib.Dec.{leb}
 use lib.ListN.{length, length-append}
 use borrow.Author.Tests.{le-leb, lt-leb, leb-true, leb-false, ne-eqb}
-pub use Rattle.lists.specs.Laws.Lists.{all-append}
 use Rattle.lists.specs.Laws.Booleans.{and-left, and-right}
-use Rattle.grammar.specs.Bytes.{blank, between}
-use Rattle.grammar.specs.Laws.Facts.{within, blank-in}
+use Rattle.grammar.specs.Bytes.{blank}
+use Rattle.grammar.specs.Laws.Facts.{within}
 use Rattle.grammar.specs.Look.{Word}
 use Rattle.lists.specs.Lists.{all, those}
 use Rattle.numbers.specs.Numbers.{digit, digits, number, value, parts, onFirst, comma, point, mark, filled, words}
-
--- bytes that are no cut
-pub data Uncut (p : ℕ → Bool) : Word → Type 0 where
-  none : Uncut p []
-  more : {a : ℕ} {w : Word} → p a ≡ false → Uncut p w → Uncut p (a ∷ w)
+use Rattle.numbers.specs.Cuts.{Uncut, none, more}
+pub use Rattle.lists.specs.Laws.Lists.{all-append}
 
 pub uncut-snoc : {p : ℕ → Bool} {u : Word} (b : ℕ) → Uncut p u → p b ≡ false → Uncut p (u ++ (b ∷ []))
 uncut-snoc b none k = more k none

@@ -15,11 +15,13 @@ use Rattle.grammar.specs.Look.{Word}
 use Rattle.lists.specs.Lists.{all}
 use Rattle.numbers.specs.Numbers.{digit, digits, number, value, parts, onFirst, point, mark, Sign, withSign, decimalParts, mantissa}
 use Rattle.numbers.specs.Numbers.{places, scaled}
-use Rattle.numbers.specs.Laws.Cuts.{Uncut, none, more, uncut-join, Parts, parts-some, parts-end, parts-cut, parts-join}
+use Rattle.numbers.specs.Laws.Cuts.{uncut-join, Parts, parts-some, parts-end, parts-cut, parts-join}
+use Rattle.numbers.specs.Cuts.{Uncut, none, more}
 use Rattle.numbers.specs.Laws.Cuts.{digit-no-point, digit-no-mark, digits-uncut, digits-are, number-append, number-below, powers}
 use Rattle.numbers.specs.Stream.{charAt, stream, digitsAt}
 use Rattle.numbers.specs.Laws.Stream.{Ran, digits-law}
-use Rattle.numbers.specs.Spelled.{Reading, reads, fails, onward, Cut, pure, pureValue, pointed, Front, Pointed, Mantissa, Powered}
+use Rattle.numbers.specs.Spelled.{Reading, reads, fails, Cut, pure, pureValue, pointed, Front, Pointed, Mantissa, Powered}
+use Rattle.numbers.specs.Laws.SpelledSame.{onward}
 use Rattle.numbers.specs.Laws.Mantissa.{wrong-two, wrong-three}
 use Rattle.numbers.specs.Laws.Ahead.{uncut-point, uncut-mark, uncut-blank, first-part, other-part, cut, word, word-uncut, word-splits}
 use Rattle.numbers.specs.Laws.Ahead.{empty-read, before-mark, stop-mark, wrong-front}

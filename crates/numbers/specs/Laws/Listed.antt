@@ -22,7 +22,8 @@ use Rattle.nodes.specs.declared.Char.{Char}
 use Rattle.nodes.specs.declared.Char.the-variants.{Byte}
 use Rattle.nodes.specs.declared.Char.the-variants as chars
 use Rattle.numbers.specs.Numbers.{digit, digits, number, value, parts, onFirst, filled, words}
-use Rattle.numbers.specs.Laws.Cuts.{Uncut, none, more, uncut-snoc, Parts, parts-some, words-none, words-blank, words-end, words-cut}
+use Rattle.numbers.specs.Laws.Cuts.{uncut-snoc, Parts, parts-some, words-none, words-blank, words-end, words-cut}
+use Rattle.numbers.specs.Cuts.{Uncut, none, more}
 use Rattle.numbers.specs.Laws.Cuts.{FirstWord, first-word, digit-no-blank, digits-uncut, digits-are, digits-stopped}
 use Rattle.numbers.specs.Stream.{letterAt, charAt, stream, behind, leading, wordEnds, digitsAt}
 use Rattle.numbers.specs.Laws.Stream.{Moves, letter-byte, char-byte, char-end, behind-none, behind-one, Ran, digits-law, Blanked}

@@ -14,7 +14,8 @@ use Rattle.grammar.specs.Look.{Word}
 use Rattle.lists.specs.Lists.{all}
 use Rattle.numbers.specs.Numbers.{digit, digits, parts, onFirst, point, mark, Signed, unsigned, decimalParts, mantissa, powerParts}
 use Rattle.numbers.specs.Numbers.{power, inPower, scaled, decimal}
-use Rattle.numbers.specs.Laws.Cuts.{Uncut, none, more, uncut-at, parts-some, digit-no-blank, digit-no-mark, digits-uncut, digits-are}
+use Rattle.numbers.specs.Laws.Cuts.{uncut-at, parts-some, digit-no-blank, digit-no-mark, digits-uncut, digits-are}
+use Rattle.numbers.specs.Cuts.{Uncut, none, more}
 use Rattle.numbers.specs.Laws.Cuts.{digits-split}
 
 -- words without such a byte, and what they are the parts of

@@ -12,7 +12,8 @@ use Rattle.grammar.specs.Look.{Word, textOf}
 use Rattle.lists.specs.Lists.{all, each}
 use Rattle.nodes.specs.Places.{Stands, the}
 use Rattle.nodes.specs.Texts.{saysAt}
-use Rattle.nodes.specs.Texts.{inside, text-of, text-law, text-some}
+use Rattle.nodes.specs.Texts.{inside, text-of}
+use Rattle.nodes.specs.Laws.TextSteps.{text-law, text-some}
 use Rattle.nodes.specs.declared.Found.the-variants.{At}
 use Rattle.numbers.specs.Numbers.{digits, words, values, whole}
 use Rattle.numbers.specs.Answers.{nextNumber}

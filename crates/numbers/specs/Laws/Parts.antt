@@ -14,7 +14,8 @@ use Rattle.lists.specs.Lists.{all}
 use Rattle.nodes.specs.declared.Char.{Char}
 use Rattle.nodes.specs.declared.Char.the-variants.{Byte, End}
 use Rattle.numbers.specs.Numbers.{digit, digits, number, value, parts, onFirst, comma}
-use Rattle.numbers.specs.Laws.Cuts.{Uncut, digits-uncut, digit-no-comma, Parts, parts-some, parts-end, parts-cut, parts-join}
+use Rattle.numbers.specs.Laws.Cuts.{digits-uncut, digit-no-comma, Parts, parts-some, parts-end, parts-cut, parts-join}
+use Rattle.numbers.specs.Cuts.{Uncut}
 use Rattle.numbers.specs.Laws.Cuts.{digits-are, digits-few, digits-stopped, powers}
 use Rattle.numbers.specs.Stream.{charAt, stream, digitsAt}
 use Rattle.numbers.specs.Laws.Stream.{Moves, char-byte, char-end, Ran, digits-law}

@@ -17,11 +17,13 @@ use Rattle.nodes.specs.declared.Char.{Char}
 use Rattle.nodes.specs.declared.Char.the-variants.{Byte, End}
 use Rattle.numbers.specs.Numbers.{digit, digits, value, parts, onFirst, point, mark, Sign, minus, unsigned, withSign, mantissa}
 use Rattle.numbers.specs.Numbers.{places, powerParts, writtenPower, power, inPower, scaled, scaledValue}
-use Rattle.numbers.specs.Laws.Cuts.{Uncut, none, more, parts-some, parts-end, parts-cut, parts-join, digit-no-mark}
+use Rattle.numbers.specs.Laws.Cuts.{parts-some, parts-end, parts-cut, parts-join, digit-no-mark}
+use Rattle.numbers.specs.Cuts.{Uncut, none, more}
 use Rattle.numbers.specs.Laws.Forms.{parts-one, parts-two}
 use Rattle.numbers.specs.Stream.{charAt, stream, wordEnds}
 use Rattle.numbers.specs.Laws.Stream.{char-byte, char-end}
-use Rattle.numbers.specs.Spelled.{Reading, reads, fails, onward, Cut, cut-word, pure, pureValue, Mantissa, Powered, powerDigits}
+use Rattle.numbers.specs.Spelled.{Reading, reads, fails, Cut, pure, pureValue, Mantissa, Powered, powerDigits}
+use Rattle.numbers.specs.Laws.SpelledSame.{onward, cut-word}
 use Rattle.numbers.specs.Spelled.{powerValue, Raised, Leads}
 use Rattle.numbers.specs.Laws.Mantissa.{mantissa-no-mark}
 use Rattle.numbers.specs.Laws.Integers.{power-within, less-nothing}

@@ -15,7 +15,8 @@ use Rattle.lists.specs.Lists.{all}
 use Rattle.numbers.specs.Numbers.{digit, digits, number, value, parts, point, mark, Sign, plus, minus, Signed, unsigned, withSign}
 use Rattle.numbers.specs.Numbers.{decimalParts, mantissa, places, powerParts, writtenPower, power, scaled, scaledValue, decimal}
 use Rattle.numbers.specs.Numbers.{decimalValue}
-use Rattle.numbers.specs.Laws.Cuts.{Uncut, none, more, uncut-join, parts-end, parts-cut, digit-in, digit-no-point, digit-no-mark}
+use Rattle.numbers.specs.Laws.Cuts.{uncut-join, parts-end, parts-cut, digit-in, digit-no-point, digit-no-mark}
+use Rattle.numbers.specs.Cuts.{Uncut, none, more}
 use Rattle.numbers.specs.Laws.Cuts.{digits-uncut, digits-split}
 use Rattle.numbers.specs.Laws.Mantissa.{mantissa-no-mark, power-no-mark}
 use Rattle.numbers.specs.Laws.Integers.{less-nothing}

@@ -12,7 +12,8 @@ use Rattle.grammar.specs.Bytes.{blank}
 use Rattle.grammar.specs.Look.{Word}
 use Rattle.lists.specs.Lists.{all}
 use Rattle.numbers.specs.Numbers.{digit, digits, number, value, Sign, withSign, inPower}
-use Rattle.numbers.specs.Laws.Cuts.{Uncut, digits-are, number-below, powers}
+use Rattle.numbers.specs.Laws.Cuts.{digits-are, number-below, powers}
+use Rattle.numbers.specs.Cuts.{Uncut}
 use Rattle.numbers.specs.Stream.{stream, wordEnds, digitsAt}
 use Rattle.numbers.specs.Laws.Stream.{Ran, digits-law}
 use Rattle.numbers.specs.Spelled.{Reading, reads, fails, Cut, powerDigits, powerValue, Raised}

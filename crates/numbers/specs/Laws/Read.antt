@@ -1,16 +1,15 @@
 -- The turns of the loops that read decoded bytes: a letter, a run of digits, a run of blanks.
-use mathlib.Core.Path.{_≡_, refl, sym, ap, _∙_}
+use mathlib.Core.Path.{_≡_, refl, sym, _∙_}
 use mathlib.Core.List.{List, [], _∷_, _++_}
-use mathlib.Core.Bool.{Bool, true, false, _&&_, cond, not, and-false}
-use Prim.Native.Nat.{ℕ, zero, suc, _+_, _*_, _-_, _^_, _≤_, _<_}
+use mathlib.Core.Bool.{Bool, true, false, _&&_, not, and-false}
+use Prim.Native.Nat.{ℕ, suc, _+_, _*_, _-_, _^_, _≤_, _<_}
 use native.Mathlib.Omega.{arith}
-use native.Mathlib.Numerals.{add-one}
-use lib.Dec.{eqb, leb}
+use lib.Dec.{leb}
 use borrow.Author.Needs.{needs}
 use borrow.Author.Tests.{le-leb, lt-leb, not-true, not-false}
-use Rattle.grammar.specs.Bytes.{blank, between}
-use Rattle.grammar.specs.Look.{Word}
-use Rattle.nodes.specs.Texts.{left, text-step, text-skip}
+use Rattle.grammar.specs.Bytes.{blank}
+use Rattle.nodes.specs.Texts.{left, text-step}
+use Rattle.nodes.specs.Laws.TextSteps.{text-skip}
 use Rattle.nodes.specs.Values.{decoded-at}
 use Rattle.nodes.specs.declared.Char.{Char}
 use Rattle.nodes.specs.declared.Char.the-variants.{Byte, End}
@@ -18,16 +17,12 @@ use Rattle.nodes.specs.declared.Text.{Text}
 use Rattle.nodes.specs.declared.Text.the-variants.{Stop, Skip, Letter}
 use Rattle.numbers.specs.Numbers.{digit}
 use Rattle.numbers.specs.Laws.Cuts.{grown, powers}
-use Rattle.numbers.specs.Stream.{letterAt, charAt, stream, leftIn, behind, behindBy, leading, wordEnds, digitsBy, digitsAt}
-use Rattle.numbers.specs.Laws.Stream.{Moves, letter-stop, letter-byte, letter-skip, char-byte, char-end, behind-none, behind-one}
-use Rattle.numbers.specs.Laws.Stream.{behind-suc, run-suc}
+use Rattle.numbers.specs.Stream.{letterAt, charAt, stream, leftIn, behind, leading, wordEnds, digitsBy, digitsAt}
+use Rattle.numbers.specs.Laws.Stream.{letter-stop, letter-byte, letter-skip, char-byte, char-end, behind-none, behind-one}
+use Rattle.numbers.specs.Laws.Stream.{run-suc}
 use Rattle.numbers.specs.declared.Source.{Source}
 use Rattle.numbers.specs.declared.Source.the-variants.{Value, Contents}
-use Rattle.numbers.specs.declared.Run.{Run}
-
--- a letter
-pub record Seeking (text : List ℕ) (at i : ℕ) : Type 0 where
-  pub same : letterAt text at ≡ letterAt text i
+use Rattle.numbers.specs.Read.{Seeking, Running}
 
 pub seek-start : {text : List ℕ} {at : ℕ} → Seeking text at at
 seek-start = record { same = refl }
@@ -81,12 +76,6 @@ digit-low b h = rw (lt-leb 48 b h) refl
 pub digit-high : (b : ℕ) → 57 < b → digit b ≡ false
 unfolding digit
 digit-high b h = rw (lt-leb b 57 h) (and-false (leb 48 b))
-
-pub record Running (source : Source) (text : List ℕ) (most before at n k i : ℕ) : Type 0 where
-  pub few : k ≤ most
-  pub top : most ≤ 15
-  pub bound : n < 10 ^ (15 - most + k)
-  pub same : digitsAt source text most before 0 at ≡ digitsAt source text (most - k) n k i
 
 pub running-start : {source : Source} {text : List ℕ} {most before at : ℕ} → (most ≤ 15) × (before < 10 ^ (15 - most))
     → Running source text most before at before 0 at

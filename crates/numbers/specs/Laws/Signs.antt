@@ -19,10 +19,11 @@ use Rattle.nodes.specs.declared.Char.{Char}
 use Rattle.nodes.specs.declared.Char.the-variants.{Byte, End}
 use Rattle.numbers.specs.Numbers.{digits, value, parts, mark, Sign, plus, minus, Signed, unsigned, decimalParts, mantissa, scaled}
 use Rattle.numbers.specs.Numbers.{scaledValue, decimal, decimalValue}
-use Rattle.numbers.specs.Laws.Cuts.{Uncut, none, more}
+use Rattle.numbers.specs.Cuts.{Uncut, none, more}
 use Rattle.numbers.specs.Stream.{charAt, stream, wordEnds}
 use Rattle.numbers.specs.Laws.Stream.{char-byte, char-end}
-use Rattle.numbers.specs.Spelled.{Reading, reads, fails, onward, Spelled, pure, pureValue, Pure, Leads}
+use Rattle.numbers.specs.Spelled.{Reading, reads, fails, Spelled, pure, pureValue, Pure, Leads}
+use Rattle.numbers.specs.Laws.SpelledSame.{onward}
 use Rattle.numbers.specs.Laws.Mantissa.{decimal-blank}
 use Rattle.numbers.specs.Answers.{signIf, decimalIn}
 use Rattle.numbers.specs.Laws.Values.{there, past}

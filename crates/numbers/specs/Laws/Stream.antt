@@ -10,8 +10,10 @@ use Rattle.lists.specs.Laws.Booleans.{clash}
 use Rattle.grammar.specs.Bytes.{blank}
 use Rattle.grammar.specs.Look.{Word}
 use Rattle.lists.specs.Lists.{all}
-use Rattle.nodes.specs.Values.{tells, decoded-at, Decodes, decoded-byte, decoded-end}
-use Rattle.nodes.specs.Texts.{saysAt, left, text-step, Steps, text-letter, text-skip, text-stop}
+use Rattle.nodes.specs.Values.{tells, decoded-at}
+use Rattle.nodes.specs.Laws.NextBytes.{Decodes, decoded-byte, decoded-end}
+use Rattle.nodes.specs.Texts.{saysAt, left, text-step}
+use Rattle.nodes.specs.Laws.TextSteps.{Steps, text-letter, text-skip, text-stop}
 use Rattle.nodes.specs.declared.Char.{Char}
 use Rattle.nodes.specs.declared.Char.the-variants.{Byte, End}
 use Rattle.nodes.specs.declared.Text.{Text}

@@ -12,7 +12,8 @@ use Rattle.lists.specs.Laws.Booleans.{clash}
 use Rattle.grammar.specs.Bytes.{between}
 use Rattle.grammar.specs.Look.{Word}
 use Rattle.lists.specs.Lists.{all, each, count}
-use Rattle.nodes.specs.Values.{value-there, value-begins, tells, tells-none}
+use Rattle.nodes.specs.Values.{value-there, tells}
+use Rattle.nodes.specs.Laws.NextBytes.{value-begins, tells-none}
 use Rattle.nodes.specs.declared.Char.{Char}
 use Rattle.nodes.specs.declared.Char.the-variants.{Byte, End}
 use Rattle.numbers.specs.Numbers.{digits, value, parts, comma, whole, three, volumeDimensions, dimensionList, commaValues, Sign}

@@ -7,7 +7,8 @@ use native.Mathlib.Omega.{arith}
 use native.Mathlib.Decide.{ℕ-discrete}
 use Rattle.cifti.specs.Conditions as C
 use Rattle.cifti.specs.Conditions.{_when_}
-use Rattle.opening.specs.Opening.{Opens, Passed, headerNumber, header-document, not-long}
+use Rattle.opening.specs.Opening.{Opens, Passed, headerNumber}
+use Rattle.opening.specs.Laws.Opening.{header-document, not-long}
 use Rattle.opening.specs.declared.header.Opening.{Opening}
 
 later-two : (x y : Bool) → C.first (8 when x ∷ 9 when y ∷ []) ≤ 7 → C.first (8 when x ∷ 9 when y ∷ []) ≡ 0

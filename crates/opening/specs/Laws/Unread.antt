@@ -10,13 +10,15 @@ use Rattle.grammar.specs.Bytes.{ascii}
 use Rattle.grammar.specs.Document.{Element}
 use Rattle.grammar.specs.Look.{children}
 use Rattle.nodes.specs.Places.{Stands, the}
-use Rattle.nodes.specs.Children.{first, next, left}
+use Rattle.nodes.specs.Children.{first, next}
+use Rattle.nodes.specs.Laws.Children.{left}
 use Rattle.nodes.specs.Names.{named}
 use Rattle.nodes.specs.declared.Kid.{Kid}
 use Rattle.nodes.specs.declared.Kid.the-variants.{Child, Done}
 use Rattle.cifti.specs.Conditions.{kindNotRead}
-use Rattle.maps.specs.Unread.{notRead, anyNotRead, Seeking, seek-start, seek-done, seek-stands, seek-less, seek-other, seek-found}
-use Rattle.maps.specs.Unread.{seek-missed, root-is}
+use Rattle.maps.specs.Unread.{notRead}
+use Rattle.maps.specs.Laws.Unread.{anyNotRead, Seeking, seek-start, seek-done, seek-stands, seek-less, seek-other, seek-found}
+use Rattle.maps.specs.Laws.Unread.{seek-missed, root-is}
 use Rattle.opening.specs.Unread.{levelName, levelNotRead}
 
 -- the name

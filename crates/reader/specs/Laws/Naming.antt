@@ -8,7 +8,8 @@ use borrow.Author.Needs.{needs}
 use Rattle.steps.specs.Noted.{part}
 use Rattle.cifti.specs.Names.{NameNumber, NamePart}
 use Rattle.map_names.specs.Answered.{Answered}
-use Rattle.map_names.specs.Placed.{NamePlaced, placed-name}
+use Rattle.map_names.specs.Placed.{NamePlaced}
+use Rattle.map_names.specs.Laws.Placed.{placed-name}
 use Rattle.map_names.specs.declared.NamePlace.{NamePlace}
 use Rattle.survey.specs.Header.{Surveys}
 use Rattle.survey.specs.declared.header.Survey.{Survey}

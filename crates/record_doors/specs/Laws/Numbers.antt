@@ -11,7 +11,7 @@ use lib.ListN.{length, getD, set, length-set}
 use borrow.Author.Tests.{le-leb, lt-leb, eq-eqb, ne-eqb}
 use Rattle.lists.specs.Lists.{any, allBelow, eachIn, each, table, countUp}
 use Rattle.lists.specs.Laws.Booleans.{and-right, and-both, both-ways}
-use Rattle.lists.specs.Quantifiers.{allBelow-iff}
+use Rattle.lists.specs.Laws.Quantifiers.{allBelow-iff}
 use Rattle.lists.specs.Laws.Tables.{up-one, up-done, up-all, size-of-table}
 use Rattle.records.specs.Fill.{wrote, wrote-none, wrote-one, wrote-on, length-wrote}
 use Rattle.records.specs.Outcome.{unless, outcome}

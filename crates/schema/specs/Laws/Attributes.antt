@@ -15,8 +15,10 @@ use Rattle.grammar.specs.Document.{Attribute, Element}
 use Rattle.grammar.specs.Look.{Word, valueIn, attributesOf, textOf}
 use Rattle.schema.specs.Schema.{Form, AttributeRow, isWord, isNumber, attributeShaped, attributeNumbered}
 use Rattle.nodes.specs.Places.{Stands, the}
-use Rattle.nodes.specs.Attributes.{place, keys, Held, missing, held, lookup-is, attribute-law}
-use Rattle.nodes.specs.Values.{value-there, value-law}
+use Rattle.nodes.specs.Attributes.{place, keys}
+use Rattle.nodes.specs.Laws.AttributesSteps.{Held, missing, held, lookup-is, attribute-law}
+use Rattle.nodes.specs.Values.{value-there}
+use Rattle.nodes.specs.Laws.NextBytes.{value-law}
 use Rattle.nodes.specs.declared.Found.{Found}
 use Rattle.nodes.specs.declared.Found.the-variants.{At, Nothing}
 use Rattle.schema.specs.Table.{wordAt, formAt, kindCell, attributeCell, attributeBy, attributeAt, attributesOfKind, attributesFrom}

@@ -12,7 +12,7 @@ use Rattle.grammar.specs.Document.{Element}
 use Rattle.grammar.specs.Look.{is, nameOf}
 use Rattle.schema.specs.Schema.{once, atMostOnce, anyTimes, atLeastOnce, neededBelow, standsSo, childShaped, rowPlace, inOrderOf}
 use Rattle.schema.specs.Schema.{orderly}
-use Rattle.schema.specs.Walk.{called}
+use Rattle.schema.specs.Laws.Everywhere.{called}
 use Rattle.schema.specs.Table.{wordAt, entryWord, lineCell, lineAt, linesOfKind, linesFrom, linesTo, orderAt, orderBy, timesAt}
 use Rattle.schema.specs.Table.{watchedWord}
 use Rattle.schema.specs.Lines.{lineName, inTurn, orderFrom}

@@ -9,7 +9,7 @@ use Prim.Native.String.{String}
 use native.Mathlib.Omega.{arith}
 use lib.ListN.{length, getD}
 use Rattle.lists.specs.Lists.{all, any, those, count, isSome, ifThere, there}
-use Rattle.lists.specs.Quantifiers.{all-iff}
+use Rattle.lists.specs.Laws.Quantifiers.{all-iff}
 use Rattle.lists.specs.Laws.Booleans.{and-left, and-right}
 use Rattle.grammar.specs.Bytes.{ascii, blank}
 use Rattle.grammar.specs.Document.{Attribute, Element}
@@ -20,11 +20,7 @@ use Rattle.schema.specs.Schema.{kindOf, childRows, everywhere, isText}
 use Rattle.schema.specs.Schema.{shaped, numbered, attributesShaped, attributeShaped, attributeNumbered, isWord, isNumber}
 use Rattle.schema.specs.Schema.{childrenShaped, childShaped}
 use Rattle.schema.specs.Walk.{atChild, walk-step}
-
--- the element, taken for one of the kind, passes both tests at every place
-pub record Good {K : Type 0} (rows : K → Row K) (k : K) (e : Element) : Type 0 where
-  pub shape : everywhere rows shaped k e ≡ true
-  pub number : everywhere rows numbered k e ≡ true
+use Rattle.schema.specs.Good.{Good, One}
 
 -- a child that its parent's rows know, good as what they take it for
 pub data GoodAs {K : Type 0} (rows : K → Row K) (r : List (ChildRow K)) (e : Element) : Type 0 where
@@ -181,11 +177,6 @@ single (a ∷ b ∷ l) h = absurd (omega arith)
 pub data EachGood {K : Type 0} (rows : K → Row K) (k : K) : List Element → Type 0 where
   no-good : EachGood rows k []
   also-good : {e : Element} {l : List Element} → Good rows k e → EachGood rows k l → EachGood rows k (e ∷ l)
-
-pub record One {K : Type 0} (rows : K → Row K) (k : K) (l : List Element) : Type 0 where
-  pub one : Element
-  pub alone : l ≡ one ∷ []
-  pub good : Good rows k one
 
 module _ {K : Type 0} {rows : K → Row K} (s : String) (k : K) (r : List (ChildRow K))
     (known : (e : Element) → GoodAs rows r e → is s (nameOf e) ≡ true → Good rows k e) where

@@ -15,6 +15,7 @@ use Rattle.grammar.specs.Parser.{value-at, ends, closing}
 use Rattle.steps.specs.Step.{stepped}
 use Rattle.steps.specs.Noted.{part}
 use Rattle.steps.specs.Keys as tokens-keys
+use Rattle.steps.specs.Laws.Keys as laws-of-tokens-keys
 use Rattle.steps.specs.Keys.{keyed}
 use Rattle.steps.specs.declared.Step.{Step}
 use Rattle.steps.specs.declared.Step.the-variants.{To, No}
@@ -22,7 +23,7 @@ use Rattle.steps.specs.declared.attributes.Key as token-key
 use Rattle.steps.specs.declared.attributes.Key.the-variants as key-is
 use Rattle.nodes.specs.Places.{Stands, the}
 use Rattle.nodes.specs.Attributes.{Key, keys-at, keys}
-use Rattle.nodes.specs.Attributes.{Hold, no-key, one-key, keys-law}
+use Rattle.nodes.specs.Laws.AttributesSteps.{Hold, no-key, one-key, keys-law}
 use Rattle.nodes.specs.Scan.{tag-from}
 use Rattle.nodes.specs.Laws.Attributes.{keys-end, keys-none, keys-more, keys-stuck, keys-go, keys-tag, keys-fall}
 use Rattle.schema.specs.Schema.{Form, AttributeRow, rowName, isNamed}
@@ -105,11 +106,11 @@ listing-less text i {b} eb on ek z ex w = keys-fall text i eb (not-true b on) ek
 
 pub key-ahead : (text : List ℕ) (i : ℕ) {k : token-key.Key} → k ≡ keyed (length text) (tokens-keys.key-at (drop i text))
     → {from to end : ℕ} → k ≡ key-is.Is from to end → from ≤ to
-key-ahead text i ek z = let f = tokens-keys.key-found text i ek z in f .name .ahead (f .gap .inside)
+key-ahead text i ek z = let f = laws-of-tokens-keys.key-found text i ek z in f .name .ahead (f .gap .inside)
 
 pub key-inside : (text : List ℕ) (i : ℕ) {k : token-key.Key} → k ≡ keyed (length text) (tokens-keys.key-at (drop i text))
     → {from to end : ℕ} → k ≡ key-is.Is from to end → to ≤ length text
-key-inside text i ek z = tokens-keys.key-found text i ek z .name .inside
+key-inside text i ek z = laws-of-tokens-keys.key-found text i ek z .name .inside
 
 pub ruleset listing = (
   listing-start,

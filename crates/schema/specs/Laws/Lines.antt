@@ -19,15 +19,16 @@ use Rattle.grammar.specs.Document.{Element}
 use Rattle.grammar.specs.Look.{Word, is, nameOf, valueIn, attributesOf}
 use Rattle.grammar.specs.Parser.{same, name-at}
 use Rattle.grammar.specs.Read.{got}
-use Rattle.steps.specs.Step.{stepped, fell, Went, went}
-use Rattle.steps.specs.Leaves.{name-tails}
+use Rattle.steps.specs.Step.{stepped, Went}
+use Rattle.steps.specs.Laws.Step.{fell, went}
+use Rattle.steps.specs.Laws.Leaves.{name-tails}
 use Rattle.steps.specs.Noted.{part}
 use Rattle.steps.specs.declared.Step.{Step}
 use Rattle.steps.specs.declared.Step.the-variants.{To, No}
 use Rattle.schema.specs.Schema.{Case, rowPlace, kindOf, kindBy, kindChosen, kindAmong, orElse}
 use Rattle.nodes.specs.Places.{Stands, the}
 use Rattle.nodes.specs.Laws.ReadSteps.{spelled}
-use Rattle.nodes.specs.Names.{ending-name}
+use Rattle.nodes.specs.Laws.Names.{ending-name}
 use Rattle.nodes.specs.Attributes.{place}
 use Rattle.nodes.specs.Values.{value-there}
 use Rattle.nodes.specs.declared.Found.{Found}

@@ -10,7 +10,8 @@ use borrow.Author.Needs.{needs}
 use Rattle.lists.specs.Lists.{countUp}
 use Rattle.grammar.specs.Look.{Word, textOf}
 use Rattle.nodes.specs.Places.{the}
-use Rattle.nodes.specs.Texts.{text-of, text-law}
+use Rattle.nodes.specs.Texts.{text-of}
+use Rattle.nodes.specs.Laws.TextSteps.{text-law}
 use Rattle.numbers.specs.Numbers.{whole, volumeDimensions, dimensionList, exponent, decimal, wholes, sixteen, key, keyList, colour}
 use Rattle.base64.specs.Base64.{coded}
 use Rattle.schema.specs.Schema.{Form, word, number, anyValue, isWord, isNumber, isText, anyText, numbers}

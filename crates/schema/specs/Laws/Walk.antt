@@ -15,14 +15,17 @@ use Rattle.lists.specs.Laws.Booleans.{and-true, and-false, or-false, never-some
 use Rattle.grammar.specs.Document.{Element}
 use Rattle.grammar.specs.Look.{Word, elements, contentsOf, textOf}
 use Rattle.schema.specs.Schema.{kindOf, rowPlace}
-use Rattle.schema.specs.Walk.{called, below-children}
+use Rattle.schema.specs.Laws.Everywhere.{called, below-children}
 use Rattle.nodes.specs.Places.{Stands, the}
-use Rattle.nodes.specs.Children.{first, next, left, first-falls}
+use Rattle.nodes.specs.Children.{first, next}
+use Rattle.nodes.specs.Laws.Children.{left, first-falls}
 use Rattle.nodes.specs.Scan.{skip-at, leave-at}
-use Rattle.nodes.specs.Skip.{skip-element}
-use Rattle.nodes.specs.ElementEnd.{Behind, next-behind}
-use Rattle.nodes.specs.TextBytes.{says}
-use Rattle.nodes.specs.Texts.{text-of, text-law}
+use Rattle.nodes.specs.Laws.Skipping.{skip-element}
+use Rattle.nodes.specs.ElementEnd.{Behind}
+use Rattle.nodes.specs.Laws.ElementEnd.{next-behind}
+use Rattle.nodes.specs.Laws.TextBytes.{says}
+use Rattle.nodes.specs.Texts.{text-of}
+use Rattle.nodes.specs.Laws.TextSteps.{text-law}
 use Rattle.nodes.specs.Ahead.{ahead-at, ahead-in-tag}
 use Rattle.nodes.specs.Laws.Ahead.{in-tag-first}
 use Rattle.nodes.specs.Laws.AheadElements.{Facing, facing, facing-first, Met, Over, facing-child, facing-end, facing-stray, left-ahead}

@@ -11,7 +11,7 @@ use lib.ListN.{length, getD, take, drop, length-drop}
 use lib.Seq.{length-take-le, getD-take, getD-drop}
 use borrow.Author.Tests.{eqb-true, eq-eqb, ltb-true, ltb-false, leb-true}
 use Rattle.lists.specs.Lists.{all, any, twoOf}
-use Rattle.lists.specs.Quantifiers.{any-iff, all-iff}
+use Rattle.lists.specs.Laws.Quantifiers.{any-iff, all-iff}
 use Rattle.lists.specs.Refusals.{_when_, first}
 use Rattle.lists.specs.Laws.Booleans.{or-left, or-right, or-first, or-second, or-neither, and-both, and-left, and-right, both-ways}
 use Rattle.lists.specs.Laws.Booleans.{refute}

@@ -13,7 +13,7 @@ use borrow.Author.Tests.{eq-eqb, eqb-true, not-true, not-false}
 use Rattle.lists.specs.Lists.{all, twoOf, table, countUp}
 use Rattle.lists.specs.Refusals.{_when_, first}
 use Rattle.lists.specs.Laws.Booleans.{and-left, and-right, and-both, both-ways}
-use Rattle.lists.specs.Quantifiers.{all-iff}
+use Rattle.lists.specs.Laws.Quantifiers.{all-iff}
 use Rattle.lists.specs.Laws.Tables.{table-below}
 use Rattle.records.specs.Outcome.{Gives, ends, applies, passes, gives-first}
 use Rattle.records.specs.Record.{legalRecord}

@@ -6,8 +6,9 @@ use mathlib.Core.Bool.{Bool, true, false}
 use Prim.Native.Nat.{ℕ, zero, suc, _<_}
 use native.Mathlib.Omega.{arith}
 use lib.ListN.{length}
-use Rattle.grammar.specs.Read.{Read, fail, got, Reader, bind, test, alt, all-of, many-step, Ok, ok-got}
-use Rattle.grammar.specs.Unfuelled.{all-of-step}
+use Rattle.grammar.specs.Read.{Read, fail, got, Reader, bind, test, alt, all-of, many-step}
+use Rattle.grammar.specs.Laws.Read.{Ok, ok-got}
+use Rattle.grammar.specs.Laws.Unfuelled.{all-of-step}
 use Rattle.steps.specs.LineEnds.{lineEnds}
 
 pub data Alike {A : Type 0} (R : A → A → Type 0) : Read A → Read A → Type 0 where

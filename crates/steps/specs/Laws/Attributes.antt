@@ -12,14 +12,17 @@ use lib.ListN.{length, drop, getD, set, length-append, length-set}
 use lib.Seq.{getD-set-same, getD-set-other}
 use Rattle.lists.specs.Laws.Booleans.{clash, and-false, and-no}
 use Rattle.grammar.specs.Document.{Attribute, attribute}
-use Rattle.grammar.specs.Read.{Read, fail, got, Reader, bind, test, all-of, many-step, test-complete}
+use Rattle.grammar.specs.Read.{Read, fail, got, Reader, bind, test, all-of, many-step}
+use Rattle.grammar.specs.Laws.Read.{test-complete}
 use Rattle.grammar.specs.Parser.{attribute-at, attributes-at, ends, closing, same, absent, distinct}
-use Rattle.grammar.specs.Unfuelled.{all-of-step}
-use Rattle.steps.specs.Step.{stepped, at-end, arrives, refuses, Went, went-on}
+use Rattle.grammar.specs.Laws.Unfuelled.{all-of-step}
+use Rattle.steps.specs.Step.{stepped, Went}
+use Rattle.steps.specs.Laws.Step.{at-end, arrives, refuses, went-on}
 use Rattle.steps.specs.Laws.Until.{bind-assoc, bind-each}
 use Rattle.steps.specs.Noted.{part, among, noted, Spans, Within}
-use Rattle.steps.specs.Keys.{named-at, keyed, Named, named-found, named-missed, named-fails, named-reads-it, named-ahead}
-use Rattle.steps.specs.Keys.{name-there, attribute-eats}
+use Rattle.steps.specs.Keys.{named-at, keyed, Named}
+use Rattle.steps.specs.Laws.Keys.{named-found, named-missed, named-fails, named-reads-it, named-ahead}
+use Rattle.steps.specs.Laws.Keys.{name-there, attribute-eats}
 use Rattle.steps.specs.declared.Step.{Step}
 use Rattle.steps.specs.declared.Step.the-variants.{To, No}
 use Rattle.steps.specs.declared.attributes.Key.{Key}

@@ -12,17 +12,20 @@ use Rattle.lists.specs.Laws.Booleans.{and-left, and-right, or-left, clash}
 use Rattle.grammar.specs.Bytes.{ascii, blank, begins, parted, special, Each, no-byte, a-byte}
 use Rattle.grammar.specs.Characters.{utf8-1, lead1}
 use Rattle.grammar.specs.Grammar.{TextCharacter}
-use Rattle.grammar.specs.Read.{Read, fail, got, bind, test, span, span-sound, Ok, ok-got}
+use Rattle.grammar.specs.Read.{Read, fail, got, bind, test, span}
+use Rattle.grammar.specs.Laws.Read.{span-sound, Ok, ok-got}
 use Rattle.grammar.specs.Parser.{Look, at-close, at-comment, at-data, at-element, at-text, look, look-if, text-at}
 use Rattle.grammar.specs.Laws.Tokens.{text-complete}
-use Rattle.steps.specs.Step.{stepped, Went, went, went-on, fell}
-use Rattle.steps.specs.Leaves.{span-tails}
+use Rattle.steps.specs.Step.{stepped, Went}
+use Rattle.steps.specs.Laws.Step.{went, went-on, fell}
+use Rattle.steps.specs.Laws.Leaves.{span-tails}
 use Rattle.steps.specs.Laws.Feeds.{left-by, fed, feed-got}
 use Rattle.steps.specs.Laws.Pieces.{return-text}
 use Rattle.steps.specs.declared.Step.{Step}
 use Rattle.steps.specs.declared.Step.the-variants.{To, No}
-use Rattle.steps.specs.Row.{Piece, character, text-piece-at, piece-by, piece-at, pieces-at, pause, halts, pieces-halt, pieces-go}
-use Rattle.steps.specs.Row.{piece-tails, piece-eats}
+use Rattle.steps.specs.Row.{Piece, character, text-piece-at, piece-by, piece-at, pieces-at, pause, halts}
+use Rattle.steps.specs.Laws.Row.{pieces-halt, pieces-go}
+use Rattle.steps.specs.Laws.Row.{piece-tails, piece-eats}
 use Rattle.steps.specs.Pieces.{plain, halted, stoppedBy}
 use Rattle.steps.specs.declared.pieces.Between.{Between}
 use Rattle.steps.specs.declared.pieces.Between.the-variants as Between

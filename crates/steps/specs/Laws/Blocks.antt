@@ -15,7 +15,8 @@ use Rattle.lists.specs.Laws.Booleans.{and-left, and-right, and-both, and-true, 
 use Rattle.grammar.specs.Bytes.{blank, special}
 use Rattle.grammar.specs.Characters.{lead1}
 use Rattle.grammar.specs.Read.{span}
-use Rattle.steps.specs.Step.{stepped, at-byte}
+use Rattle.steps.specs.Step.{stepped}
+use Rattle.steps.specs.Laws.Step.{at-byte}
 use Rattle.steps.specs.Noted.{part}
 use Rattle.steps.specs.Leaves.{data-plain}
 use Rattle.steps.specs.Pieces.{plain}

@@ -12,7 +12,8 @@ use Rattle.lists.specs.Laws.Booleans.{and-left, and-right}
 use Rattle.grammar.specs.Bytes.{ascii, blank, nameStart, nameByte, letter, quote, begins, Each, no-byte, a-byte}
 use Rattle.grammar.specs.Grammar
 use Rattle.grammar.specs.Grammar.{Name}
-use Rattle.grammar.specs.Read.{fail, got, bind, mark, byte, span, mark-other, byte-other, byte-complete}
+use Rattle.grammar.specs.Read.{fail, got, bind, mark, byte, span}
+use Rattle.grammar.specs.Laws.Read.{mark-other, byte-other, byte-complete}
 use Rattle.grammar.specs.Parser.{name-at, gap-at, equals-at, ends, look, look-if, look₂, look₃, look-third, look-by}
 use Rattle.grammar.specs.Laws.Facts.{quote-in, nameStart-in, nameByte-in}
 use Rattle.steps.specs.Laws.Feeds.{fed}

@@ -11,9 +11,11 @@ use Rattle.lists.specs.Laws.Booleans.{clash, or-true}
 use Rattle.grammar.specs.Bytes.{between, begins, blank}
 use Rattle.grammar.specs.Laws.Facts.{within}
 use Rattle.grammar.specs.Characters.{lead1, lead2, lead3, lead4, continues, noncharacter}
-use Rattle.grammar.specs.Read.{Read, fail, got, bind, byte, test, mark, test-complete, byte-complete, byte-other}
+use Rattle.grammar.specs.Read.{Read, fail, got, bind, byte, test, mark}
+use Rattle.grammar.specs.Laws.Read.{test-complete, byte-complete, byte-other}
 use Rattle.grammar.specs.Parser.{one, two, three, four, width, width-by, rest-by, rest-at, literal-at}
-use Rattle.steps.specs.Step.{stepped, at-byte, at-end, arrives, refuses}
+use Rattle.steps.specs.Step.{stepped}
+use Rattle.steps.specs.Laws.Step.{at-byte, at-end, arrives, refuses}
 use Rattle.steps.specs.Laws.Until.{stepped-value}
 use Rattle.steps.specs.Leaves.{character-at, anything}
 use Rattle.steps.specs.declared.Step.{Step}

@@ -11,15 +11,16 @@ use Rattle.lists.specs.Laws.Booleans.{refute}
 use Rattle.grammar.specs.Bytes.{ascii, blank, quote, special, begins, parted}
 use Rattle.grammar.specs.Characters.{utf8-1, lead1, lead2, lead3, lead4, continues, noncharacter}
 use Rattle.grammar.specs.Grammar.{TextCharacter}
-use Rattle.grammar.specs.Read.{fail, got, bind, byte, mark, alt, byte-sound, byte-complete, Ok}
+use Rattle.grammar.specs.Read.{fail, got, bind, byte, mark, alt}
+use Rattle.grammar.specs.Laws.Read.{byte-sound, byte-complete, Ok}
 use Rattle.grammar.specs.Parser.{CharacterWidth, one, two, three, four, width, rest-by, rest-at, literal-at, standsFor, reference-at}
 use Rattle.grammar.specs.Parser.{line-end-at, text-byte, text-at, spacing, space-at, value-byte, value-character-at, value-at}
 use Rattle.grammar.specs.Parser.{attribute-at, ends, closing, distinct, attributes-at}
 use Rattle.grammar.specs.Laws.Others.{lead3-high, lead4-high}
 use Rattle.grammar.specs.Laws.Sound.{attribute-sound}
 use Rattle.grammar.specs.Laws.Tokens.{text-complete, reference-other, line-end-other, attribute-long}
-use Rattle.grammar.specs.Unfuelled.{less}
-use Rattle.steps.specs.Leaves.{value-character-eats}
+use Rattle.grammar.specs.Laws.Unfuelled.{less}
+use Rattle.steps.specs.Laws.Leaves.{value-character-eats}
 use Rattle.steps.specs.Laws.Feeds.{fed, feed-got, return-read}
 use Rattle.steps.specs.Laws.Pieces.{return-text}
 use Rattle.steps.specs.LineEnds.{lineEnds}

@@ -9,11 +9,15 @@ use lib.Dec.{eqb}
 use lib.ListN.{length, drop, getD}
 use Rattle.lists.specs.Laws.Booleans.{and-true}
 use Rattle.grammar.specs.Bytes.{ascii, between, begins}
-use Rattle.grammar.specs.Read.{Read, fail, got, bind, byte, mark, alt, mark-other, mark-complete}
+use Rattle.grammar.specs.Read.{Read, fail, got, bind, byte, mark, alt}
+use Rattle.grammar.specs.Laws.Read.{mark-other, mark-complete}
 use Rattle.grammar.specs.Parser.{literal-at, no-dash, plain-at, dashed-at, remark-at, comment-at}
-use Rattle.steps.specs.Step.{stepped, at-byte, at-end, refuses, fell, went}
-use Rattle.steps.specs.Laws.Until.{until, Going, going-start, going-stops, going-fails, going-stuck, going-goes, moved, stepped-value}
-use Rattle.steps.specs.Leaves.{character-at, literal-is, literal-not, mark-tails, comment-rest-at, remark-eats, remark-tails}
+use Rattle.steps.specs.Step.{stepped}
+use Rattle.steps.specs.Laws.Step.{at-byte, at-end, refuses, fell, went}
+use Rattle.steps.specs.Laws.Until.{Going, going-start, going-stops, going-fails, going-stuck, going-goes, moved, stepped-value}
+use Rattle.steps.specs.Until.{until}
+use Rattle.steps.specs.Leaves.{character-at, comment-rest-at}
+use Rattle.steps.specs.Laws.Leaves.{literal-is, literal-not, mark-tails, remark-eats, remark-tails}
 use Rattle.steps.specs.Laws.Characters.{plain-step}
 use Rattle.steps.specs.declared.Step.{Step}
 use Rattle.steps.specs.declared.Step.the-variants.{To, No}

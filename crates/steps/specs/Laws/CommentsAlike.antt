@@ -10,10 +10,13 @@ use borrow.Author.Tests.{eqb-true}
 use Rattle.lists.specs.Lists.{all}
 use Rattle.grammar.specs.Bytes.{ascii, blank, begins}
 use Rattle.grammar.specs.Characters.{lead1}
-use Rattle.grammar.specs.Read.{Read, fail, got, bind, byte, mark, test, alt, mark-other, Ok}
+use Rattle.grammar.specs.Read.{Read, fail, got, bind, byte, mark, test, alt}
+use Rattle.grammar.specs.Laws.Read.{mark-other, Ok}
 use Rattle.grammar.specs.Parser.{width, width-by, rest-by, rest-at, literal-at, no-dash, plain-at, dashed-at, remark-at, comment-at}
-use Rattle.steps.specs.Leaves.{remark-eats, comment-rest-at}
-use Rattle.steps.specs.Laws.Until.{until, until-stop, until-go}
+use Rattle.steps.specs.Leaves.{comment-rest-at}
+use Rattle.steps.specs.Laws.Leaves.{remark-eats}
+use Rattle.steps.specs.Laws.Until.{until-stop, until-go}
+use Rattle.steps.specs.Until.{until}
 use Rattle.steps.specs.Laws.Feeds.{fed}
 use Rattle.steps.specs.LineEnds.{lineEnds}
 use Rattle.steps.specs.Laws.LineEnds.{none-ends, pair-ends, lone-ends, other-ends, return-ends, View, at-end, at-return, at-other}

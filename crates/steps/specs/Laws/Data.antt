@@ -13,17 +13,21 @@ use Rattle.grammar.specs.Bytes.{ascii, begins, parted, Each, no-byte, a-byte}
 use Rattle.grammar.specs.Characters.{utf8-1, lead1}
 use Rattle.grammar.specs.Grammar.{DataCharacter}
 use Rattle.grammar.specs.Document.{together}
-use Rattle.grammar.specs.Read.{Read, fail, got, bind, byte, mark, alt, all-of, span, span-sound, Ok, ok-got}
+use Rattle.grammar.specs.Read.{Read, fail, got, bind, byte, mark, alt, all-of, span}
+use Rattle.grammar.specs.Laws.Read.{span-sound, Ok, ok-got}
 use Rattle.grammar.specs.Parser.{literal-at, feed-at, line-end-at, data-byte, data-character-at, data-at}
 use Rattle.grammar.specs.Laws.Tokens.{line-end-other}
 use Rattle.grammar.specs.Laws.Data.{data-character-reads}
-use Rattle.steps.specs.Step.{stepped, at-byte, at-end, refuses, Went, went}
-use Rattle.steps.specs.Laws.Until.{until, Going, going-start, going-stops, going-fails, going-stuck, going-goes, moved, stepped-value}
+use Rattle.steps.specs.Step.{stepped, Went}
+use Rattle.steps.specs.Laws.Step.{at-byte, at-end, refuses, went}
+use Rattle.steps.specs.Laws.Until.{Going, going-start, going-stops, going-fails, going-stuck, going-goes, moved, stepped-value}
+use Rattle.steps.specs.Until.{until}
 use Rattle.steps.specs.Laws.Until.{stepped-each, until-go}
 use Rattle.steps.specs.Laws.Parsing.{stuck, follows}
 use Rattle.steps.specs.Laws.Feeds.{feed-got, return-read}
-use Rattle.steps.specs.Leaves.{character-at, literal-is, mark-tails, span-tails, data-plain, data-rest-at, data-character-eats}
-use Rattle.steps.specs.Leaves.{data-character-tails}
+use Rattle.steps.specs.Leaves.{character-at, data-plain, data-rest-at}
+use Rattle.steps.specs.Laws.Leaves.{literal-is, mark-tails, span-tails, data-character-eats}
+use Rattle.steps.specs.Laws.Leaves.{data-character-tails}
 use Rattle.steps.specs.declared.Step.{Step}
 use Rattle.steps.specs.declared.Step.the-variants.{To, No}
 

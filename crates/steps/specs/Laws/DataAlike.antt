@@ -9,12 +9,15 @@ use lib.ListN.{length}
 use Rattle.lists.specs.Lists.{all}
 use Rattle.grammar.specs.Bytes.{ascii, blank, begins, skipped}
 use Rattle.grammar.specs.Characters.{lead1}
-use Rattle.grammar.specs.Read.{fail, got, bind, byte, mark, test, alt, Ok}
+use Rattle.grammar.specs.Read.{fail, got, bind, byte, mark, test, alt}
+use Rattle.grammar.specs.Laws.Read.{Ok}
 use Rattle.grammar.specs.Parser.{width, width-by, rest-by, rest-at, literal-at, line-end-at, data-byte, data-character-at, data-at}
 use Rattle.grammar.specs.Parser.{skipped-at, doctype-at}
 use Rattle.grammar.specs.Laws.Tokens.{line-end-other}
-use Rattle.steps.specs.Leaves.{data-character-eats, skipped-eats, doctype-rest-at}
-use Rattle.steps.specs.Laws.Until.{until, until-stop, until-go}
+use Rattle.steps.specs.Leaves.{doctype-rest-at}
+use Rattle.steps.specs.Laws.Leaves.{data-character-eats, skipped-eats}
+use Rattle.steps.specs.Laws.Until.{until-stop, until-go}
+use Rattle.steps.specs.Until.{until}
 use Rattle.steps.specs.Laws.Feeds.{fed, feed-got, return-read}
 use Rattle.steps.specs.LineEnds.{lineEnds}
 use Rattle.steps.specs.Laws.LineEnds.{none-ends, pair-ends, lone-ends, other-ends, return-ends, View, at-end, at-return, at-other}

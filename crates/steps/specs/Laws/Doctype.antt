@@ -9,13 +9,18 @@ use borrow.Author.Tests.{eq-eqb, ne-eqb, not-true, not-false}
 use lib.Dec.{eqb}
 use lib.ListN.{length, drop, getD}
 use Rattle.grammar.specs.Bytes.{ascii, begins, skipped}
-use Rattle.grammar.specs.Read.{Read, fail, got, bind, byte, mark, mark-complete}
+use Rattle.grammar.specs.Read.{Read, fail, got, bind, byte, mark}
+use Rattle.grammar.specs.Laws.Read.{mark-complete}
 use Rattle.grammar.specs.Parser.{literal-at, skipped-at, doctype-at, doctype-if, prologue-at}
-use Rattle.steps.specs.Step.{stepped, at-byte, at-end, arrives, refuses, fell, went}
-use Rattle.steps.specs.Laws.Until.{until, Going, going-start, going-stops, going-fails, going-stuck, going-goes, moved, stepped-value}
+use Rattle.steps.specs.Step.{stepped}
+use Rattle.steps.specs.Laws.Step.{at-byte, at-end, arrives, refuses, fell, went}
+use Rattle.steps.specs.Laws.Until.{Going, going-start, going-stops, going-fails, going-stuck, going-goes, moved, stepped-value}
+use Rattle.steps.specs.Until.{until}
 use Rattle.steps.specs.Laws.Parsing.{stuck, follows}
-use Rattle.steps.specs.Leaves.{character-at, literal-is, literal-not, mark-tails, doctype-rest-at, skipped-eats, skipped-tails}
-use Rattle.steps.specs.Prologue.{asides-at, asides-tails, typed-at, doctype-tails}
+use Rattle.steps.specs.Leaves.{character-at, doctype-rest-at}
+use Rattle.steps.specs.Laws.Leaves.{literal-is, literal-not, mark-tails, skipped-eats, skipped-tails}
+use Rattle.steps.specs.Prologue.{asides-at, typed-at}
+use Rattle.steps.specs.Laws.Prologue.{asides-tails, doctype-tails}
 use Rattle.steps.specs.declared.Step.{Step}
 use Rattle.steps.specs.declared.Step.the-variants.{To, No}
 

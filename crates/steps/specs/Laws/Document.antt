@@ -13,18 +13,22 @@ use borrow.Author.Tests.{eqb-true, eqb-false}
 use Rattle.lists.specs.Laws.Booleans.{clash}
 use Rattle.grammar.specs.Document.{Element}
 use Rattle.grammar.specs.Grammar.{Writes}
-use Rattle.grammar.specs.Read.{Read, fail, got, Reader, bind, all-of, all-of-sound}
+use Rattle.grammar.specs.Read.{Read, fail, got, Reader, bind, all-of}
+use Rattle.grammar.specs.Laws.Read.{all-of-sound}
 use Rattle.grammar.specs.Parser.{declaration-at, no-aside, aside-at, element-at, contents-at, document-at, end-at, answer, parse}
 use Rattle.grammar.specs.Laws.Sound.{declaration-sound, aside-sound, prologue-sound}
 use Rattle.grammar.specs.Laws.SoundElements.{parse-sound}
 use Rattle.grammar.specs.Laws.Complete.{parse-complete}
-use Rattle.grammar.specs.Unfuelled.{contents, element-enough, bind-same, no-more-than}
-use Rattle.steps.specs.Step.{stepped, Went, went, fell, at-byte, at-end}
+use Rattle.grammar.specs.Unfuelled.{contents}
+use Rattle.grammar.specs.Laws.Unfuelled.{element-enough, bind-same, no-more-than}
+use Rattle.steps.specs.Step.{stepped, Went}
+use Rattle.steps.specs.Laws.Step.{went, fell, at-byte, at-end}
 use Rattle.steps.specs.Laws.Until.{bind-assoc}
 use Rattle.steps.specs.declared.Step.{Step}
 use Rattle.steps.specs.declared.Step.the-variants.{To, No}
-use Rattle.steps.specs.Row.{element-tails}
-use Rattle.steps.specs.Prologue.{asides-at, asides-tails, preamble-at, preamble-tails}
+use Rattle.steps.specs.Laws.Row.{element-tails}
+use Rattle.steps.specs.Prologue.{asides-at, preamble-at}
+use Rattle.steps.specs.Laws.Prologue.{asides-tails, preamble-tails}
 use Rattle.steps.specs.WellFormed.{WellFormed}
 
 -- the document's reader, without fuel

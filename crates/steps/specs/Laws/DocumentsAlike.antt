@@ -10,16 +10,18 @@ use Rattle.lists.specs.Lists.{all}
 use Rattle.grammar.specs.Bytes.{ascii, blank, begins}
 use Rattle.grammar.specs.Document.{Attribute, Element, element, Contents, nothing, child, run, merged}
 use Rattle.grammar.specs.Erased.{node, Nodes, none, inner, characters, erased, erasedAll, erasedIn, documentOf}
-use Rattle.grammar.specs.Read.{Read, got, Reader, bind, all-of, seen, test, test-sound, mark-sound, span-sound}
-use Rattle.grammar.specs.Read.{all-of-sound}
+use Rattle.grammar.specs.Read.{Read, got, Reader, bind, all-of, seen, test}
+use Rattle.grammar.specs.Laws.Read.{test-sound, mark-sound, span-sound}
+use Rattle.grammar.specs.Laws.Read.{all-of-sound}
 use Rattle.grammar.specs.Parser.{Look, at-close, at-comment, at-data, at-element, at-text, look}
 use Rattle.grammar.specs.Parser.{empty-at, full-at, element-at, contents-by, declaration-at, prologue-at, aside-at, no-aside, end-at}
 use Rattle.grammar.specs.Parser.{document-at, answer, parse}
 use Rattle.grammar.specs.Laws.Sound.{name-sound, attributes-sound, comment-sound, data-sound, text-sound, declaration-sound, prologue-sound}
 use Rattle.grammar.specs.Laws.Tokens.{text-long}
 use Rattle.grammar.specs.Laws.Complete.{comment-long, data-long}
-use Rattle.grammar.specs.Unfuelled.{less, no-more-than, bind-same, contents, contents-step, element-enough}
-use Rattle.steps.specs.Row.{element-eats}
+use Rattle.grammar.specs.Unfuelled.{contents}
+use Rattle.grammar.specs.Laws.Unfuelled.{less, no-more-than, bind-same, contents-step, element-enough}
+use Rattle.steps.specs.Laws.Row.{element-eats}
 use Rattle.steps.specs.LineEnds.{lineEnds}
 use Rattle.steps.specs.Laws.Alike.{Alike, both-fail, both-got, Same, Ended, ended, so-reads, then}
 use Rattle.steps.specs.Laws.Alike.{then-any, then-same, then-known, then-so, either, test-alike}

@@ -14,7 +14,8 @@ use Rattle.grammar.specs.Grammar
 use Rattle.grammar.specs.Grammar.{LineEnd}
 use Rattle.grammar.specs.Read.{Read, got, bind, mark, test}
 use Rattle.grammar.specs.Parser.{standsFor, feed-if, feed-at, line-end-at}
-use Rattle.steps.specs.Step.{stepped, at-byte, at-end, arrives}
+use Rattle.steps.specs.Step.{stepped}
+use Rattle.steps.specs.Laws.Step.{at-byte, at-end, arrives}
 use Rattle.steps.specs.declared.Step.the-variants.{To}
 
 -- what is left behind it

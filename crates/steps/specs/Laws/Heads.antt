@@ -5,11 +5,14 @@ use Prim.Native.Nat.{ℕ, _+_, _-_, _≤_, _<_}
 use borrow.Author.Tests.{ne-eqb}
 use lib.ListN.{length, drop, getD}
 use Rattle.grammar.specs.Bytes.{ascii, blank}
-use Rattle.grammar.specs.Read.{bind, mark, span, mark-other, mark-complete}
+use Rattle.grammar.specs.Read.{bind, mark, span}
+use Rattle.grammar.specs.Laws.Read.{mark-other, mark-complete}
 use Rattle.grammar.specs.Parser.{name-at, attributes-at}
-use Rattle.steps.specs.Step.{stepped, at-byte, at-end, arrives, refuses, Went}
-use Rattle.steps.specs.Leaves.{name-tails}
-use Rattle.steps.specs.Keys.{head, head-at, attributes-tails}
+use Rattle.steps.specs.Step.{stepped, Went}
+use Rattle.steps.specs.Laws.Step.{at-byte, at-end, arrives, refuses}
+use Rattle.steps.specs.Laws.Leaves.{name-tails}
+use Rattle.steps.specs.Keys.{head, head-at}
+use Rattle.steps.specs.Laws.Keys.{attributes-tails}
 use Rattle.steps.specs.Laws.Keys.{stuck, step}
 use Rattle.steps.specs.Laws.Steps.{spanned}
 use Rattle.steps.specs.declared.Step.{Step}

@@ -6,8 +6,10 @@ use mathlib.Core.Bool.{Bool, true, false, _&&_}
 use lib.Dec.{eqb}
 use lib.ListN.{length, drop, length-drop}
 use Rattle.grammar.specs.Bytes.{begins}
-use Rattle.grammar.specs.Read.{Read, fail, got, Reader, bind, mark, test, Ok, failed, good}
-use Rattle.steps.specs.Step.{stepped, Tails, Went, went, arrives, refuses, fell, at-byte, at-end}
+use Rattle.grammar.specs.Read.{Read, fail, got, Reader, bind, mark, test}
+use Rattle.grammar.specs.Laws.Read.{Ok, failed, good}
+use Rattle.steps.specs.Step.{stepped, Went}
+use Rattle.steps.specs.Laws.Step.{Tails, went, arrives, refuses, fell, at-byte, at-end}
 use Rattle.steps.specs.declared.Step.{Step}
 use Rattle.steps.specs.declared.Step.the-variants.{To, No}
 

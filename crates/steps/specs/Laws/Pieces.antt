@@ -17,8 +17,10 @@ use Rattle.grammar.specs.Parser.{Look, at-close, at-comment, at-data, at-elemen
 use Rattle.grammar.specs.Parser.{look-by, text-at}
 use Rattle.grammar.specs.Parser.{reference-at, standsFor, feed-at, line-end-at, text-byte, literal-at, comment-at, data-at}
 use Rattle.grammar.specs.Laws.Tokens.{text-complete, reference-other, line-end-other}
-use Rattle.steps.specs.Step.{stepped, arrives, refuses, at-byte, at-end}
-use Rattle.steps.specs.Leaves.{character-at, literal-is, literal-not}
+use Rattle.steps.specs.Step.{stepped}
+use Rattle.steps.specs.Laws.Step.{arrives, refuses, at-byte, at-end}
+use Rattle.steps.specs.Leaves.{character-at}
+use Rattle.steps.specs.Laws.Leaves.{literal-is, literal-not}
 use Rattle.steps.specs.Laws.Until.{stepped-value}
 use Rattle.steps.specs.Laws.Feeds.{feed-got, return-read}
 use Rattle.steps.specs.declared.Step.{Step}

@@ -1,30 +1,66 @@
 -- The readers of what stands round the root, step by step.
-use mathlib.Core.Path.{_≡_, refl, ap, sym, _∙_, subst}
-use mathlib.Core.List.{List, [], _∷_, _++_}
-use Prim.Native.Nat.{ℕ, suc, _+_, _-_, _≤_, _<_}
+use mathlib.Core.Path.{_≡_, refl}
+use mathlib.Core.List.{List, [], _∷_, _++_, append-assoc}
+use Prim.Native.Nat.{ℕ, _<_}
+use lib.ListN.{length}
+use Rattle.grammar.specs.Bytes.{ascii, begins}
+use Rattle.grammar.specs.Read.{Read, got, Reader, bind, _>>=_, _>>_, mark, byte}
+use Rattle.grammar.specs.Laws.Read.{Ok, good, bind-ok, ok-map}
+use Rattle.grammar.specs.Laws.Read.{all-of-sound}
+use Rattle.grammar.specs.Bytes.{quote}
+use Rattle.grammar.specs.Parser.{declaration-at, no-aside, aside-at, doctype-at, prologue-at, setting-at, encoding-if, ends}
+use Rattle.grammar.specs.Parser.{asking}
+use Rattle.grammar.specs.Laws.Sound.{aside-sound, declaration-sound, doctype-sound, prologue-sound}
+use Rattle.grammar.specs.Laws.Complete.{aside-long}
+use Rattle.grammar.specs.Laws.Unfuelled.{less}
+use Rattle.steps.specs.Laws.Step.{Tails, tails}
+use Rattle.steps.specs.Prologue.{asides-at, preamble-at}
+use mathlib.Core.Path.{ap, sym, _∙_, subst}
+use Prim.Native.Nat.{_+_, _-_, _≤_}
 use native.Mathlib.Omega.{arith}
 use borrow.Author.Needs.{needs}
 use mathlib.Core.Bool.{Bool, true, false, _||_, not}
 use lib.Dec.{eqb}
-use lib.ListN.{length, drop, getD, length-append, length-drop}
-use borrow.Author.Tests.{eq-eqb, ne-eqb, not-true, not-false, eqb-true}
+use lib.ListN.{drop, getD, length-append, length-drop}
+use borrow.Author.Tests.{ne-eqb, not-true, not-false, eqb-true}
 use Rattle.lists.specs.Laws.Booleans.{and-left, clash, and-false}
-use Rattle.grammar.specs.Bytes.{ascii, blank, quote, begins, Each, no-byte, a-byte}
-use Rattle.grammar.specs.Read.{Read, fail, got, Reader, bind, alt, test, mark, mark-complete, mark-other, byte, byte-complete, byte-other}
-use Rattle.grammar.specs.Read.{span, span-sound, stops, all-of, many-step, Ok, failed, good, ok-got, ok-map, bind-ok}
-use Rattle.grammar.specs.Laws.Facts.{blank-in}
+use Rattle.grammar.specs.Bytes.{blank, Each, no-byte, a-byte}
+use Rattle.grammar.specs.Read.{alt}
+use Rattle.grammar.specs.Laws.Read.{mark-complete, mark-other, byte-complete, byte-other}
+use Rattle.grammar.specs.Read.{span, stops, many-step}
+use Rattle.grammar.specs.Laws.Read.{span-sound, ok-got}
 use Rattle.grammar.specs.Laws.Sound.{comment-sound, setting-sound}
-use Rattle.grammar.specs.Parser.{declaration-at, declaration-if, no-aside, aside-at, blank-at, remarked-at, comment-at, setting-at}
-use Rattle.grammar.specs.Parser.{encoding-if, ends, asking, gap-at, equals-at, prologue-at}
-use Rattle.grammar.specs.Unfuelled.{all-of-step, less}
+use Rattle.grammar.specs.Parser.{declaration-if, blank-at, remarked-at, comment-at}
+use Rattle.grammar.specs.Parser.{gap-at, equals-at}
+use Rattle.grammar.specs.Laws.Unfuelled.{all-of-step}
 use Rattle.grammar.specs.Laws.Complete.{comment-long}
-use Rattle.steps.specs.Step.{stepped, tails, Tails, Went, went, went-on, arrives, refuses, fell, at-byte, at-end}
-use Rattle.steps.specs.Leaves.{span-tails, mark-tails, gap-tails, equals-tails}
+use Rattle.steps.specs.Step.{stepped, Went}
+use Rattle.steps.specs.Laws.Step.{went, went-on, arrives, refuses, at-byte, at-end}
+use Rattle.steps.specs.Laws.Leaves.{span-tails, mark-tails, gap-tails, equals-tails}
 use Rattle.steps.specs.Laws.Until.{bind-assoc, stepped-value, stepped-each}
 use Rattle.steps.specs.declared.Step.{Step}
 use Rattle.steps.specs.declared.Step.the-variants.{To, No}
-use Rattle.steps.specs.Prologue.{asides-at, asides-tails, aside-eats, preamble-at, declaration-tails, quoted-at, encoding-at}
+use Rattle.steps.specs.Prologue.{quoted-at, encoding-at}
 use Rattle.steps.specs.Laws.Parsing.{stuck, follows}
+
+pub asides-tails : (s : List ℕ) → Ok (Tails s) (asides-at s)
+unfolding asides-at
+asides-tails s = tails (all-of-sound aside-sound no-aside s)
+
+pub aside-eats : (s : List ℕ) → Ok (λ _ r. length r < length s) (aside-at s)
+aside-eats s = less (λ b w h. aside-long h) (aside-sound s)
+
+pub declaration-tails : (s : List ℕ) → Ok (Tails s) (declaration-at s)
+declaration-tails s = tails (declaration-sound s)
+
+pub doctype-tails : (s : List ℕ) → Ok (Tails s) (doctype-at s)
+doctype-tails s = tails (doctype-sound s)
+
+pub preamble-tails : (s : List ℕ) → Ok (Tails s) (preamble-at s)
+unfolding preamble-at
+preamble-tails s =
+    bind-ok (declaration-tails s) λ _ r h.
+    ok-map (prologue-sound r) λ l r₁ k. (h .0 ++ k .0, simp append-assoc (let a = h .1 in let b = k .1 in cc))
 
 -- BLANKS AND COMMENTS
 asides-stop : (s : List ℕ) → no-aside s ≡ true → asides-at s ≡ got [] s

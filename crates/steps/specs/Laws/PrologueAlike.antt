@@ -8,12 +8,13 @@ use lib.Dec.{eqb}
 use lib.ListN.{length}
 use Rattle.lists.specs.Lists.{all}
 use Rattle.grammar.specs.Bytes.{ascii, blank, quote, begins}
-use Rattle.grammar.specs.Read.{Read, got, bind, alt, all-of, many-step, stops, byte-sound, byte-complete, byte-other, Ok}
+use Rattle.grammar.specs.Read.{Read, got, bind, alt, all-of, many-step, stops}
+use Rattle.grammar.specs.Laws.Read.{byte-sound, byte-complete, byte-other, Ok}
 use Rattle.grammar.specs.Parser.{setting-at, asking, ends, encoding-if, declaration-if, declaration-at, blank-at, remarked-at, aside-at}
 use Rattle.grammar.specs.Parser.{no-aside, doctype-if, prologue-at, end-at}
 use Rattle.grammar.specs.Laws.Sound.{aside-sound}
 use Rattle.grammar.specs.Laws.Complete.{aside-long}
-use Rattle.grammar.specs.Unfuelled.{less, all-of-step}
+use Rattle.grammar.specs.Laws.Unfuelled.{less, all-of-step}
 use Rattle.steps.specs.LineEnds.{lineEnds}
 use Rattle.steps.specs.Laws.LineEnds.{none-ends, pair-ends, lone-ends, other-ends, return-ends, View, at-end, at-return, at-other}
 use Rattle.steps.specs.Laws.LineEnds.{view}

@@ -10,12 +10,14 @@ use lib.Dec.{eqb, leb}
 use lib.ListN.{length, drop, getD, length-append, length-drop}
 use Rattle.lists.specs.Laws.Booleans.{and-right, refute, clash}
 use Rattle.grammar.specs.Bytes.{ascii, blank, nameStart, nameByte}
-use Rattle.grammar.specs.Read.{Read, fail, got, bind, span, byte, test, mark, ok-got, span-sound, byte-complete, byte-other}
-use Rattle.grammar.specs.Read.{mark-complete, mark-other, test-complete}
+use Rattle.grammar.specs.Read.{Read, fail, got, bind, span, byte, test, mark}
+use Rattle.grammar.specs.Laws.Read.{ok-got, span-sound, byte-complete, byte-other}
+use Rattle.grammar.specs.Laws.Read.{mark-complete, mark-other, test-complete}
 use Rattle.grammar.specs.Parser.{gap-at, equals-at, name-at, ends, closing, asking, same}
-use Rattle.steps.specs.Step.{stepped, at-byte, at-end, arrives, refuses, Went, went}
+use Rattle.steps.specs.Step.{stepped, Went}
+use Rattle.steps.specs.Laws.Step.{at-byte, at-end, arrives, refuses, went}
 use Rattle.steps.specs.Laws.Until.{stepped-value}
-use Rattle.steps.specs.Leaves.{span-tails}
+use Rattle.steps.specs.Laws.Leaves.{span-tails}
 use Rattle.steps.specs.declared.Step.the-variants.{To, No}
 
 -- SPANS: the same end from here

@@ -9,16 +9,19 @@ use lib.Seq.{take-append-seam}
 use borrow.Author.Tests.{ne-eqb}
 use Rattle.grammar.specs.Bytes.{ascii, blank}
 use Rattle.grammar.specs.Document.{Attribute}
-use Rattle.grammar.specs.Read.{Read, fail, got, Reader, bind, mark, mark-complete, mark-other, span, byte, Ok, ok-got}
+use Rattle.grammar.specs.Read.{Read, fail, got, Reader, bind, mark, span, byte}
+use Rattle.grammar.specs.Laws.Read.{mark-complete, mark-other, Ok, ok-got}
 use Rattle.grammar.specs.Grammar.{Name}
 use Rattle.grammar.specs.Parser.{name-at, attributes-at}
 use Rattle.grammar.specs.Laws.Sound.{attributes-sound, name-sound}
-use Rattle.steps.specs.Step.{stepped, tails, Went, went, arrives, refuses, fell, at-byte, at-end}
-use Rattle.steps.specs.Leaves.{span-tails, mark-tails, name-tails}
+use Rattle.steps.specs.Step.{stepped, Went}
+use Rattle.steps.specs.Laws.Step.{tails, went, arrives, refuses, fell, at-byte, at-end}
+use Rattle.steps.specs.Laws.Leaves.{span-tails, mark-tails, name-tails}
 use Rattle.steps.specs.Laws.Until.{stepped-value}
 use Rattle.steps.specs.declared.Step.{Step}
 use Rattle.steps.specs.declared.Step.the-variants.{To, No}
-use Rattle.steps.specs.Keys.{head-at, head-tails}
+use Rattle.steps.specs.Keys.{head-at}
+use Rattle.steps.specs.Laws.Keys.{head-tails}
 use Rattle.steps.specs.Tags.{ended, opened, close-at, closing-at}
 use Rattle.steps.specs.declared.tags.Opened.{Opened}
 use Rattle.steps.specs.declared.tags.Opened.the-variants.{Full, Empty, Bad}

@@ -4,15 +4,14 @@ use mathlib.Core.List.{List, _∷_}
 use mathlib.Core.Bool.{Bool, true, false}
 use Prim.Native.Nat.{ℕ, _<_}
 use lib.ListN.{length, drop}
-use Rattle.grammar.specs.Read.{Read, fail, got, Reader, bind, all-of, many-step, Ok}
-use Rattle.grammar.specs.Unfuelled.{all-of-step}
-use Rattle.steps.specs.Step.{stepped, refuses, fell, Tails, Went, went, went-on}
+use Rattle.grammar.specs.Read.{Read, fail, got, Reader, bind, all-of, many-step}
+use Rattle.grammar.specs.Laws.Read.{Ok}
+use Rattle.grammar.specs.Laws.Unfuelled.{all-of-step}
+use Rattle.steps.specs.Step.{stepped, Went}
+use Rattle.steps.specs.Laws.Step.{refuses, fell, Tails, went, went-on}
 use Rattle.steps.specs.declared.Step.{Step}
 use Rattle.steps.specs.declared.Step.the-variants.{To, No}
-
--- `p` again and again, up to where `stop` says so, and then `k`
-unfoldable pub until : {A B : Type 0} → (List ℕ → Bool) → Reader A → Reader B → Reader B
-until stop p k s = bind (all-of stop p s) (λ _ r. k r)
+use Rattle.steps.specs.Until.{until}
 
 pub bind-assoc : {A B C : Type 0} (m : Read A) (f : A → List ℕ → Read B) (g : B → List ℕ → Read C)
     → bind (bind m f) g ≡ bind m (λ a r. bind (f a r) g)

@@ -10,16 +10,20 @@ use lib.ListN.{length, drop, getD}
 use Rattle.lists.specs.Laws.Booleans.{and-left, and-right, or-left, or-right, clash}
 use Rattle.grammar.specs.Bytes.{ascii, between, blank, quote, special, begins}
 use Rattle.grammar.specs.Document.{together}
-use Rattle.grammar.specs.Read.{Read, fail, got, bind, byte, mark, alt, all-of, mark-other, mark-complete, byte-complete, byte-other}
+use Rattle.grammar.specs.Read.{Read, fail, got, bind, byte, mark, alt, all-of}
+use Rattle.grammar.specs.Laws.Read.{mark-other, mark-complete, byte-complete, byte-other}
 use Rattle.grammar.specs.Parser.{standsFor, reference-at, feed-at, line-end-at, spacing, space-at, literal-at, value-byte}
 use Rattle.grammar.specs.Parser.{value-character-at, value-at}
 use Rattle.grammar.specs.Laws.Facts.{no-return, within}
 use Rattle.grammar.specs.Laws.Tokens.{line-end-other}
-use Rattle.steps.specs.Step.{stepped, at-byte, at-end, arrives, refuses}
-use Rattle.steps.specs.Laws.Until.{until, Going, going-start, going-stops, going-fails, going-stuck, going-goes, moved}
+use Rattle.steps.specs.Step.{stepped}
+use Rattle.steps.specs.Laws.Step.{at-byte, at-end, arrives, refuses}
+use Rattle.steps.specs.Laws.Until.{Going, going-start, going-stops, going-fails, going-stuck, going-goes, moved}
+use Rattle.steps.specs.Until.{until}
 use Rattle.steps.specs.Laws.Until.{stepped-each, stepped-value}
 use Rattle.steps.specs.Laws.Feeds.{feed-got, feed-steps, return-read}
-use Rattle.steps.specs.Leaves.{character-at, literal-is, literal-not, value-rest-at, value-character-eats, value-character-tails}
+use Rattle.steps.specs.Leaves.{character-at, value-rest-at}
+use Rattle.steps.specs.Laws.Leaves.{literal-is, literal-not, value-character-eats, value-character-tails}
 use Rattle.steps.specs.Laws.Characters.{plain-step}
 use Rattle.steps.specs.declared.Step.{Step}
 use Rattle.steps.specs.declared.Step.the-variants.{To, No}

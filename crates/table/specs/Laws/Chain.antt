@@ -10,13 +10,14 @@ use lib.Dec.{eqb, leb, ltb}
 use lib.ListN.{length, getD, drop}
 use borrow.Author.Tests.{leb-true, le-leb, ltb-true, eqb-true, eq-eqb}
 use Rattle.lists.specs.Lists.{all, any, count, twoOf, each}
-use Rattle.lists.specs.Quantifiers.{all-iff, any-iff, count-one-iff}
+use Rattle.lists.specs.Laws.Quantifiers.{all-iff, any-iff, count-one-iff}
 use Rattle.lists.specs.Laws.Booleans.{and-left, and-right, or-left, or-right, both-ways, refute}
 use Rattle.cifti.specs.Maps.{Model, covers}
 use Rattle.cifti.specs.Conditions.{alike}
 use Rattle.cifti.specs.Laws.Meaning.{covers-iff}
-use Rattle.models.specs.Kind.{typeAndStructure, alike-number}
-use Rattle.table.specs.Ready.{nobody}
+use Rattle.models.specs.Kind.{typeAndStructure}
+use Rattle.models.specs.Laws.Kind.{alike-number}
+use Rattle.table.specs.Laws.Ready.{nobody}
 use Rattle.shortlist.specs.Runs.{kindOf, kindIn, runsFrom}
 use Rattle.shortlist.specs.Laws.Runs.{kind-parts, kind-below, piece, drop-all, run-through}
 use Rattle.table.specs.ByOffset.{ofVoxels, entryOf}

@@ -10,7 +10,7 @@ use lib.Dec.{eqb}
 use lib.ListN.{length, getD}
 use borrow.Author.Tests.{eqb-true}
 use Rattle.lists.specs.Lists.{any, those, each}
-use Rattle.lists.specs.Quantifiers.{any-iff, count-one-iff}
+use Rattle.lists.specs.Laws.Quantifiers.{any-iff, count-one-iff}
 use Rattle.lists.specs.Laws.Booleans.{both-ways, clash, or-left, or-right}
 use Rattle.lists.specs.Laws.Lists.{any-in}
 use Rattle.grammar.specs.Document.{Element}
@@ -24,10 +24,11 @@ use Rattle.cifti.specs.Laws.Meaning.{listing-iff, covers-iff, even-iff}
 use Rattle.cifti.specs.declared.answer.Kind.the-variants.{Brain}
 use Rattle.cifti.specs.declared.answer.Dimension.{Dimension}
 use Rattle.cifti.specs.declared.answer.Answer.{Answer}
-use Rattle.maps.specs.Laws.MapKind.{GoodMap, brain-kind, no-models}
-use Rattle.models.specs.Brain.{map-models, brain-sum}
+use Rattle.maps.specs.Laws.MapKind.{brain-kind, no-models}
+use Rattle.maps.specs.MapKind.{GoodMap}
+use Rattle.models.specs.Laws.Brain.{map-models, brain-sum}
 use Rattle.models.specs.Fine.{FineMap}
-use Rattle.table.specs.Ready.{nobody}
+use Rattle.table.specs.Laws.Ready.{nobody}
 use Rattle.table.specs.Located.{Entry, mapLists, FileGives, AnswerTells}
 use Rattle.table.specs.Laws.Alone.{Alone, alone-those, some-of, entry-at, entry-below, entry-is}
 use Rattle.table.specs.Laws.Passed.{Passed, AcceptedText, accepted-text, at-most-three, one-lists, GoodOf, map-good, map-fine}

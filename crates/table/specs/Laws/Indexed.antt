@@ -7,7 +7,7 @@ use native.Mathlib.Omega.{arith}
 use lib.ListN.{length, getD}
 use borrow.Author.Tests.{not-false, le-leb}
 use Rattle.lists.specs.Lists.{any, those, each}
-use Rattle.lists.specs.Quantifiers.{count-one-iff}
+use Rattle.lists.specs.Laws.Quantifiers.{count-one-iff}
 use Rattle.lists.specs.Laws.Booleans.{or-left, or-right, clash}
 use Rattle.grammar.specs.Document.{Element}
 use Rattle.grammar.specs.Look.{is, nameOf, attr, contentsOf, elements}
@@ -24,14 +24,17 @@ use Rattle.cifti.specs.Laws.Meaning.{covers-iff, even-iff, locationAt, record-l
 use Rattle.cifti.specs.Laws.Keys.{Small, small-surface, voxels-small, listed-fits}
 use Rattle.cifti.specs.Laws.Repeats.{lists-count}
 use Rattle.cifti.specs.Rows.{brainModels}
-use Rattle.maps.specs.Laws.Good.{Good, AllGood, none-left, one-good}
-use Rattle.maps.specs.Laws.Kinds.{brainRows, GoodModel, good-model, brain-children}
-use Rattle.maps.specs.Laws.MapKind.{GoodMap, good-brain, brain-kind}
-use Rattle.models.specs.Brain.{isModel, models-are, whole-within}
+use Rattle.maps.specs.Laws.Good.{AllGood, none-left, one-good}
+use Rattle.maps.specs.Good.{Good}
+use Rattle.maps.specs.Laws.Kinds.{brainRows, good-model, brain-children}
+use Rattle.maps.specs.Kinds.{GoodModel}
+use Rattle.maps.specs.Laws.MapKind.{good-brain, brain-kind}
+use Rattle.maps.specs.MapKind.{GoodMap}
+use Rattle.models.specs.Laws.Brain.{isModel, models-are, whole-within}
 use Rattle.models.specs.Fine.{FineMap}
-use Rattle.models.specs.Kind.{structure-small}
-use Rattle.models.specs.Listings.{Lists, lists-vertices, lists-voxels, model-lists}
-use Rattle.table.specs.Ready.{GoodOne, nobody}
+use Rattle.models.specs.Laws.Kind.{structure-small}
+use Rattle.models.specs.Laws.ListingSteps.{Lists, lists-vertices, lists-voxels, model-lists}
+use Rattle.table.specs.Laws.Ready.{GoodOne, nobody}
 use Rattle.table.specs.Laws.Volumes.{InBits, brain-sized}
 use Rattle.table.specs.Located.{Entry}
 use Rattle.table.specs.Laws.Alone.{Alone, alone, alone-those, fails-at, entry-at}

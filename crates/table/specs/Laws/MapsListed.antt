@@ -7,7 +7,7 @@ use lib.Dec.{eqb}
 use lib.ListN.{length, getD}
 use borrow.Author.Tests.{eq-eqb}
 use Rattle.lists.specs.Lists.{any, those}
-use Rattle.lists.specs.Quantifiers.{any-iff}
+use Rattle.lists.specs.Laws.Quantifiers.{any-iff}
 use Rattle.lists.specs.Laws.Booleans.{or-first, or-second, clash}
 use Rattle.grammar.specs.Document.{Element}
 use Rattle.grammar.specs.Grammar.{Writes}
@@ -19,7 +19,8 @@ use Rattle.cifti.specs.declared.answer.Kind.the-variants.{Brain}
 use Rattle.cifti.specs.declared.answer.Dimension.{Dimension}
 use Rattle.cifti.specs.declared.answer.Answer.{Answer}
 use Rattle.maps.specs.Laws.Dimensions.{values-some}
-use Rattle.maps.specs.Laws.MapKind.{GoodMap, map-dimensions, brain-kind}
+use Rattle.maps.specs.Laws.MapKind.{map-dimensions, brain-kind}
+use Rattle.maps.specs.MapKind.{GoodMap}
 use Rattle.table.specs.Located.{Entry, mapLists}
 use Rattle.table.specs.Laws.Alone.{Alone, alone-those, entry-at}
 use Rattle.table.specs.Laws.Passed.{AcceptedText, accepted-text, one-lists, GoodOf, map-good}

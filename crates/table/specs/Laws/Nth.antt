@@ -18,7 +18,8 @@ use Rattle.cifti.specs.Laws.Said.{stretch-at}
 use Rattle.maps.specs.Laws.Fill.{wrote-in}
 use Rattle.maps.specs.Table.{recordsOf}
 use Rattle.models.specs.declared.gather.Models.{Models}
-use Rattle.table.specs.Ready.{mapAt, Ready, nobody, in-range}
+use Rattle.table.specs.Ready.{mapAt, Ready}
+use Rattle.table.specs.Laws.Ready.{nobody, in-range}
 
 at-each : {A B : Type 0} (f : A → B) (l : List A) (z : A) (y : B) (p : ℕ) → p < length l → getD (each f l) p y ≡ f (getD l p z)
 unfolding each

@@ -8,7 +8,7 @@ use native.Mathlib.Omega.{arith}
 use lib.Dec.{ltb}
 use lib.ListN.{length, getD, take, drop}
 use Rattle.lists.specs.Lists.{all, each, eachIn, those, table}
-use Rattle.lists.specs.Quantifiers.{all-iff}
+use Rattle.lists.specs.Laws.Quantifiers.{all-iff}
 use Rattle.lists.specs.Refusals.{_when_, first}
 use Rattle.lists.specs.Laws.Booleans.{and-left, and-right, and-both}
 use Rattle.lists.specs.Laws.Lists.{all-append}
@@ -20,8 +20,8 @@ use Rattle.records.specs.Sheet.{goodCount, allLegal, packRefusal}
 use Rattle.cifti.specs.Maps.{mapOf, mapsOf, brainMaps, lengthOf, isBrain}
 use Rattle.cifti.specs.Answer.{recordAt, stretch, stretches, filledWith, Reads}
 use Rattle.cifti.specs.declared.answer.Answer.{Answer}
-use Rattle.maps.specs.Laws.MapKind.{GoodMap}
-use Rattle.maps.specs.Ready.{GoodMaps, no-maps, one-map}
+use Rattle.maps.specs.MapKind.{GoodMap}
+use Rattle.maps.specs.Laws.Ready.{GoodMaps, no-maps, one-map}
 use Rattle.models.specs.Fine.{Fine, FineMap}
 use Rattle.models.specs.Laws.Fine.{fine-first, fine-rest}
 use Rattle.table.specs.Packable.{Packable}

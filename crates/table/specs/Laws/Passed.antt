@@ -10,7 +10,7 @@ use lib.Dec.{eqb}
 use lib.ListN.{length, getD}
 use borrow.Author.Tests.{not-false, eqb-true}
 use Rattle.lists.specs.Lists.{any, each, eachIn, those, isSome, there}
-use Rattle.lists.specs.Quantifiers.{count-one-iff}
+use Rattle.lists.specs.Laws.Quantifiers.{count-one-iff}
 use Rattle.lists.specs.Laws.Booleans.{or-left, or-right, both-ways, clash}
 use Rattle.lists.specs.Laws.Refusals.{row-fails, rows-past}
 use Rattle.grammar.specs.Bytes.{between}
@@ -29,10 +29,10 @@ use Rattle.cifti.specs.Laws.Text.{answers-of}
 use Rattle.cifti.specs.Laws.Theorems.{answer-number}
 use Rattle.cifti.specs.Laws.Meaning.{listing-iff}
 use Rattle.cifti.specs.declared.answer.Answer.{Answer}
-use Rattle.maps.specs.Laws.Good.{Good}
+use Rattle.maps.specs.Good.{Good}
 use Rattle.maps.specs.Laws.Kinds.{OnlyChild, root-child}
-use Rattle.maps.specs.Laws.MapKind.{GoodMap}
-use Rattle.maps.specs.Ready.{GoodMaps, no-maps, one-map, good-maps}
+use Rattle.maps.specs.MapKind.{GoodMap}
+use Rattle.maps.specs.Laws.Ready.{GoodMaps, no-maps, one-map, good-maps}
 use Rattle.models.specs.Fine.{Fine, FineMap}
 use Rattle.models.specs.Laws.Fine.{fine-first, fine-rest}
 use Rattle.table.specs.Located.{mapLists}

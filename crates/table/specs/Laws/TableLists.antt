@@ -9,8 +9,8 @@ use lib.ListN.{length, getD, take, drop}
 use borrow.Author.Tests.{le-leb, lt-ltb, eqb-true, eqb-false, eq-eqb, ltb-true, ltb-false}
 use Rattle.lists.specs.Lists.{all, any, those, count, twoOf, total, each}
 use Rattle.lists.specs.Refusals.{_when_, first}
-use Rattle.lists.specs.Permuted.{Permuted, all-permuted, count-permuted, two-permuted, length-permuted}
-use Rattle.lists.specs.Quantifiers.{all-iff, count-one-iff, twoOf-iff}
+use Rattle.lists.specs.Laws.Permuted.{Permuted, all-permuted, count-permuted, two-permuted, length-permuted}
+use Rattle.lists.specs.Laws.Quantifiers.{all-iff, count-one-iff, twoOf-iff}
 use Rattle.lists.specs.Laws.Booleans.{and-left, and-right, and-both, or-left, or-right, both-ways, refute, clash}
 use Rattle.lists.specs.Laws.Lists.{two-each, length-each}
 use Rattle.grammar.specs.Bytes.{between}
@@ -29,12 +29,15 @@ use Rattle.cifti.specs.declared.answer.Kind.the-variants.{Brain}
 use Rattle.cifti.specs.declared.answer.Dimension.{Dimension}
 use Rattle.cifti.specs.declared.answer.Answer.{Answer}
 use Rattle.maps.specs.Laws.Good.{AllGood, none-left, one-good}
-use Rattle.maps.specs.Laws.Kinds.{brainRows, GoodModel, good-model, brain-children, model-facts}
-use Rattle.maps.specs.Laws.MapKind.{GoodMap, good-brain, brain-kind}
-use Rattle.models.specs.Brain.{isModel, models-are, map-models, brain-sum, whole-within}
+use Rattle.maps.specs.Laws.Kinds.{brainRows, good-model, brain-children, model-facts}
+use Rattle.maps.specs.Kinds.{GoodModel}
+use Rattle.maps.specs.Laws.MapKind.{good-brain, brain-kind}
+use Rattle.maps.specs.MapKind.{GoodMap}
+use Rattle.models.specs.Laws.Brain.{isModel, models-are, map-models, brain-sum, whole-within}
 use Rattle.models.specs.Fine.{FineMap}
-use Rattle.models.specs.Kind.{typeAndStructure, alike-number, structure-small}
-use Rattle.table.specs.Ready.{nobody}
+use Rattle.models.specs.Kind.{typeAndStructure}
+use Rattle.models.specs.Laws.Kind.{alike-number, structure-small}
+use Rattle.table.specs.Laws.Ready.{nobody}
 use Rattle.table.specs.Located.{Entry, here, further, mapLists}
 use Rattle.table.specs.Laws.Alone.{Alone, alone-those, entry-below}
 use Rattle.table.specs.Laws.Passed.{AcceptedText, accepted-text, one-lists, GoodOf, map-good, map-fine}

@@ -6,7 +6,7 @@ use Prim.Native.Nat.{ℕ, suc, _<_, _≤_, _^_}
 use native.Mathlib.Omega.{arith}
 use lib.ListN.{length, getD}
 use Rattle.lists.specs.Lists.{any, each, eachIn, those}
-use Rattle.lists.specs.Quantifiers.{any-iff}
+use Rattle.lists.specs.Laws.Quantifiers.{any-iff}
 use Rattle.grammar.specs.Document.{Element}
 use Rattle.grammar.specs.Laws.Facts.{and-left, and-right}
 use Rattle.grammar.specs.Look.{Word, is, nameOf, contentsOf, attr, elements, children}
@@ -18,11 +18,13 @@ use Rattle.cifti.specs.Rows.{brainModels, volume}
 use Rattle.cifti.specs.Maps.{Voxel, Model, modelOf, listedBy, sizesBy, sizesOf, locations}
 use Rattle.cifti.specs.Conditions.{beyond}
 use Rattle.cifti.specs.Laws.Keys.{Small, small-surface, voxels-small, listed-fits}
-use Rattle.maps.specs.Laws.Good.{Good, AllGood, none-left, one-good}
-use Rattle.maps.specs.Laws.Kinds.{brainRows, GoodModel, good-volume, volume-sizes, brain-children}
-use Rattle.models.specs.Brain.{whole-within}
-use Rattle.models.specs.Kind.{structure-small}
-use Rattle.models.specs.Listings.{Lists, lists-vertices, lists-voxels, model-lists}
+use Rattle.maps.specs.Laws.Good.{AllGood, none-left, one-good}
+use Rattle.maps.specs.Good.{Good}
+use Rattle.maps.specs.Laws.Kinds.{brainRows, good-volume, volume-sizes, brain-children}
+use Rattle.maps.specs.Kinds.{GoodModel}
+use Rattle.models.specs.Laws.Brain.{whole-within}
+use Rattle.models.specs.Laws.Kind.{structure-small}
+use Rattle.models.specs.Laws.ListingSteps.{Lists, lists-vertices, lists-voxels, model-lists}
 use Rattle.table.specs.Listing.{AllFit, none-to-fit, one-fits}
 
 -- ---- The volume.

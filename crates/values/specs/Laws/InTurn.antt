@@ -18,15 +18,18 @@ use Rattle.grammar.specs.Document.{Attribute}
 use Rattle.grammar.specs.Grammar as grammar
 use Rattle.grammar.specs.Grammar.{Absent, Distinct, Attributes, Gap}
 use Rattle.grammar.specs.Look.{is, attributesOf, textOf}
-use Rattle.grammar.specs.Read.{fail, got, bind, byte, ok-got}
+use Rattle.grammar.specs.Read.{fail, got, bind, byte}
+use Rattle.grammar.specs.Laws.Read.{ok-got}
 use Rattle.grammar.specs.Parser.{name-at, gap-at, value-at, ends, closing, same}
 use Rattle.grammar.specs.Laws.Sound.{gap-sound, name-sound, attributes-sound, same-refl}
 use Rattle.grammar.specs.Laws.Tokens.{ends-blanks, ends-name, same-equal}
-use Rattle.steps.specs.Step.{stepped, at-end, fell, went}
-use Rattle.steps.specs.Leaves.{name-tails}
+use Rattle.steps.specs.Step.{stepped}
+use Rattle.steps.specs.Laws.Step.{at-end, fell, went}
+use Rattle.steps.specs.Laws.Leaves.{name-tails}
 use Rattle.steps.specs.Noted.{part}
 use Rattle.steps.specs.Keys as steps-keys
-use Rattle.steps.specs.Keys.{keyed, key-found}
+use Rattle.steps.specs.Keys.{keyed}
+use Rattle.steps.specs.Laws.Keys.{key-found}
 use Rattle.steps.specs.declared.Step.{Step}
 use Rattle.steps.specs.declared.Step.the-variants.{To, No}
 use Rattle.steps.specs.declared.attributes.Key as token-key
@@ -35,8 +38,9 @@ use Rattle.nodes.specs.Places.{Stands, the}
 use Rattle.nodes.specs.Scan.{tag-from, InTag}
 use Rattle.nodes.specs.Laws.Scan.{tag-opens}
 use Rattle.nodes.specs.Laws.ScanEnds.{tag-name}
-use Rattle.nodes.specs.Attributes.{Key, key, key-bytes, keys-by, keys-step, keys, keys-in, place-in, place, Hold, one-key, keys-law}
-use Rattle.nodes.specs.Names.{ending-attributes}
+use Rattle.nodes.specs.Attributes.{Key, key, key-bytes, keys-by, keys, keys-in, place-in, place}
+use Rattle.nodes.specs.Laws.AttributesSteps.{keys-step, Hold, one-key, keys-law}
+use Rattle.nodes.specs.Laws.Names.{ending-attributes}
 use Rattle.nodes.specs.Values.{value-there}
 use Rattle.nodes.specs.Laws.ReadSteps.{spelled}
 use Rattle.nodes.specs.Laws.Attributes.{keys-go, keys-tag}

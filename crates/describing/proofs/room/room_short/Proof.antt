@@ -1,7 +1,7 @@
-use Rattle.describing.specs.Room.{housing, House}
+use Rattle.describing.specs.Laws.Room.{housing, House}
 use Prim.Native.Nat.{_-_}
 use Rattle.maps.specs.Ready.{mapsAt}
-use Rattle.maps.specs.Over.{Over}
+use Rattle.maps.specs.Laws.Over.{Over}
 use Rattle.describing.proofs.room.room_short.Statement.{statement}
 use Rattle.describing.proofs.room.room_short.Tie as tie
 

@@ -1,4 +1,4 @@
-use Rattle.describing.specs.Said.{describing}
+use Rattle.describing.specs.Laws.Said.{describing}
 use Rattle.describing.proofs.said.described.Statement.{statement}
 use Rattle.describing.proofs.said.described.Tie as tie
 

@@ -1,4 +1,4 @@
-use Rattle.describing.specs.Said.{picking, Picking, picking-note}
+use Rattle.describing.specs.Laws.Said.{picking, Picking, picking-note}
 use Prim.Native.Nat.{_-_}
 use Rattle.describing.proofs.said.dimension_at.Statement.{statement}
 use Rattle.describing.proofs.said.dimension_at.Tie as tie

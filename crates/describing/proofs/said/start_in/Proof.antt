@@ -1,4 +1,4 @@
-use Rattle.describing.specs.Said.{start-told}
+use Rattle.describing.specs.Laws.Said.{start-told}
 use Rattle.describing.proofs.said.start_in.Statement.{statement}
 use Rattle.describing.proofs.said.start_in.Tie as tie
 

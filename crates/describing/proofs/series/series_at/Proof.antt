@@ -1,4 +1,4 @@
-use Rattle.describing.specs.Series.{seriesSteps}
+use Rattle.describing.specs.Laws.Series.{seriesSteps}
 use Rattle.describing.proofs.series.series_at.Statement.{statement}
 use Rattle.describing.proofs.series.series_at.Tie as tie
 

@@ -1,5 +1,5 @@
 use Rattle.nodes.specs.Places.{the}
-use Rattle.nodes.specs.Children.{left}
+use Rattle.nodes.specs.Laws.Children.{left}
 use Rattle.gifti_arrays.specs.Laws.Arrays.{walking, walking-more, Walking}
 use Rattle.gifti_arrays.proofs.arrays.arrays_told.Statement.{statement}
 use Rattle.gifti_arrays.proofs.arrays.arrays_told.Tie as tie

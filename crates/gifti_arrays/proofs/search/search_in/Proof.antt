@@ -1,7 +1,7 @@
 use mathlib.Core.Path.{sym}
 use lib.ListN.{length}
 use lib.Seq.{length-take-le}
-use Rattle.label_table.specs.Laws.Walks.{toCome}
+use Rattle.label_table.specs.Walks.{toCome}
 use Rattle.gifti_arrays.specs.Laws.Search.{searching, Searching}
 use Rattle.gifti_arrays.proofs.search.search_in.Statement.{statement}
 use Rattle.gifti_arrays.proofs.search.search_in.Tie as tie

@@ -1,4 +1,4 @@
-use Rattle.gifti_opening.specs.Arrays.{reading, read-coded}
+use Rattle.gifti_opening.specs.Laws.Arrays.{reading, read-coded}
 use Rattle.gifti_opening.proofs.arrays.encoding_read.Statement.{statement}
 use Rattle.gifti_opening.proofs.arrays.encoding_read.Tie as tie
 

@@ -1,4 +1,4 @@
-use Rattle.gifti_opening.specs.Arrays.{rooting, root-version}
+use Rattle.gifti_opening.specs.Laws.Arrays.{rooting, root-version}
 use Rattle.gifti_opening.proofs.root.root_wrong.Statement.{statement}
 use Rattle.gifti_opening.proofs.root.root_wrong.Tie as tie
 

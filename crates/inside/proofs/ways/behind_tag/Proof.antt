@@ -1,4 +1,4 @@
-use Rattle.inside.specs.Treads.{tag-ending}
+use Rattle.inside.specs.Laws.Treads.{tag-ending}
 use Rattle.inside.proofs.ways.behind_tag.Statement.{statement}
 use Rattle.inside.proofs.ways.behind_tag.Tie as tie
 

@@ -1,4 +1,5 @@
-use Rattle.inside.specs.Treads.{seeking, Seeking, called, ahead, seeking-start}
+use Rattle.inside.specs.Treads.{called}
+use Rattle.inside.specs.Laws.Treads.{seeking, Seeking, ahead, seeking-start}
 use Rattle.inside.proofs.ways.child_named.Statement.{statement}
 use Rattle.inside.proofs.ways.child_named.Tie as tie
 

@@ -1,5 +1,5 @@
 use Rattle.nodes.specs.Laws.Along.{Along}
-use Rattle.nodes.specs.Children.{left}
+use Rattle.nodes.specs.Laws.Children.{left}
 use Rattle.models.specs.Laws.Gathering.{Gathering, gathering, gathering-room}
 use Rattle.judging.proofs.gather.models_of.Statement.{statement}
 use Rattle.judging.proofs.gather.models_of.Tie as tie

@@ -1,4 +1,4 @@
-use Rattle.label_reader.specs.Before.{before, before-key}
+use Rattle.label_reader.specs.Laws.Before.{before, before-key}
 use Rattle.label_reader.proofs.before.number_before.Statement.{statement}
 use Rattle.label_reader.proofs.before.number_before.Tie as tie
 

@@ -1,4 +1,4 @@
-use Rattle.label_reader.specs.Keys.{writing, written-short}
+use Rattle.label_reader.specs.Laws.Keys.{writing, written-short}
 use Rattle.label_reader.proofs.keys.keys_from.Statement.{statement}
 use Rattle.label_reader.proofs.keys.keys_from.Tie as tie
 

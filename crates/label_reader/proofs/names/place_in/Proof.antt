@@ -1,7 +1,7 @@
 use mathlib.Core.Path.{refl}
 use mir.Syntax.{w32}
 use mir.ValLaws.{toZ-ofZ}
-use Rattle.label_reader.specs.Names.{in-table, in-found}
+use Rattle.label_reader.specs.Laws.Names.{in-table, in-found}
 use Rattle.label_reader.proofs.names.place_in.Statement.{statement}
 use Rattle.label_reader.proofs.names.place_in.Tie as tie
 

@@ -1,4 +1,4 @@
-use Rattle.inside.specs.Treads.{ahead}
+use Rattle.inside.specs.Laws.Treads.{ahead}
 use Rattle.label_table.specs.Laws.Labels.{searching, Searching}
 use Rattle.label_table.proofs.labels.label_from.Statement.{statement}
 use Rattle.label_table.proofs.labels.label_from.Tie as tie

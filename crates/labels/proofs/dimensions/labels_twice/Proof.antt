@@ -1,8 +1,8 @@
-use Rattle.labels.specs.Dimensions.{tallying, tally-done}
+use Rattle.labels.specs.Laws.Dimensions.{tallying, tally-done}
 use Prim.Native.Nat.{_-_}
 use Rattle.maps.specs.Ready.{mapsAt}
-use Rattle.maps.specs.Over.{Over}
-use Rattle.labels.specs.Dimensions.{Tally}
+use Rattle.maps.specs.Laws.Over.{Over}
+use Rattle.labels.specs.Laws.Dimensions.{Tally}
 use Rattle.labels.proofs.dimensions.labels_twice.Statement.{statement}
 use Rattle.labels.proofs.dimensions.labels_twice.Tie as tie
 

@@ -1,6 +1,6 @@
-use Rattle.labels.specs.Dimensions.{adding}
+use Rattle.labels.specs.Laws.Dimensions.{adding}
 use Prim.Native.Nat.{_-_}
-use Rattle.labels.specs.Dimensions.{Adding}
+use Rattle.labels.specs.Laws.Dimensions.{Adding}
 use Rattle.labels.proofs.dimensions.listed.Statement.{statement}
 use Rattle.labels.proofs.dimensions.listed.Tie as tie
 

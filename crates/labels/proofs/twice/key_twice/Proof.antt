@@ -1,8 +1,8 @@
-use Rattle.labels.specs.Twice.{twicing}
+use Rattle.labels.specs.Laws.Twice.{twicing}
 use Prim.Native.Nat.{_-_}
 use Rattle.maps.specs.Ready.{mapsAt}
-use Rattle.maps.specs.Over.{Over}
-use Rattle.labels.specs.Twice.{Twice}
+use Rattle.maps.specs.Laws.Over.{Over}
+use Rattle.labels.specs.Laws.Twice.{Twice}
 use Rattle.labels.proofs.twice.key_twice.Statement.{statement}
 use Rattle.labels.proofs.twice.key_twice.Tie as tie
 

@@ -1,4 +1,4 @@
-use Rattle.labels.specs.Twice.{mapping, map-labels}
+use Rattle.labels.specs.Laws.Twice.{mapping, map-labels}
 use Rattle.labels.proofs.twice.map_twice.Statement.{statement}
 use Rattle.labels.proofs.twice.map_twice.Tie as tie
 

@@ -1,9 +1,9 @@
-use Rattle.labels.specs.Lent.{Lent, lending}
-use Rattle.labels.specs.Twice.{asking}
+use Rattle.labels.specs.Laws.Lent.{Lent, lending}
+use Rattle.labels.specs.Laws.Twice.{asking}
 use Rattle.grammar.specs.Bytes.{ascii}
-use Rattle.inside.specs.Treads.{ahead}
+use Rattle.inside.specs.Laws.Treads.{ahead}
 use Rattle.labels.specs.Twice.{namedTwice}
-use Rattle.labels.specs.Twice.{Asking}
+use Rattle.labels.specs.Laws.Twice.{Asking}
 use Rattle.labels.proofs.twice.tables_twice.Statement.{statement}
 use Rattle.labels.proofs.twice.tables_twice.Tie as tie
 

@@ -1,4 +1,4 @@
-use Rattle.maps.specs.Fields.{is-word}
+use Rattle.maps.specs.Laws.Fields.{is-word}
 use borrow.Author.Needs.{needs}
 use Rattle.maps.proofs.fields.attribute_is.Statement.{statement}
 use Rattle.maps.proofs.fields.attribute_is.Tie as tie

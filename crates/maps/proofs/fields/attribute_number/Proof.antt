@@ -1,4 +1,4 @@
-use Rattle.maps.specs.Fields.{fieldSteps}
+use Rattle.maps.specs.Laws.Fields.{fieldSteps}
 use Rattle.maps.proofs.fields.attribute_number.Statement.{statement}
 use Rattle.maps.proofs.fields.attribute_number.Tie as tie
 

@@ -1,5 +1,5 @@
 use borrow.Author.Needs.{needs}
-use Rattle.maps.specs.Over.{noting-at}
+use Rattle.maps.specs.Laws.Over.{noting-at}
 use Rattle.maps.proofs.survey.nth.Statement.{statement}
 use Rattle.maps.proofs.survey.nth.Tie as tie
 

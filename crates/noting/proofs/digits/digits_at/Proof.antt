@@ -1,4 +1,4 @@
-use Rattle.maps.specs.Seen.{reading, Reading}
+use Rattle.maps.specs.Laws.Seen.{reading, Reading}
 use Prim.Native.Nat.{_-_}
 use lib.ListN.{length}
 use Rattle.noting.proofs.digits.digits_at.Statement.{statement}

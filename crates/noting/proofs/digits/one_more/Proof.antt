@@ -1,4 +1,4 @@
-use Rattle.maps.specs.Seen.{growing}
+use Rattle.maps.specs.Laws.Seen.{growing}
 use borrow.Author.Needs.{needs}
 use Rattle.noting.proofs.digits.one_more.Statement.{statement}
 use Rattle.noting.proofs.digits.one_more.Tie as tie

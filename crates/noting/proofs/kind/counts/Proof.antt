@@ -1,4 +1,4 @@
-use Rattle.maps.specs.Sums.{spelled, counted-told}
+use Rattle.maps.specs.Laws.Sums.{spelled, counted-told}
 use borrow.Author.Needs.{needs}
 use Rattle.noting.proofs.kind.counts.Statement.{statement}
 use Rattle.noting.proofs.kind.counts.Tie as tie

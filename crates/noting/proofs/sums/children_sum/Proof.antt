@@ -1,5 +1,5 @@
 use mathlib.Core.Bool.{true}
-use Rattle.maps.specs.Sums.{summing, Summing}
+use Rattle.maps.specs.Laws.Sums.{summing, Summing}
 use Rattle.nodes.specs.Laws.Along.{AlongAhead}
 use Rattle.nodes.specs.Laws.AheadElements.{left-ahead}
 use Rattle.noting.proofs.sums.children_sum.Statement.{statement}

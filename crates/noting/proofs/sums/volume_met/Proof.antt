@@ -1,4 +1,4 @@
-use Rattle.maps.specs.Sums.{meeting, met-here}
+use Rattle.maps.specs.Laws.Sums.{meeting, met-here}
 use Rattle.noting.proofs.sums.volume_met.Statement.{statement}
 use Rattle.noting.proofs.sums.volume_met.Tie as tie
 

@@ -1,6 +1,6 @@
-use Rattle.maps.specs.Survey.{surveying, Surveying}
+use Rattle.maps.specs.Laws.Survey.{surveying, Surveying}
 use Rattle.nodes.specs.Laws.Along.{Along}
-use Rattle.nodes.specs.Children.{left}
+use Rattle.nodes.specs.Laws.Children.{left}
 use Rattle.noting.proofs.survey.maps_of.Statement.{statement}
 use Rattle.noting.proofs.survey.maps_of.Tie as tie
 

@@ -1,4 +1,5 @@
-use Rattle.numbers.specs.Laws.Read.{seeking, Seeking}
+use Rattle.numbers.specs.Laws.Read.{seeking}
+use Rattle.numbers.specs.Read.{Seeking}
 use Rattle.nodes.specs.Texts.{left}
 use Rattle.number_lists.proofs.chars.any_letter.Statement.{statement}
 use Rattle.number_lists.proofs.chars.any_letter.Tie as tie

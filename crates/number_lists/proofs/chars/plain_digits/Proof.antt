@@ -1,6 +1,6 @@
 use mathlib.Core.Path.{refl}
 use Prim.Native.Nat.{_-_}
-use Rattle.numbers.specs.Laws.Read.{Running}
+use Rattle.numbers.specs.Read.{Running}
 use Rattle.numbers.specs.declared.Source.the-variants.{Value}
 use Rattle.number_lists.specs.Laws.Digits.{plain-running, digit-on}
 use Rattle.number_lists.proofs.chars.plain_digits.Statement.{statement}

@@ -1,4 +1,4 @@
-use Rattle.opening.specs.Opening.{measuring, Measuring}
+use Rattle.opening.specs.Laws.Opening.{measuring, Measuring}
 use Prim.Native.Nat.{_-_}
 use lib.ListN.{length}
 use Rattle.opening.proofs.header.lengths_wrong.Statement.{statement}

@@ -1,4 +1,4 @@
-use Rattle.opening.specs.Opening.{opening}
+use Rattle.opening.specs.Laws.Opening.{opening}
 use Rattle.opening.proofs.header.opened.Statement.{statement}
 use Rattle.opening.proofs.header.opened.Tie as tie
 

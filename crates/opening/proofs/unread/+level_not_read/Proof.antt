@@ -1,5 +1,5 @@
 use Rattle.opening.specs.Laws.Unread.{levelling, Levelling}
-use Rattle.nodes.specs.Children.{left}
+use Rattle.nodes.specs.Laws.Children.{left}
 use Prim.Native.Nat.{ℕ, _<_}
 use borrow.Fn.Kinds.{In}
 use borrow.Fn.PlainCycle.{Measures, is, falls, and}

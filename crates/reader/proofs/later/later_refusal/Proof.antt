@@ -1,4 +1,4 @@
-use Rattle.reader.specs.Later.{latering, later-judged}
+use Rattle.reader.specs.Laws.Later.{latering, later-judged}
 use Rattle.reader.proofs.later.later_refusal.Statement.{statement}
 use Rattle.reader.proofs.later.later_refusal.Tie as tie
 

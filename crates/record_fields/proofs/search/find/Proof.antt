@@ -9,7 +9,7 @@ use borrow.Author.Count.{below-more}
 use borrow.Author.Tests.{eq-eqb, eqb-true}
 use Rattle.lists.specs.Laws.Booleans.{refute}
 use Rattle.lists.specs.Lists.{any}
-use Rattle.lists.specs.Quantifiers.{any-iff}
+use Rattle.lists.specs.Laws.Quantifiers.{any-iff}
 use Rattle.records.specs.Outcome.{ends, applies, passes, gives-first}
 use Rattle.records.specs.Find.{AbsentBelow, FirstPlace, findRefusal}
 use native.Mathlib.Omega.{arith}

@@ -1,4 +1,4 @@
-use Rattle.maps.specs.LengthsAgree.{comparing, Comparing}
+use Rattle.maps.specs.Laws.LengthsAgree.{comparing, Comparing}
 use Prim.Native.Nat.{_-_}
 use Rattle.survey.proofs.lengths_agree.length_differs.Statement.{statement}
 use Rattle.survey.proofs.lengths_agree.length_differs.Tie as tie

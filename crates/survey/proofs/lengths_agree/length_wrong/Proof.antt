@@ -1,7 +1,7 @@
-use Rattle.maps.specs.LengthsAgree.{agreeing, Agree}
+use Rattle.maps.specs.Laws.LengthsAgree.{agreeing, Agree}
 use Prim.Native.Nat.{_-_}
 use Rattle.maps.specs.Ready.{mapsAt}
-use Rattle.maps.specs.Over.{Over}
+use Rattle.maps.specs.Laws.Over.{Over}
 use Rattle.survey.proofs.lengths_agree.length_wrong.Statement.{statement}
 use Rattle.survey.proofs.lengths_agree.length_wrong.Tie as tie
 

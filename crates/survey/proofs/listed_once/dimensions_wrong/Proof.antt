@@ -1,4 +1,4 @@
-use Rattle.maps.specs.ListedOnce.{listed-once, once-wrong, once-more, Judging}
+use Rattle.maps.specs.Laws.ListedOnce.{listed-once, once-wrong, once-more, Judging}
 use Prim.Native.Nat.{_-_}
 use Rattle.survey.proofs.listed_once.dimensions_wrong.Statement.{statement}
 use Rattle.survey.proofs.listed_once.dimensions_wrong.Tie as tie

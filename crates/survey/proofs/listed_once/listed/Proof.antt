@@ -1,7 +1,7 @@
-use Rattle.maps.specs.ListedOnce.{tallying, Tally}
+use Rattle.maps.specs.Laws.ListedOnce.{tallying, Tally}
 use Prim.Native.Nat.{_-_, _<_}
 use Rattle.maps.specs.Ready.{mapsAt}
-use Rattle.maps.specs.Over.{Over}
+use Rattle.maps.specs.Laws.Over.{Over}
 use Rattle.survey.proofs.listed_once.listed.Statement.{statement}
 use Rattle.survey.proofs.listed_once.listed.Tie as tie
 

@@ -9,7 +9,8 @@ use lib.ListN.{length, length-append}
 use Rattle.lists.specs.Laws.Booleans.{clash}
 use Rattle.grammar.specs.Bytes.{ascii, blank}
 use Rattle.grammar.specs.Document.{Attribute, Element, Contents}
-use Rattle.grammar.specs.Read.{Read, got, bind, mark, span, ok-got, mark-sound, span-sound, test}
+use Rattle.grammar.specs.Read.{Read, got, bind, mark, span, test}
+use Rattle.grammar.specs.Laws.Read.{ok-got, mark-sound, span-sound}
 use Rattle.grammar.specs.Grammar.{Name}
 use Rattle.grammar.specs.Parser.{Look, at-close, at-comment, at-data, at-element, at-text, look, look-if, look₂, look-by, comment-at}
 use Rattle.grammar.specs.Parser.{data-at}
@@ -17,9 +18,11 @@ use Rattle.grammar.specs.Parser.{closing}
 use Rattle.grammar.specs.Laws.Sound.{name-sound, attributes-sound}
 use Rattle.grammar.specs.Unfuelled.{contents}
 use Rattle.steps.specs.Tags.{close-at}
-use Rattle.nodes.specs.Places.{element₁₆, unbind, pick}
+use Rattle.nodes.specs.Places.{element₁₆, pick}
+use Rattle.nodes.specs.Laws.Places.{unbind}
 use Rattle.nodes.specs.Laws.ReadSteps.{Ending, bare, filled, Spelled, spelled, eats-child, Induction, induction}
-use Rattle.nodes.specs.Scan.{to-tag, past-tag, finishes, finish, tag-from, tag-at, scan-by, scan, scan-step, passed, skip-at}
+use Rattle.nodes.specs.Scan.{to-tag, past-tag, finishes, finish, tag-from, tag-at, scan-by, scan, passed, skip-at}
+use Rattle.nodes.specs.Laws.Scanned.{scan-step}
 use Rattle.nodes.specs.Scan.{leave-at}
 use Rattle.nodes.specs.Laws.ScanEnds.{to-tag-free, text-free, past-free, past-end, name-free, blanks-free, tag-name, tag-blanks}
 use Rattle.nodes.specs.Laws.ScanEnds.{tag-attributes}

@@ -7,8 +7,8 @@ use lib.ListN.{length}
 use Rattle.grammar.specs.Document.{Attribute, Element, Contents}
 use Rattle.grammar.specs.Grammar.{Name, Distinct}
 use Rattle.grammar.specs.Erased.{Node, node, Nodes, none, inner, characters, erased, erasedAll, WritesDocument}
-use Rattle.grammar.specs.Tidy
-use Rattle.grammar.specs.Tidy.{NoRun, NoReturn, NoReturns, TidyElement, Tidy, writes-tidy}
+use Rattle.grammar.specs.Laws.Tidy
+use Rattle.grammar.specs.Laws.Tidy.{NoRun, NoReturn, NoReturns, TidyElement, Tidy, writes-tidy}
 
 -- contents that do not begin with a run
 pub data NoCharacters : Nodes → Type 0 where

@@ -1,0 +1,12 @@
+-- What contracts say of Walks.
+use mathlib.Core.Path.{_≡_}
+use mathlib.Core.List.{List, [], _∷_}
+use Prim.Native.Nat.{ℕ, _<_}
+use Rattle.lists.specs.Lists.{each}
+use Rattle.nodes.specs.declared.Kid.{Kid}
+use Rattle.label_table.specs.Laws.Labels.{row}
+use Rattle.label_table.specs.Codes.{codeHere}
+
+-- what is still to come
+abbrev pub toCome : List ℕ → Kid → List ℕ
+toCome text kid = each (codeHere text) (row text kid)

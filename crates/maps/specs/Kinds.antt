@@ -1,0 +1,15 @@
+-- What contracts say of Kinds.
+use mathlib.Core.Path.{_≡_, _∙_}
+use mathlib.Core.List.{[], _∷_, _++_}
+use mathlib.Core.Option
+use mathlib.Core.Bool.{true, false, _&&_, _||_}
+use Prim.Native.Nat.{ℕ, _+_, _<_, _≤_}
+use Rattle.grammar.specs.Document.{Element}
+use Rattle.grammar.specs.Look.{has}
+use Rattle.schema.specs.Schema.{_⇒_}
+use Rattle.cifti.specs.Rows.{surface, voxels}
+use Rattle.maps.specs.Good.{Good}
+
+pub data GoodModel (e : Element) : Type 0 where
+  surface-model : Good surface e → has "ModelType" "CIFTI_MODEL_TYPE_VOXELS" e ≡ false → GoodModel e
+  voxel-model : Good voxels e → has "ModelType" "CIFTI_MODEL_TYPE_VOXELS" e ≡ true → GoodModel e

@@ -1,0 +1,11 @@
+-- What contracts say of Cuts.
+use mathlib.Core.Path.{_≡_, _∙_}
+use mathlib.Core.List.{[], _∷_, _++_}
+use mathlib.Core.Bool.{Bool, false, _||_}
+use Prim.Native.Nat.{ℕ, _+_, _*_, _-_, _^_, _<_, _≤_}
+use Rattle.grammar.specs.Look.{Word}
+
+-- bytes that are no cut
+pub data Uncut (p : ℕ → Bool) : Word → Type 0 where
+  none : Uncut p []
+  more : {a : ℕ} {w : Word} → p a ≡ false → Uncut p w → Uncut p (a ∷ w)

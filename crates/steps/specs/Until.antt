@@ -1,0 +1,10 @@
+-- What contracts say of Until.
+use mathlib.Core.Path.{_≡_, _∙_}
+use mathlib.Core.List.{List, _∷_}
+use mathlib.Core.Bool.{Bool}
+use Prim.Native.Nat.{ℕ, _<_}
+use Rattle.grammar.specs.Read.{Reader, bind, all-of}
+
+-- `p` again and again, up to where `stop` says so, and then `k`
+unfoldable pub until : {A B : Type 0} → (List ℕ → Bool) → Reader A → Reader B → Reader B
+until stop p k s = bind (all-of stop p s) (λ _ r. k r)
