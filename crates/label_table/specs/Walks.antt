@@ -1,4 +1,4 @@
--- What contracts say of Walks.
+-- The keys of the labels that are still to come, as codes.
 use mathlib.Core.Path.{_≡_}
 use mathlib.Core.List.{List, [], _∷_}
 use Prim.Native.Nat.{ℕ, _<_}

@@ -1,4 +1,4 @@
--- What contracts say of Good.
+-- An element that passes 6 and 7 as CIFTI's row of its kind says, with all that is in it.
 use Rattle.grammar.specs.Document.{Element}
 use Rattle.schema.specs.Good as good
 use Rattle.cifti.specs.Rows.{ElementKind, rows}

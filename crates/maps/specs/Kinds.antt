@@ -1,4 +1,4 @@
--- What contracts say of Kinds.
+-- A model that passes 6 and 7: of a surface or of voxels, as its ModelType says.
 use mathlib.Core.Path.{_≡_, _∙_}
 use mathlib.Core.List.{[], _∷_, _++_}
 use mathlib.Core.Option

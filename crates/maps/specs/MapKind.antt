@@ -1,4 +1,4 @@
--- What contracts say of MapKind.
+-- A map that passes 6 and 7: of a kind that is read, and good as the row of its kind.
 use mathlib.Core.Path.{_≡_, _∙_}
 use mathlib.Core.List.{List, [], _∷_}
 use mathlib.Core.Option

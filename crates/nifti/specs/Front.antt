@@ -1,4 +1,4 @@
--- What contracts say of Front.
+-- What is known of a file behind 20; and of one with the body of an extension in it.
 use mathlib.Core.Path.{_≡_, _∙_}
 use mathlib.Core.List.{List, [], _∷_, _++_}
 use mathlib.Core.Option

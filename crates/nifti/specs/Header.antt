@@ -1,4 +1,4 @@
--- What contracts say of Header.
+-- What is known of a file of 544 bytes or more: its order; a place among its lengths; the answer where nothing is refused.
 use mathlib.Core.Path.{_≡_, _∙_}
 use mathlib.Core.List.{List, [], _∷_, _++_}
 use mathlib.Core.Bool.{_&&_}

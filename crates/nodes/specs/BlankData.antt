@@ -1,4 +1,4 @@
--- What contracts say of BlankData.
+-- CDATA with blanks alone.
 use mathlib.Core.Path.{_≡_, _∙_}
 use mathlib.Core.List.{List, [], _∷_, _++_}
 use mathlib.Core.Bool.{_&&_}

@@ -1,4 +1,4 @@
--- What contracts say of Cuts.
+-- A word without a byte that cuts it.
 use mathlib.Core.Path.{_≡_, _∙_}
 use mathlib.Core.List.{[], _∷_, _++_}
 use mathlib.Core.Bool.{Bool, false, _||_}

@@ -1,4 +1,4 @@
--- What contracts say of Read.
+-- What is the same from here as from the start, for the loops over letters and digits.
 use mathlib.Core.Path.{_≡_, _∙_}
 use mathlib.Core.List.{List, [], _∷_, _++_}
 use mathlib.Core.Bool.{_&&_}

@@ -1,4 +1,4 @@
--- What contracts say of Good.
+-- An element that is as a row says, with all that is in it; a list of one such element.
 use mathlib.Core.Path.{_≡_, _∙_}
 use mathlib.Core.List.{List, [], _∷_}
 use mathlib.Core.Option

@@ -1,4 +1,4 @@
--- What contracts say of Until.
+-- A reader again and again, up to where a test says so.
 use mathlib.Core.Path.{_≡_, _∙_}
 use mathlib.Core.List.{List, _∷_}
 use mathlib.Core.Bool.{Bool}
