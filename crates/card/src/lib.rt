@@ -10,4 +10,5 @@ mod write;
 pub use count::line_count;
 pub use line::Line;
 pub use line::line_at;
+pub use line::record_line;
 pub use write::write_line;

@@ -45,7 +45,8 @@ pub enum Line {
     End,
 }
 
-fn record_line(index: Index, r: u64) -> Line
+// The line of the record of an index.
+pub fn record_line(index: Index, r: u64) -> Line
     ensures { λ l. ⌜ l ≡ recordLine (index .0) r ⌝ }
 {
     if record_fields::is_voxel(r) {

@@ -1,8 +1,7 @@
 // The bytes of a line of the comparer.
-use card::Line;
+use card::record_line;
 use compare::Change;
 use records::Index;
-ghost use mathlib.Core.Path.{_≡_};
 ghost use mathlib.Core.List.{_++_};
 ghost use Prim.Native.Nat.{_≤_};
 ghost use lib.ListN.{length};
@@ -10,25 +9,6 @@ ghost use Rattle.io.specs.Counts.{Counts};
 ghost use Rattle.card.specs.Card.{recordLine};
 ghost use Rattle.card.specs.Written.{lineBytes, Spells, Writes};
 ghost use Rattle.comparer.specs.Output.{changeBytes, lineAt};
-
-fn record_line(index: Index, r: u64) -> Line
-    ensures { λ l. ⌜ l ≡ recordLine (index .0) r ⌝ }
-{
-    if record_fields::is_voxel(r) {
-        return Line::Voxel {
-            index: index,
-            structure: record_fields::structure_of(r),
-            i: record_fields::i_of(r),
-            j: record_fields::j_of(r),
-            k: record_fields::k_of(r),
-        };
-    }
-    Line::Surface {
-        index: index,
-        structure: record_fields::structure_of(r),
-        vertex: record_fields::vertex_of(r),
-    }
-}
 
 // A word, and the line of a record behind it.
 fn spell_behind(word: &[u8], index: Index, r: u64, out: &mut [u8]) -> usize

@@ -4,8 +4,8 @@
 mod change_text;
 
 use card::Line;
+use input::read_bytes;
 use libc::STDERR_FILENO;
-use libc::STDIN_FILENO;
 use libc::STDOUT_FILENO;
 ghost use mathlib.Core.Path.{_≡_};
 ghost use mathlib.Core.Bool.{false};
@@ -13,40 +13,6 @@ ghost use Prim.Native.Nat.{_+_, _≤_};
 ghost use lib.ListN.{length};
 ghost use Rattle.comparison.specs.Compare.{recordsOf, compareRefusal};
 ghost use Rattle.comparer.specs.Output.{outputBytes, refusalBytes, programBytes};
-
-// How many bytes came, or that a read failed.
-struct Came {
-    count: usize,
-    failed: bool,
-}
-
-// Until the bytes lent are full, or the input ends.
-fn read_bytes(bytes: &mut [u8]) -> Came
-    ensures { λ r. ⌜ r .count ≤ length (now (bytes .exit)) ⌝ }
-{
-    let mut n = 0;
-    while n < bytes.len() {
-        let got = libc::read(STDIN_FILENO, &mut bytes[n..]);
-        if got < 0 {
-            return Came {
-                count: 0,
-                failed: true,
-            };
-        }
-        let more = io::count(got, &bytes[n..]);
-        if more == 0 {
-            return Came {
-                count: n,
-                failed: false,
-            };
-        }
-        n += more;
-    }
-    Came {
-        count: n,
-        failed: false,
-    }
-}
 
 // How many bytes were written, or that a write failed.
 struct Printed {

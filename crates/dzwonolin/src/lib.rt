@@ -8,12 +8,11 @@ mod labels;
 mod label_files;
 
 use flat::tell_answer;
-use flat::tell_row;
 use flat::tell_two;
 pub use names::dz_map_names;
 use reader::map_name_place;
 use records::Index;
-ghost use Rattle.dzwonolin.specs.Promises.{ReadsFlat, NamesFlat, FrontsFlat, ReadsFileFlat, FileNamesFlat};
+ghost use Rattle.dzwonolin.specs.Promises.{ReadsFlat, NamesFlat, ReadsFileFlat, FileNamesFlat};
 
 #[no_mangle]
 pub extern "C" fn dz_read(
@@ -44,23 +43,6 @@ pub extern "C" fn dz_map_name(
     let place = map_name_place(text, lengths, dimension, Index(index));
     tell_two(part, place.start as u64, place.length as u64);
     place.number
-}
-
-#[no_mangle]
-pub extern "C" fn dz_front(file: &[u8], front: &mut [u64]) -> u64
-    ensures { λ r. ⌜ FrontsFlat (now (file .entry)) (now (front .entry)) r (now (front .exit)) ⌝ }
-{
-    let found = front::front(file);
-    let lengths = found.lengths;
-    let mut row = [0u64; 6];
-    row[0] = found.count;
-    row[1] = lengths[0];
-    row[2] = lengths[1];
-    row[3] = lengths[2];
-    row[4] = found.start as u64;
-    row[5] = found.length as u64;
-    tell_row(front, &row);
-    found.number
 }
 
 #[no_mangle]

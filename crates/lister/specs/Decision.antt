@@ -9,8 +9,8 @@ use lib.ListN.{length, take, replicate}
 use Rattle.cifti.specs.Conditions.{lengthsWrong}
 use Rattle.cifti.specs.Answer.{refusedWith, Reads}
 use Rattle.cifti.specs.declared.answer.Answer.{Answer}
-use Rattle.first_line.specs.Limits.{mostText}
-use Rattle.first_line.specs.Lengths.{lengthsIn}
+use Rattle.input.specs.Limits.{mostText}
+use Rattle.input.specs.Lengths.{lengthsIn}
 
 -- Refused, the records keep their contents, and the work space is zero.
 pub data Chooses (lengths buffer : List ℕ) (came : ℕ) (records work : List ℕ)

@@ -1,13 +1,13 @@
 // A text that is too long, lengths that are wrong, and what `read` answers.
 use answers::refused;
 use cifti::Answer;
-use first_line::FirstLine;
-use first_line::first_line;
+use input::FirstLine;
+use input::first_line;
 use reader::read;
 use repeats::clear;
 ghost use Prim.Native.Nat.{_≤_};
 ghost use lib.ListN.{length};
-ghost use Rattle.first_line.specs.Limits.{mostText};
+ghost use Rattle.input.specs.Limits.{mostText};
 ghost use Rattle.lister.specs.Decision.{Decides, Chooses};
 
 // With the lengths in good form. A text that is too long is told only where the lengths are right.
@@ -32,10 +32,11 @@ fn answered(
     read(&text[..came], lengths, records, work)
 }
 
-// So many bytes of text came; the buffer holds the first of them, all of those that are taken.
+// So many bytes of text came; the buffer holds the first of them: all that are taken, and one more, by which a text is seen to be too long
+// (`decides-past`).
 pub fn decide(
     line: &[u8],
-    text: &[u8; 32768],
+    text: &[u8; 32769],
     came: usize,
     records: &mut [u64],
     work: &mut [u64],

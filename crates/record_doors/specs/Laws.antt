@@ -2,3 +2,4 @@ pub mod Numbers
 pub mod Unique
 pub mod Lists
 pub mod Sides
+pub mod Front

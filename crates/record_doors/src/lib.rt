@@ -1,4 +1,5 @@
-// The doors for C that need no text: records and sheets, the short list as four numbers a model, and two sheets side by side.
+// The doors for C that read no text: records and sheets, the short list as four numbers a model, two sheets side by side, and where the
+// text of a file is.
 // include/dzwonolin.h says what each takes and gives. A slice is a pointer and the number of its elements.
 // The short list made.
 mod making;
@@ -20,6 +21,7 @@ use records::Index;
 ghost use Rattle.record_doors.specs.Promises.{FindsFlat, PacksFlat, UnpacksFlat};
 ghost use Rattle.record_doors.specs.Lists.{ListsFlat, TellsFlat, SeeksFlat};
 ghost use Rattle.record_doors.specs.Sides.{ComparesFlat, TailsFlat};
+ghost use Rattle.record_doors.specs.Front.{FrontsFlat};
 
 #[no_mangle]
 pub extern "C" fn dz_find(records: &[u64], number: u64, place: &mut [u64]) -> u64
@@ -117,4 +119,23 @@ pub extern "C" fn dz_tail(first: &[u8], second: &[u8], work: &mut [u64], part: &
     row[2] = cut.length as u64;
     tell_row(part, &row);
     cut.number
+}
+
+// ---- Where the text of a file is.
+
+#[no_mangle]
+pub extern "C" fn dz_front(file: &[u8], front: &mut [u64]) -> u64
+    ensures { λ r. ⌜ FrontsFlat (now (file .entry)) (now (front .entry)) r (now (front .exit)) ⌝ }
+{
+    let placed = front::front(file);
+    let lengths = placed.lengths;
+    let mut row = [0u64; 6];
+    row[0] = placed.count;
+    row[1] = lengths[0];
+    row[2] = lengths[1];
+    row[3] = lengths[2];
+    row[4] = placed.start as u64;
+    row[5] = placed.length as u64;
+    tell_row(front, &row);
+    placed.number
 }

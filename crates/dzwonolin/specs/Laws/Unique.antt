@@ -7,10 +7,8 @@ use Rattle.cifti.specs.declared.answer.Answer.{Answer}
 use Rattle.map_names.specs.Laws.Placed.{place-unique}
 use Rattle.map_names.specs.declared.NamePlace.{NamePlace}
 use Rattle.flat.specs.Flat.{answerNumbers, laidOver}
-use Rattle.nifti.specs.Laws.File.{front-unique}
-use Rattle.nifti.specs.declared.Front.{Front}
 use Rattle.file_reader.specs.Laws.Unique.{read-file-unique, file-place-unique}
-use Rattle.dzwonolin.specs.Promises.{ReadsFlat, NamesFlat, frontNumbers, FrontsFlat, ReadsFileFlat, FileNamesFlat}
+use Rattle.dzwonolin.specs.Promises.{ReadsFlat, NamesFlat, ReadsFileFlat, FileNamesFlat}
 
 module _ {text lengths records work slice : List ℕ} {m n : ℕ} {r s v w a b : List ℕ} where
   pub read-flat-unique : ReadsFlat text lengths records work slice m r v a → ReadsFlat text lengths records work slice n s w b → (m ≡ n)
@@ -34,15 +32,6 @@ module _ {text lengths : List ℕ} {d i : ℕ} {slice : List ℕ} {m n : ℕ} {a
       )
 
 -- ---- Of a file.
-
-module _ {file slice : List ℕ} {m n : ℕ} {a b : List ℕ} where
-  pub front-flat-unique : FrontsFlat file slice m a → FrontsFlat file slice n b → (m ≡ n) × (a ≡ b)
-  front-flat-unique p q =
-      let e = front-unique (p .fronts) (q .fronts) in (
-        p .numbered ∙ ap (λ (x : Front). x .number) e ∙ sym (q .numbered),
-        p .flat
-            ∙ ap (λ (x : Front). laidOver (frontNumbers x) slice) e ∙ sym (q .flat),
-      )
 
 module _ {file records work slice : List ℕ} {m n : ℕ} {r s v w a b : List ℕ} where
   pub read-file-flat-unique : ReadsFileFlat file records work slice m r v a → ReadsFileFlat file records work slice n s w b → (m ≡ n)

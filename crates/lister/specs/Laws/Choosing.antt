@@ -18,12 +18,12 @@ use Rattle.cifti.specs.Conditions.{lengthsWrong, conditionWords, refusal}
 use Rattle.cifti.specs.Answer.{answerBy, recordsBy, answerTo, recordsAfter, refusedWith, Reads}
 use Rattle.cifti.specs.Laws.Text.{answers-is}
 use Rattle.cifti.specs.declared.answer.Answer.{Answer}
-use Rattle.first_line.specs.Lengths.{lengthsIn, firstBy}
-use Rattle.first_line.specs.Laws.Lengths.{two-of, three-of}
-use Rattle.first_line.specs.Limits.{mostText}
+use Rattle.input.specs.Lengths.{lengthsIn, firstBy}
+use Rattle.input.specs.Laws.Lengths.{two-of, three-of}
+use Rattle.input.specs.Limits.{mostText}
 use Rattle.lister.specs.Decision.{Chooses, bad-lengths, too-long, as-read, Decides, bad-form, good-form}
-use Rattle.first_line.specs.declared.lengths.FirstLine.{FirstLine}
-use Rattle.first_line.specs.declared.lengths.FirstLine.the-variants.{Two, Three, Other}
+use Rattle.input.specs.declared.lengths.FirstLine.{FirstLine}
+use Rattle.input.specs.declared.lengths.FirstLine.the-variants.{Two, Three, Other}
 
 -- what a refusal leaves
 record Refuses (number : ℕ) (records work : List ℕ) (a : Answer) (s v : List ℕ) : Type 0 where

@@ -13,9 +13,9 @@ use Rattle.lists.specs.Laws.Booleans.{and-false, both-ways, never-some}
 use Rattle.cifti.specs.Conditions.{lengthsWrong}
 use Rattle.cifti.specs.Laws.Theorems.{reads-unique}
 use Rattle.cifti.specs.declared.answer.Answer.{Answer}
-use Rattle.first_line.specs.Lengths.{lengthsIn}
-use Rattle.first_line.specs.Laws.Lengths.{many-lengths}
-use Rattle.first_line.specs.Limits.{mostText}
+use Rattle.input.specs.Lengths.{lengthsIn}
+use Rattle.input.specs.Laws.Lengths.{many-lengths}
+use Rattle.input.specs.Limits.{mostText}
 use Rattle.lister.specs.Decision.{Chooses, bad-lengths, too-long, as-read, Decides, bad-form, good-form}
 
 module _ {lengths buffer : List ℕ} {came : ℕ} {records work : List ℕ} where

@@ -1,5 +1,0 @@
-pub mod Limits
-pub mod Lengths
-pub mod Parted
-pub mod Laws
-pub mod Tests

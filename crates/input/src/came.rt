@@ -1,0 +1,72 @@
+// Bytes of standard input. Which bytes come is the system's, so only their number is promised.
+use libc::STDIN_FILENO;
+ghost use Rattle.input.specs.Arrived.{Arrived};
+
+// How many bytes came, or that a read failed.
+pub struct Came {
+    pub count: usize,
+    pub failed: bool,
+}
+
+// Up to the first line feed. Three lengths take at most 24 bytes with it, and a longer line is refused whatever it says (`long-line`).
+pub fn read_line(line: &mut [u8]) -> Came
+    ensures { λ r. ⌜ Arrived (now (line .exit)) r ⌝ }
+{
+    let mut n = 0;
+    while n < line.len() {
+        let mut byte = [0u8; 1];
+        let got = libc::read(STDIN_FILENO, &mut byte);
+        if got < 0 {
+            return Came {
+                count: 0,
+                failed: true,
+            };
+        }
+        if got == 0 {
+            return Came {
+                count: n,
+                failed: false,
+            };
+        }
+        line[n] = byte[0];
+        n += 1;
+        if byte[0] == b'\n' {
+            return Came {
+                count: n,
+                failed: false,
+            };
+        }
+    }
+    Came {
+        count: n,
+        failed: false,
+    }
+}
+
+// Until the bytes lent are full, or the input ends.
+pub fn read_bytes(bytes: &mut [u8]) -> Came
+    ensures { λ r. ⌜ Arrived (now (bytes .exit)) r ⌝ }
+{
+    let mut n = 0;
+    while n < bytes.len() {
+        let got = libc::read(STDIN_FILENO, &mut bytes[n..]);
+        if got < 0 {
+            return Came {
+                count: 0,
+                failed: true,
+            };
+        }
+        let more = io::count(got, &bytes[n..]);
+        if more == 0 {
+            return Came {
+                count: n,
+                failed: false,
+            };
+        }
+        n += more;
+    }
+    Came {
+        count: n,
+        failed: false,
+    }
+}
