@@ -1,5 +1,6 @@
 // Bytes of standard input. Which bytes come is the system's, so only their number is promised.
 use libc::STDIN_FILENO;
+ghost use lib.ListN.{length};
 ghost use Rattle.input.specs.Arrived.{Arrived};
 
 // How many bytes came, or that a read failed.
@@ -10,7 +11,7 @@ pub struct Came {
 
 // Until the bytes lent are full, or the input ends.
 pub fn read_bytes(bytes: &mut [u8]) -> Came
-    ensures { λ r. ⌜ Arrived (now (bytes .exit)) r ⌝ }
+    ensures { λ r. ⌜ Arrived (length (now (bytes .exit))) r ⌝ }
 {
     let mut n = 0;
     while n < bytes.len() {

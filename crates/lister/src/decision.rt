@@ -32,11 +32,11 @@ fn answered(
     read(&text[..came], lengths, records, work)
 }
 
-// So many bytes of text came; the buffer holds the first of them: all that are taken, and one more, by which a text is seen to be too long
+// So many bytes of text came; the buffer holds the first of them, all of those that are taken. How many more came makes no difference
 // (`decides-past`).
 pub fn decide(
     line: &[u8],
-    text: &[u8; 32769],
+    text: &[u8; 32768],
     came: usize,
     records: &mut [u64],
     work: &mut [u64],

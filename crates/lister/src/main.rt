@@ -4,8 +4,8 @@
 mod decision;
 
 use cifti::Answer;
-use input::read_bytes;
 use input::read_line;
+use input::read_past;
 use libc::STDERR_FILENO;
 use libc::STDOUT_FILENO;
 ghost use mathlib.Core.Path.{_≡_};
@@ -47,11 +47,11 @@ fn fail() {
 
 fn main() {
     let mut line = [0u8; 24];
-    let mut text = [0u8; 32769];
+    let mut text = [0u8; 32768];
     let mut records = [0u64; 2048];
     let mut work = [0u64; 2048];
     let first = read_line(&mut line);
-    let body = read_bytes(&mut text);
+    let body = read_past(&mut text);
     if first.failed | body.failed {
         fail();
         return;
