@@ -82,7 +82,8 @@ static inline const char *dz_reason(uint64_t number)
     case 15: return "sheet count 0 or above 1,048,576; unpacking: also not a sheet";
     case 16: return "an illegal record";
     case 17: return "the slice to be written is too short";
-    case 18: return "map name: no such dimension, it is neither scalars nor labels, or the index is not below its length; keys and label names: the same of a dimension that is not labels; GIFTI keys: no such array";
+    case 18: return "map name: no such dimension, it is neither scalars nor labels, or the index is not below its length; keys and label "
+        "names: the same of a dimension that is not labels; GIFTI keys: no such array";
     case 19: return "find: no such record; asking a list: no such index or record; label name: no such key";
     case 20: return "a file under 544 bytes; its size field or magic is not NIfTI-2's single file; a data offset below 544";
     case 21: return "a file's dim[0] is not 6 or 7, one of dim[1] to dim[4] is not 1, or one of dim[5] to dim[dim[0]] is below 1";

@@ -66,10 +66,12 @@ static void fill(const char *before, const char *again, const char *after, size_
 
 static void brains(size_t size) {
     used = 0;
-    put("<?xml version=\"1.0\" encoding=\"UTF-8\"?>\n<CIFTI Version=\"2\">\n <Matrix>\n  <MatrixIndicesMap AppliesToMatrixDimension=\"1\" IndicesMapToDataType=\"CIFTI_INDEX_TYPE_BRAIN_MODELS\">\n");
+    put("<?xml version=\"1.0\" encoding=\"UTF-8\"?>\n<CIFTI Version=\"2\">\n <Matrix>\n"
+        "  <MatrixIndicesMap AppliesToMatrixDimension=\"1\" IndicesMapToDataType=\"CIFTI_INDEX_TYPE_BRAIN_MODELS\">\n");
     unsigned x = 1;
     while (used < size) {
-        put("   <BrainModel IndexOffset=\"0\" IndexCount=\"29696\" ModelType=\"CIFTI_MODEL_TYPE_SURFACE\" BrainStructure=\"CIFTI_STRUCTURE_CORTEX_LEFT\" SurfaceNumberOfVertices=\"32492\">\n    <VertexIndices>");
+        put("   <BrainModel IndexOffset=\"0\" IndexCount=\"29696\" ModelType=\"CIFTI_MODEL_TYPE_SURFACE\""
+            " BrainStructure=\"CIFTI_STRUCTURE_CORTEX_LEFT\" SurfaceNumberOfVertices=\"32492\">\n    <VertexIndices>");
         for (int i = 0; i < 29696; i++) {
             char w[16];
             x = x * 1103515245u + 12345u;

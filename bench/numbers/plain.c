@@ -55,7 +55,8 @@ int main(void)
         z = bounded_sum(text, n, 0);
         t[3] = now();
         double c = round % 2 ? t[2] - t[1] : t[1] - t[0], r = round % 2 ? t[1] - t[0] : t[2] - t[1];
-        printf("plain C %.2f ms, C with 7 digits %.2f ms, next_number %.2f ms, ratio %.2f and %.2f, %s\n", c, t[3] - t[2], r, r / c, r / (t[3] - t[2]), x == y && y == z ? "same sum" : "DIFFERENT");
+        printf("plain C %.2f ms, C with 7 digits %.2f ms, next_number %.2f ms, ratio %.2f and %.2f, %s\n",
+               c, t[3] - t[2], r, r / c, r / (t[3] - t[2]), x == y && y == z ? "same sum" : "DIFFERENT");
     }
     return 0;
 }

@@ -126,7 +126,8 @@ static void repeats(const char *what, const Numbers &keys, uint64_t wanted) {
   auto fill = [&] { work = keys; };
   double b = best(fill, [&] { theirs = sort_repeats(work.data(), work.size()); });
   double a = best(fill, [&] { ours = bench_repeats(work.data(), work.size(), work.size()); });
-  if (ours != wanted || theirs != wanted || std::count(work.begin(), work.end(), 0) != (long)work.size()) printf("WRONG %s\n", what), exit(1);
+  bool cleared = std::count(work.begin(), work.end(), 0) == (long)work.size();
+  if (ours != wanted || theirs != wanted || !cleared) printf("WRONG %s\n", what), exit(1);
   row(what, a, b);
 }
 
@@ -146,13 +147,19 @@ int main() {
     repeats("random", random, 0);
     repeats("ascending", keys(n, [](size_t i, size_t) { return (uint64_t)i; }), 0);
     repeats("descending", keys(n, [](size_t i, size_t n) { return (uint64_t)(n - i); }), 0);
-    repeats("ascending, the last two exchanged", keys(n, [](size_t i, size_t n) { return (uint64_t)(i + 2 == n ? n - 1 : i + 1 == n ? n - 2 : i); }), 0);
-    repeats("descending, the last two exchanged", keys(n, [](size_t i, size_t n) { return (uint64_t)(i + 2 == n ? 0 : i + 1 == n ? 1 : n - 1 - i); }), 0);
-    repeats("two ascending runs, interleaved", keys(n, [](size_t i, size_t n) { return (uint64_t)(i < n / 2 ? 2 * i + 1 : 2 * (i - n / 2)); }), 0);
+    repeats("ascending, the last two exchanged",
+            keys(n, [](size_t i, size_t n) { return (uint64_t)(i + 2 == n ? n - 1 : i + 1 == n ? n - 2 : i); }), 0);
+    repeats("descending, the last two exchanged",
+            keys(n, [](size_t i, size_t n) { return (uint64_t)(i + 2 == n ? 0 : i + 1 == n ? 1 : n - 1 - i); }), 0);
+    repeats("two ascending runs, interleaved",
+            keys(n, [](size_t i, size_t n) { return (uint64_t)(i < n / 2 ? 2 * i + 1 : 2 * (i - n / 2)); }), 0);
     repeats("steps of 7919", keys(n, [](size_t i, size_t n) { return (uint64_t)(17 * one << 48) + i * 7919 % n; }), 0);
     repeats("powers of two far apart", keys(n, [](size_t i, size_t) { return (uint64_t)(one << (i % 54)) + i / 54 * (i % 2); }), 14);
     repeats("half near 0, half near 2^54", keys(n, [](size_t i, size_t n) { return (i & 1) ? (one << 54) - 1 - i : i * 7919 % n * 2; }), 0);
-    repeats("one cortex, one volume", keys(n, [](size_t i, size_t n) { uint64_t v = i * 7919 % n; return i < n / 2 ? (17 * one << 48) + i : (one << 53) + (v % 101 << 32 | v / 101 % 107 << 16 | v / 101 / 107); }), 0);
+    repeats("one cortex, one volume", keys(n, [](size_t i, size_t n) {
+      uint64_t v = i * 7919 % n;
+      return i < n / 2 ? (17 * one << 48) + i : (one << 53) + (v % 101 << 32 | v / 101 % 107 << 16 | v / 101 / 107);
+    }), 0);
     repeats("near 0, and one at each power of 2", keys(n, [](size_t i, size_t n) { return i < 43 ? one << (21 + i) : i * 7919 % n; }), 0);
     Numbers last = random;
     last[n - 1] = last[0];
