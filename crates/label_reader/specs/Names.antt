@@ -2,26 +2,22 @@
 use mathlib.Core.Path.{_≡_, _∙_}
 use mathlib.Core.List.{List, [], _∷_, _++_}
 use mathlib.Core.Option
-use Prim.Native.Nat.{ℕ, _+_, _-_, _≤_}
+use Prim.Native.Nat.{ℕ}
 use lib.IntN.{ℤ}
-use lib.ListN.{length, take, drop}
+use lib.ListN.{length}
 use Rattle.nodes.specs.Inside.{between-tags}
 use Rattle.nodes.specs.declared.Found.the-variants.{At, Nothing}
 use Rattle.label_table.specs.Labels.{labelWith}
 use Rattle.cifti.specs.Labels.{LabelNumber, LabelPart}
-use Rattle.inside.specs.Way.{Place}
-use Rattle.inside.specs.One as One
 use Rattle.inside.specs.One.{tagEnd}
 use Rattle.map_names.specs.Answered.{Is}
+use Rattle.map_names.specs.Placed.{PlacedBy}
 use Rattle.map_names.specs.declared.NamePlace.{NamePlace}
 use Rattle.label_reader.specs.Way.{labelWay}
 
-pub record LabelPlaced (text lengths : List ℕ) (dimension index : ℕ) (key : ℤ) (r : NamePlace) : Type 0 where
-  pub numbered : LabelNumber text lengths dimension index key (r .number)
-  pub inside : r .start + r .length ≤ length text
-  pub named : LabelPart text lengths dimension index key (take (r .length) (drop (r .start) text))
-  pub placed : r .number ≡ 0 → Place (labelWay dimension index key) (take (r .length) (drop (r .start) text)) text (r .start)
-  pub refused : (r .number ≡ 0 → ⊥) → (r .start ≡ 0) × (r .length ≡ 0)
+abbrev pub LabelPlaced : (text lengths : List ℕ) (dimension index : ℕ) (key : ℤ) (r : NamePlace) → Type 0
+LabelPlaced text lengths dimension index key r =
+    PlacedBy (LabelNumber text lengths dimension index key) (LabelPart text lengths dimension index key) (labelWay dimension index key) text r
 
 -- ---- On any bytes, in the table at a place: 19 where no Label has the key; else where the first that has it stands.
 

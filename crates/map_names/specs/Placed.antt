@@ -6,14 +6,19 @@ use mathlib.Core.Option
 use Prim.Native.Nat.{ℕ, _+_, _≤_}
 use lib.ListN.{length, take, drop}
 use Rattle.cifti.specs.Names.{NameNumber, NamePart}
-use Rattle.inside.specs.Way.{Place}
-use Rattle.inside.specs.One as One
+use Rattle.inside.specs.Way.{Step, Place}
 use Rattle.map_names.specs.Way.{nameWay}
 use Rattle.map_names.specs.declared.NamePlace.{NamePlace}
 
-pub record NamePlaced (text lengths : List ℕ) (dimension index : ℕ) (r : NamePlace) : Type 0 where
-  pub numbered : NameNumber text lengths dimension index (r .number)
+-- a place by what its number is, what its part is and the way to it: the part stands in the text at the start;
+-- where the number is 0, it stands at the place of the way; else there is nothing
+pub record PlacedBy (Number : ℕ → Type 0) (Part : List ℕ → Type 0) (way : List Step) (text : List ℕ) (r : NamePlace) : Type 0 where
+  pub numbered : Number (r .number)
   pub inside : r .start + r .length ≤ length text
-  pub named : NamePart text lengths dimension index (take (r .length) (drop (r .start) text))
-  pub placed : r .number ≡ 0 → Place (nameWay dimension index) (take (r .length) (drop (r .start) text)) text (r .start)
+  pub named : Part (take (r .length) (drop (r .start) text))
+  pub placed : r .number ≡ 0 → Place way (take (r .length) (drop (r .start) text)) text (r .start)
   pub refused : (r .number ≡ 0 → ⊥) → (r .start ≡ 0) × (r .length ≡ 0)
+
+abbrev pub NamePlaced : (text lengths : List ℕ) (dimension index : ℕ) (r : NamePlace) → Type 0
+NamePlaced text lengths dimension index r =
+    PlacedBy (NameNumber text lengths dimension index) (NamePart text lengths dimension index) (nameWay dimension index) text r

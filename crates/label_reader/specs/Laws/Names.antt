@@ -5,10 +5,8 @@ use mathlib.Core.Option.{some}
 use mathlib.Core.Option
 use Prim.Native.Nat.{ℕ, zero, suc, _+_, _-_, _≤_}
 use native.Mathlib.Omega.{arith}
-use native.Mathlib.Decide.{ℕ-discrete}
 use lib.IntN.{ℤ}
-use lib.ListN.{length, getD, take, drop, length-drop}
-use lib.Seq.{length-take-le}
+use lib.ListN.{length, getD, take, drop}
 use borrow.Author.Needs.{needs}
 use Rattle.lists.specs.Lists.{there}
 use Rattle.lists.specs.Refusals.{first}
@@ -32,10 +30,9 @@ use Rattle.cifti.specs.Laws.Labels.{label-number-unique, label-part-unique}
 use Rattle.inside.specs.Way.{nth}
 use Rattle.inside.specs.Walked.{wayAt}
 use Rattle.inside.specs.Laws.Walked.{Agrees}
-use Rattle.inside.specs.Laws.One as One
 use Rattle.inside.specs.One.{tagEnd}
-use Rattle.inside.specs.Laws.One.{place-cut, place-found}
 use Rattle.map_names.specs.Answered.{Is}
+use Rattle.map_names.specs.Laws.Placed.{refused-by, placed-by, placed-unique}
 use Rattle.map_names.specs.Treads.{namedAt}
 use Rattle.map_names.specs.declared.NamePlace.{NamePlace}
 use Rattle.labels.specs.Laws.Good.{keys-in-form}
@@ -75,8 +72,8 @@ module _ (text lengths : List ℕ) (d i : ℕ) (key : ℤ) where
   abbrev number-of : ℕ
   number-of = labelRefusal lengths (length text) d i key (parse text)
 
-  numbered-by : {n m : ℕ} → number-of ≡ n → m ≡ n → LabelNumber text lengths d i key m
-  numbered-by h e = record { asked = answers-by text _ (e ∙ sym h) }
+  numbered-by : {n : ℕ} → number-of ≡ n → LabelNumber text lengths d i key n
+  numbered-by h = record { asked = answers-by text _ (sym h) }
 
   part-by : (n : ℕ) → number-of ≡ n → {l : List ℕ} → l ≡ labelBy n d i key (parse text) → LabelPart text lengths d i key l
   unfolding labelPart
@@ -88,17 +85,7 @@ module _ (text lengths : List ℕ) (d i : ℕ) (key : ℤ) where
   no-part (suc n) k = refl
 
   refused-so : (n : ℕ) → (n ≡ 0 → ⊥) → number-of ≡ n → {r : NamePlace} → Is r n 0 0 → LabelPlaced text lengths d i key r
-  refused-so n k h {r} s =
-      let a = s .number-is in
-      let b = s .start-is in
-      let c = s .length-is in
-      record {
-        numbered = numbered-by h a;
-        inside = omega arith;
-        named = rw c (part-by n h (no-part n k));
-        placed = λ z. absurd (k (sym a ∙ z));
-        refused = λ _. (b, c);
-      }
+  refused-so n k h = refused-by k (numbered-by h) (part-by n h (no-part n k))
 
   part-zero : {e : Element} → parse text ≡ some e → getD (labelsOn d i key e) 0 [] ≡ labelBy 0 d i key (parse text)
   unfolding labelBy
@@ -107,20 +94,7 @@ module _ (text lengths : List ℕ) (d i : ℕ) (key : ℤ) where
   placed-so : {e : Element} {k : ℕ} → parse text ≡ some e → number-of ≡ 0 → wayAt (labelWay d i key) text ≡ At k
       → getD (labelsOn d i key e) 0 [] ≡ between-tags text k → {r : NamePlace} → Is r 0 (tagEnd text k) (length (between-tags text k))
       → LabelPlaced text lengths d i key r
-  placed-so {e} {k} p h f q {r} s =
-      let here = place-found (labelWay d i key) p f in
-      let c = place-cut here in
-      let a = s .start-is in
-      let b = s .length-is in
-      let u = c .inside in
-      let same : between-tags text k ≡ take (r .length) (drop (r .start) text) = sym (rw (a, b) (c .is)) in
-      record {
-        numbered = numbered-by h (s .number-is);
-        inside = omega arith;
-        named = part-by 0 h (sym same ∙ sym q ∙ part-zero p);
-        placed = λ _. rw (← same, a) here;
-        refused = λ y. absurd (y (s .number-is));
-      }
+  placed-so p h f q = placed-by p f (numbered-by h) (part-by 0 h (sym q ∙ part-zero p))
 
   module _ {n : ℕ} (h : n ≡ numberBefore text lengths) where
     -- one of 1 to 9, 24 and 25
@@ -187,25 +161,7 @@ pub ruleset taking-label = (placed-number, placed-inside, placed-part, needs)
 
 -- ---- ONE PLACE for every input.
 
-as-long : (text : List ℕ) (s n : ℕ) → s + n ≤ length text → length (take n (drop s text)) ≡ n
-as-long text s n h = let k = length-drop s text in length-take-le n (drop s text) (omega arith)
-
 module _ {text lengths : List ℕ} {d i : ℕ} {key : ℤ} {a b : NamePlace} (p : LabelPlaced text lengths d i key a)
     (q : LabelPlaced text lengths d i key b) where
-  number-same : a .number ≡ b .number
-  number-same = label-number-unique (p .numbered) (q .numbered)
-
-  start-same : a .start ≡ b .start
-  start-same = by (ℕ-discrete (a .number) 0)
-    where
-      by : Dec (a .number ≡ 0) → a .start ≡ b .start
-      by (yes z) = One.place-unique (p .placed z) (q .placed (sym number-same ∙ z)) .0
-      by (no k) = p .refused k .0 ∙ sym (q .refused (λ z. k (number-same ∙ z)) .0)
-
-  length-same : a .length ≡ b .length
-  length-same =
-      sym (as-long text (a .start) (a .length) (p .inside)) ∙ ap length (label-part-unique (p .named) (q .named))
-      ∙ as-long text (b .start) (b .length) (q .inside)
-
   pub label-place-unique : a ≡ b
-  label-place-unique = λ k. record { number = number-same k; start = start-same k; length = length-same k }
+  label-place-unique = placed-unique p q (label-number-unique (p .numbered) (q .numbered)) (label-part-unique (p .named) (q .named))

@@ -27,6 +27,7 @@ use Rattle.cifti.specs.Rows.{cifti}
 use Rattle.cifti.specs.Laws.Text.{answers-by}
 use Rattle.cifti.specs.Laws.Theorems.{number-unique, part-unique}
 use Rattle.maps.specs.Good.{Good}
+use Rattle.inside.specs.Way.{Step}
 use Rattle.inside.specs.Walked.{wayAt}
 use Rattle.inside.specs.Laws.Walked.{Agrees, not-there, stands-there, way-agrees}
 use Rattle.inside.specs.Laws.One as One
@@ -37,7 +38,7 @@ use Rattle.map_names.specs.Laws.Reached.{NameOf, no-name, a-name, listed
 use Rattle.map_names.specs.Laws.Treads.{name-way}
 use Rattle.map_names.specs.Answered.{Is, Answered}
 use Rattle.map_names.specs.declared.NamePlace.{NamePlace}
-use Rattle.map_names.specs.Placed.{NamePlaced}
+use Rattle.map_names.specs.Placed.{PlacedBy, NamePlaced}
 
 -- ---- Where no condition before 18 applies, there is a document, and 6 to 9 do not apply to it.
 
@@ -62,11 +63,64 @@ fine lengths size (some e) h =
       agree = row-fails (rows-behind (rows-behind seven));
     }
 
+-- ---- A place by any number, part and way.
+
+module _ {Number : ℕ → Type 0} {Part : List ℕ → Type 0} {way : List Step} {text : List ℕ} where
+  pub refused-by : {n : ℕ} → (n ≡ 0 → ⊥) → Number n → Part [] → {r : NamePlace} → Is r n 0 0 → PlacedBy Number Part way text r
+  refused-by k m l {r} s =
+      let a = s .number-is in
+      let b = s .start-is in
+      let c = s .length-is in
+      record {
+        numbered = rw a m;
+        inside = omega arith;
+        named = rw c l;
+        placed = λ z. absurd (k (sym a ∙ z));
+        refused = λ _. (b, c);
+      }
+
+  pub placed-by : {e : Element} {k : ℕ} → parse text ≡ some e → wayAt way text ≡ At k → Number 0 → Part (between-tags text k)
+      → {r : NamePlace} → Is r 0 (tagEnd text k) (length (between-tags text k)) → PlacedBy Number Part way text r
+  placed-by {e} {k} p f m l {r} s =
+      let here = place-found way p f in
+      let c = place-cut here in
+      let a = s .start-is in
+      let b = s .length-is in
+      let u = c .inside in
+      let same : between-tags text k ≡ take (r .length) (drop (r .start) text) = sym (rw (a, b) (c .is)) in
+      record {
+        numbered = rw (s .number-is) m;
+        inside = omega arith;
+        named = rw (← same) l;
+        placed = λ _. rw (← same, a) here;
+        refused = λ y. absurd (y (s .number-is));
+      }
+
+as-long : (text : List ℕ) (s n : ℕ) → s + n ≤ length text → length (take n (drop s text)) ≡ n
+as-long text s n h = let k = length-drop s text in length-take-le n (drop s text) (omega arith)
+
+-- where number and part are one, the place is one
+module _ {Number : ℕ → Type 0} {Part : List ℕ → Type 0} {way : List Step} {text : List ℕ} {a b : NamePlace}
+    (p : PlacedBy Number Part way text a) (q : PlacedBy Number Part way text b) (number-same : a .number ≡ b .number)
+    (part-same : take (a .length) (drop (a .start) text) ≡ take (b .length) (drop (b .start) text)) where
+  start-same : a .start ≡ b .start
+  start-same = by (ℕ-discrete (a .number) 0)
+    where
+      by : Dec (a .number ≡ 0) → a .start ≡ b .start
+      by (yes z) = One.place-unique (p .placed z) (q .placed (sym number-same ∙ z)) .0
+      by (no k) = p .refused k .0 ∙ sym (q .refused (λ z. k (number-same ∙ z)) .0)
+
+  length-same : a .length ≡ b .length
+  length-same = sym (as-long text (a .start) (a .length) (p .inside)) ∙ ap length part-same ∙ as-long text (b .start) (b .length) (q .inside)
+
+  pub placed-unique : a ≡ b
+  placed-unique = λ k. record { number = number-same k; start = start-same k; length = length-same k }
+
 -- ---- The answer.
 
 module _ (text lengths : List ℕ) (d i : ℕ) where
-  numbered-by : {n m : ℕ} → nameRefusal lengths (length text) d i (parse text) ≡ n → m ≡ n → NameNumber text lengths d i m
-  numbered-by h e = record { asked = answers-by text _ (e ∙ sym h) }
+  numbered-by : {n : ℕ} → nameRefusal lengths (length text) d i (parse text) ≡ n → NameNumber text lengths d i n
+  numbered-by h = record { asked = answers-by text _ (sym h) }
 
   part-by : (n : ℕ) → nameRefusal lengths (length text) d i (parse text) ≡ n → {l : List ℕ} → l ≡ partBy n d i (parse text)
       → NamePart text lengths d i l
@@ -80,17 +134,7 @@ module _ (text lengths : List ℕ) (d i : ℕ) where
 
   refused-so : (n : ℕ) → (n ≡ 0 → ⊥) → nameRefusal lengths (length text) d i (parse text) ≡ n → {r : NamePlace} → Is r n 0 0
       → NamePlaced text lengths d i r
-  refused-so n k h {r} s =
-      let a = s .number-is in
-      let b = s .start-is in
-      let c = s .length-is in
-      record {
-        numbered = numbered-by h a;
-        inside = omega arith;
-        named = rw c (part-by n h (no-part n k));
-        placed = λ z. absurd (k (sym a ∙ z));
-        refused = λ _. (b, c);
-      }
+  refused-so n k h = refused-by k (numbered-by h) (part-by n h (no-part n k))
 
   part-zero : {e : Element} → parse text ≡ some e → getD (namesOn d e) i [] ≡ partBy 0 d i (parse text)
   unfolding partBy
@@ -99,20 +143,7 @@ module _ (text lengths : List ℕ) (d i : ℕ) where
   placed-so : {e : Element} {k : ℕ} → parse text ≡ some e → nameRefusal lengths (length text) d i (parse text) ≡ 0
       → wayAt (nameWay d i) text ≡ At k → getD (namesOn d e) i [] ≡ between-tags text k
       → {r : NamePlace} → Is r 0 (tagEnd text k) (length (between-tags text k)) → NamePlaced text lengths d i r
-  placed-so {e} {k} p h f q {r} s =
-      let here = place-found (nameWay d i) p f in
-      let c = place-cut here in
-      let a = s .start-is in
-      let b = s .length-is in
-      let u = c .inside in
-      let same : between-tags text k ≡ take (r .length) (drop (r .start) text) = sym (rw (a, b) (c .is)) in
-      record {
-        numbered = numbered-by h (s .number-is);
-        inside = omega arith;
-        named = part-by 0 h (sym same ∙ sym q ∙ part-zero p);
-        placed = λ _. rw (← same, a) here;
-        refused = λ y. absurd (y (s .number-is));
-      }
+  placed-so p h f q = placed-by p f (numbered-by h) (part-by 0 h (sym q ∙ part-zero p))
 
   -- 18, behind the conditions before it
   eighteen : {e : Element} {b : Bool} → NoneApplies (conditionsOfHeader lengths (length text) (parse text)) → parse text ≡ some e
@@ -151,24 +182,6 @@ module _ (text lengths : List ℕ) (d i : ℕ) where
 
 -- ---- ONE PLACE for every input.
 
-as-long : (text : List ℕ) (s n : ℕ) → s + n ≤ length text → length (take n (drop s text)) ≡ n
-as-long text s n h = let k = length-drop s text in length-take-le n (drop s text) (omega arith)
-
 module _ {text lengths : List ℕ} {d i : ℕ} {a b : NamePlace} (p : NamePlaced text lengths d i a) (q : NamePlaced text lengths d i b) where
-  number-same : a .number ≡ b .number
-  number-same = number-unique (p .numbered) (q .numbered)
-
-  start-same : a .start ≡ b .start
-  start-same = by (ℕ-discrete (a .number) 0)
-    where
-      by : Dec (a .number ≡ 0) → a .start ≡ b .start
-      by (yes z) = One.place-unique (p .placed z) (q .placed (sym number-same ∙ z)) .0
-      by (no k) = p .refused k .0 ∙ sym (q .refused (λ z. k (number-same ∙ z)) .0)
-
-  length-same : a .length ≡ b .length
-  length-same =
-      sym (as-long text (a .start) (a .length) (p .inside)) ∙ ap length (part-unique (p .named) (q .named))
-      ∙ as-long text (b .start) (b .length) (q .inside)
-
   pub place-unique : a ≡ b
-  place-unique = λ k. record { number = number-same k; start = start-same k; length = length-same k }
+  place-unique = placed-unique p q (number-unique (p .numbered) (q .numbered)) (part-unique (p .named) (q .named))
