@@ -17,6 +17,7 @@ use Rattle.nodes.specs.Places.{Stands, the}
 use Rattle.cifti.specs.Conditions.{textTooLong, noDocument}
 use Rattle.gifti.specs.Conditions.{rootWrong, shapeWrong, arrayNotRead, numberWrong, conditionsOfFile}
 use Rattle.numbered_rows.specs.Checks.{giftiFault, JudgedGifti, ChecksGifti}
+use Rattle.numbered_rows.specs.Laws.Checks.{not-three, shape-by, shaped-by, numbers-by, number-by, not-written, open-judged}
 use Rattle.schema.specs.declared.Checked.{Checked}
 use Rattle.gifti_opening.specs.Opening.{fileNumber, OpensGifti, rootNumber, OpensRoot}
 use Rattle.gifti_opening.specs.declared.GiftiOpening.{GiftiOpening}
@@ -34,26 +35,6 @@ module _ {text : List ℕ} {at n : ℕ} (j : JudgedGifti text at n) where
   fault-so : n ≡ cond (shapeWrong e) 6 (cond (numberWrong e) 7 0)
   unfolding giftiFault
   fault-so = j .fault-is
-
-  -- what the fault says of the shape and the numbers
-  shape-by : (x y : Bool) → n ≡ cond x 6 (cond y 7 0) → n ≡ 6 → x ≡ true
-  shape-by true y h k = refl
-  shape-by false true h k = absurd (omega arith)
-  shape-by false false h k = absurd (omega arith)
-
-  shaped-by : (x y : Bool) → n ≡ cond x 6 (cond y 7 0) → (n ≡ 6 → ⊥) → x ≡ false
-  shaped-by true y h k = absurd (k h)
-  shaped-by false y h k = refl
-
-  numbers-by : (x y : Bool) → n ≡ cond x 6 (cond y 7 0) → n ≡ 0 → y ≡ false
-  numbers-by true y h k = absurd (omega arith)
-  numbers-by false true h k = absurd (omega arith)
-  numbers-by false false h k = refl
-
-  number-by : (x y : Bool) → n ≡ cond x 6 (cond y 7 0) → (n ≡ 6 → ⊥) → (n ≡ 0 → ⊥) → y ≡ true
-  number-by true y h k z = absurd (k h)
-  number-by false true h k z = refl
-  number-by false false h k z = absurd (z h)
 
   pub root-stands : Stands text at
   root-stands = j .stands
@@ -122,27 +103,6 @@ module _ (text : List ℕ) where
 
 -- ---- The whole.
 
-module _ {text : List ℕ} {c : Checked} (w : ChecksGifti text c) where
-  not-written : c .number ≡ 3 → parse text ≡ Option.none
-  unfolding giftiFault
-  not-written z = go (parse text) refl
-    where
-      never : (x y : Bool) → _≡_ {A = ℕ} 3 (cond x 6 (cond y 7 0)) → ⊥
-      never true y h = omega arith
-      never false true h = omega arith
-      never false false h = omega arith
-
-      go : (d : Option Element) → parse text ≡ d → d ≡ Option.none
-      go Option.none p = refl
-      go (some e) p = absurd (never (shapeWrong (the text (c .root))) (numberWrong (the text (c .root))) (sym z ∙ w .written e p .fault-is))
-
-  pub open-judged : (c .number ≡ 3 → ⊥) → JudgedGifti text (c .root) (c .number)
-  open-judged z = go (parse text) refl
-    where
-      go : (d : Option Element) → parse text ≡ d → JudgedGifti text (c .root) (c .number)
-      go Option.none p = absurd (z (w .unwritten p .0))
-      go (some e) p = w .written e p
-
 refused-as : {text : List ℕ} (n : ℕ) → (n ≡ 0 → ⊥) → fileNumber text ≡ n → (o : GiftiOpening) → o .number ≡ n → o .root ≡ 0
     → OpensGifti text o
 refused-as n k h o q m = record { number-is = q ∙ sym h; placed = λ z. absurd (k (sym q ∙ z)); nowhere = λ _. m }
@@ -153,7 +113,9 @@ module _ {text : List ℕ} where
 
   module _ (short : length text ≤ 16777216) {c : Checked} (w : ChecksGifti text c) where
     pub open-unwritten : c .number ≡ 3 → (o : GiftiOpening) → o .number ≡ 3 → o .root ≡ 0 → OpensGifti text o
-    open-unwritten g o = refused-as 3 (λ z. omega arith) (number-unwritten text short (not-written w g)) o
+    unfolding giftiFault
+    open-unwritten g o =
+        refused-as 3 (λ z. omega arith) (number-unwritten text short (not-written w (λ e. not-three (shapeWrong e) (numberWrong e)) g)) o
 
     pub open-document : (c .number ≡ 3 → ⊥) → {o : GiftiOpening} → OpensRoot text (c .root) o → OpensGifti text o
     open-document t {o} d =

@@ -28,6 +28,7 @@ use Rattle.cifti.specs.Conditions as C
 use Rattle.cifti.specs.Conditions.{_when_, lengthsWrong, textTooLong, noDocument, rootWrong, kindNotRead, shapeWrong, numberWrong}
 use Rattle.cifti.specs.Conditions.{conditionsOfHeader}
 use Rattle.numbered_rows.specs.Checks.{rootFault, Judged, ChecksCifti}
+use Rattle.numbered_rows.specs.Laws.Checks.{not-three, shaped-by, numbers-by, not-written, open-judged}
 use Rattle.schema.specs.declared.Checked.{Checked}
 use Rattle.maps.specs.Good.{Good}
 use Rattle.maps.specs.Laws.Kinds.{root-child}
@@ -189,17 +190,16 @@ module _ {text : List ℕ} {r n : ℕ} (j : Judged text r n) where
         go m false false a b = absurd (k (j .fault-is ∙ rw (a, b)))
 
     module _ (z : n ≡ 0) where
-      both : (shapeWrong (the text r) ≡ false) × (numberWrong (the text r) ≡ false)
+      shaped : shapeWrong (the text r) ≡ false
       unfolding rootFault
-      both = go (shapeWrong (the text r)) (numberWrong (the text r)) refl refl
-        where
-          go : (x y : Bool) → shapeWrong (the text r) ≡ x → numberWrong (the text r) ≡ y → (x ≡ false) × (y ≡ false)
-          go true y a b = absurd (let w : 0 ≡ 6 = sym z ∙ j .fault-is ∙ rw a in omega arith)
-          go false true a b = absurd (let w : 0 ≡ 7 = sym z ∙ j .fault-is ∙ rw (a, b) in omega arith)
-          go false false a b = (refl, refl)
+      shaped = shaped-by (shapeWrong (the text r)) (numberWrong (the text r)) (j .fault-is) (λ k. omega arith)
+
+      numbers-fine : numberWrong (the text r) ≡ false
+      unfolding rootFault
+      numbers-fine = numbers-by (shapeWrong (the text r)) (numberWrong (the text r)) (j .fault-is) z
 
       good-here : Good cifti (the text r)
-      good-here = good-root (the text r) (both .0) (both .1)
+      good-here = good-root (the text r) shaped numbers-fine
 
       pub root-passes : {m : ℕ} {kid : Kid} → kid ≡ first text r → kid ≡ Child m → (o : Opening) → o .number ≡ 0 → o .matrix ≡ m
           → Found text r o
@@ -220,8 +220,8 @@ module _ {text : List ℕ} {r n : ℕ} (j : Judged text r n) where
             refused = λ k. absurd (k u);
             right-root = λ _. sym p ∙ f;
             read-kinds = λ _. all-read good-here;
-            shape = λ _. both .0;
-            numbers = λ _. both .1;
+            shape = λ _. shaped;
+            numbers = λ _. numbers-fine;
             stands = λ _. rw v (t .stands);
             good = λ _. rw (v, here) (only .good);
             maps = λ _. rw v (maps-one (the text r) (the text m) list (rw here (only .name)));
@@ -244,27 +244,6 @@ pub not-long : (text : List ℕ) → length text ≤ 16777216 → textTooLong (l
 unfolding textTooLong
 not-long text h = le-ltb 16777216 (length text) h
 
-module _ {text : List ℕ} {c : Checked} (w : ChecksCifti text c) where
-  not-written : c .number ≡ 3 → parse text ≡ Option.none
-  unfolding rootFault
-  not-written z = go (parse text) refl
-    where
-      never : (x y : Bool) → _≡_ {A = ℕ} 3 (cond x 6 (cond y 7 0)) → ⊥
-      never true y h = omega arith
-      never false true h = omega arith
-      never false false h = omega arith
-
-      go : (d : Option Element) → parse text ≡ d → d ≡ Option.none
-      go Option.none p = refl
-      go (some e) p = absurd (never (shapeWrong (the text (c .root))) (numberWrong (the text (c .root))) (sym z ∙ w .written e p .fault-is))
-
-  pub open-judged : (c .number ≡ 3 → ⊥) → Judged text (c .root) (c .number)
-  open-judged z = go (parse text) refl
-    where
-      go : (d : Option Element) → parse text ≡ d → Judged text (c .root) (c .number)
-      go Option.none p = absurd (z (w .unwritten p .0))
-      go (some e) p = w .written e p
-
 module _ {text : List ℕ} (lengths : List ℕ) {a : Bool} (p : a ≡ lengthsWrong lengths) where
   refused-as : (n : ℕ) → (n ≡ 0 → ⊥) → n ≤ 7 → headerNumber text lengths ≡ n → (o : Opening) → o .number ≡ n → o .matrix ≡ 0
       → Opens text lengths o
@@ -286,8 +265,10 @@ module _ {text : List ℕ} (lengths : List ℕ) {a : Bool} (p : a ≡ lengthsWro
 
     module _ (short : length text ≤ 16777216) {c : Checked} (w : ChecksCifti text c) where
       pub open-unwritten : c .number ≡ 3 → (o : Opening) → o .number ≡ 3 → o .matrix ≡ 0 → Opens text lengths o
+      unfolding rootFault
       open-unwritten g =
-          refused-as 3 (λ z. omega arith) (omega arith) (header-unwritten text lengths (sym p ∙ f) (not-long text short) (not-written w g))
+          refused-as 3 (λ z. omega arith) (omega arith) (header-unwritten text lengths (sym p ∙ f) (not-long text short)
+          (not-written w (λ e. not-three (shapeWrong e) (numberWrong e)) g))
 
       pub open-document : (c .number ≡ 3 → ⊥) → {o : Opening} → Found text (c .root) o → Opens text lengths o
       unfolding matrixPlace kidPlace
