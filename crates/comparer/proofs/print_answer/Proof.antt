@@ -12,12 +12,18 @@ slice-aggregate-compare c = sym (length-take-le _ _ (omega arith))
 slice-aggregate-print-both : tie.Need-slice-aggregate-print-both
 slice-aggregate-print-both c = sym (length-take-le _ _ (omega arith))
 
+abbrev start : tie.After-compare → tie.Start
+start c = c .before .before .before .before .before .before
+
+abbrev after-first-end : tie.After-compare → tie.After-first-end
+after-first-end c = c .before .before .before .before
+
 returns : tie.Need-returns
 returns c e =
-    let entry = c .before .before .before .before .before .before .before .before .before .before in
+    let entry = start (c .before .before .before .before) in
     let input = entry .args .input .now in
     let told = number-told (c .before .before .before .before .compare .ensures) refl in
-    let end = c .before .before .before .before .before .before .before .before .first-end .ensures .0 in
+    let end = after-first-end (c .before .before .before .before) .first-end .ensures .0 in
     c .print-refusal .ensures e
     ∙ refusal-said input (entry .pre) end refl (rest-is _ input) told (c .before .if1 .taken)
 
@@ -27,10 +33,10 @@ print-both-requires c κs =
 
 returns-2 : tie.Need-returns-2
 returns-2 c e =
-    let entry = c .before .before .before .before .before .before .before .before .before .before .before .before in
+    let entry = start (c .before .before .before .before .before .before) in
     let input = entry .args .input .now in
     let told = number-told (c .before .before .before .before .before .before .compare .ensures) refl in
-    let end = c .before .before .before .before .before .before .before .before .before .before .first-end .ensures .0 in
+    let end = after-first-end (c .before .before .before .before .before .before) .first-end .ensures .0 in
     c .print-both .ensures e
     ∙ output-said input (entry .pre) end refl (rest-is _ input) told (c .before .before .before .if1 .left)
 

@@ -23,11 +23,17 @@ slice-aggregate-print-lines c = sym (length-take-le _ _ (omega arith))
 slice-aggregate-print-lines-2 : tie.Need-slice-aggregate-print-lines-2
 slice-aggregate-print-lines-2 c = sym (length-take-le _ _ (omega arith))
 
+abbrev start : tie.After-unpack → tie.Start
+start c = c .before .before .before .before
+
+abbrev after-unpack : tie.After-within → tie.After-unpack
+after-unpack c = c .before .before .before .before .before
+
 print-lines-requires : tie.Need-print-lines-requires
 print-lines-requires c κs =
     let n = c .before .before .before .within .result in
     let m = c .before .before .within2 .result in
-    let xs = c .before .before .before .before .before .before .before .before .unpack .last .1 .0 in
+    let xs = after-unpack (c .before .before .before) .unpack .last .1 .0 in
     let bs = c .before .before .before .before .before .unpack2 .last .1 .0 in
     let la : length (take n xs) ≡ n = length-take-le n xs (omega arith) in
     let lb : length (take m bs) ≡ m = length-take-le m bs (omega arith) in
@@ -50,11 +56,11 @@ held {s} {before} {o} {after} {n} u ok few long is =
 
 returns : tie.Need-returns
 returns c e =
-    let entry = c .before .before .before .before .before .before .before .before .before .before .before .before .before in
+    let entry = start (after-unpack (c .before .before .before .before)) in
     let s = entry .args .first .now in
     let t = entry .args .second .now in
     let fine = accepted s t 6552 refl (entry .pre) in
-    let u = c .before .before .before .before .before .before .before .before .before .unpack .ensures in
+    let u = after-unpack (c .before .before .before .before) .unpack .ensures in
     let v = c .before .before .before .before .before .before .unpack2 .ensures in
     let one = held {s = s} u (fine .one) (omega (arith, fine .fits)) refl (c .before .before .before .before .within .ensures .1) in
     let two = held {s = t} v (fine .two) (omega (arith, fine .fits)) refl (c .before .before .before .within2 .ensures .1) in

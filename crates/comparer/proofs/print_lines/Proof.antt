@@ -15,21 +15,27 @@ Inv-loop first second count n₀ written₀ n written = (n ≤ count) × ((count
 abbrev μ-loop : tie.MeasureT-loop
 μ-loop first second count n₀ written₀ n written = count - n
 
+abbrev start : tie.After-write-change Inv-loop μ-loop → tie.Start Inv-loop μ-loop
+start c = c .before .before .before .before .before .before
+
+abbrev at-loop : tie.After-write-change Inv-loop μ-loop → tie.At-loop Inv-loop μ-loop
+at-loop c = c .before .before .before
+
 add-written : tie.Need-add-written Inv-loop μ-loop
 add-written c =
-    let n = c .before .before .before .before .before .before .before .loop .n in
-    let a = c .before .before .before .before .before .before .before .before .before .before .args .first .now in
-    let b = c .before .before .before .before .before .before .before .before .before .before .args .second .now in
-    let inv = c .before .before .before .before .before .before .before .loop .inv in
+    let n = at-loop (c .before .before .before .before) .loop .n in
+    let a = start (c .before .before .before .before) .args .first .now in
+    let b = start (c .before .before .before .before) .args .second .now in
+    let inv = at-loop (c .before .before .before .before) .loop .inv in
     let small = line-small a b n (c .before .before .before .before .write-change .ensures .0) (omega arith) in
     omega (arith, bytes-few a b n, small, inv)
 
 loop-again : tie.Need-loop-again Inv-loop μ-loop
 loop-again c =
-    let n = c .before .before .before .before .before .before .before .loop .n in
-    let a = c .before .before .before .before .before .before .before .before .before .before .args .first .now in
-    let b = c .before .before .before .before .before .before .before .before .before .before .args .second .now in
-    let inv = c .before .before .before .before .before .before .before .loop .inv in
+    let n = at-loop (c .before .before .before .before) .loop .n in
+    let a = start (c .before .before .before .before) .args .first .now in
+    let b = start (c .before .before .before .before) .args .second .now in
+    let inv = at-loop (c .before .before .before .before) .loop .inv in
     let next = bytes-next a b n (c .before .before .before .before .write-change .ensures .0) (omega arith) in
     (omega (arith, inv), (refl, (omega (arith, inv), omega (arith, inv, next))))
 

@@ -10,18 +10,9 @@ write-change-spec =
     (tie.spec
     (λ c. search needs)
     (λ c κs. search needs)
-    (λ c. (
-      write-short (c .before .before .spell-at .ensures) (c .before .before .before .before .before .before .before .args .out .now)
-          (c .if1 .taken),
-      omega arith,
-    ))
+    (λ c. search (write-short, needs))
     (λ c. search needs)
     (λ c. spelled-part (c .before .before .before .spell-at .ensures))
     (λ c κs. omega (arith, spelled-part (c .before .before .before .before .spell-at .ensures)))
     (λ c. search needs)
-    (λ c. (
-      write-all (c .before .before .before .before .before .before .before .spell-at .ensures) _ (omega arith)
-          (c .before .before .copy .ensures .1),
-      write-counts (c .before .before .before .before .before .before .before .spell-at .ensures) _ (omega arith)
-          (c .before .before .copy .ensures .1),
-    )))
+    (λ c. search (write-all, write-counts, needs)))
