@@ -5,8 +5,12 @@ use Rattle.flat.specs.Flat.{answerNumbers, laidOver}
 use Rattle.dzwonolin.proofs.dz_read_file.Statement.{statement}
 use Rattle.dzwonolin.proofs.dz_read_file.Tie as tie
 
+-- what was lent is known
+abbrev lent : tie.After-read-file → tie.After-slice-known3
+lent c = c .before .before .before
+
 abbrev start : tie.After-read-file → tie.Start
-start c = c .before .before .before .before .before .before .before
+start c = lent c .before .before .before .before
 
 abbrev called : tie.After-tell-answer → tie.After-read-file
 called c = c .before .before .before .before .before .before

@@ -10,9 +10,12 @@ put-word-requires c κs =
     let small : c .before .before .before .before .before .args .n < 100000000000000000000 = omega arith in
     (omega (arith, few-digits _ _ small (c .before .before .decimal .ensures .1 .0)), omega arith)
 
+abbrev start : tie.After-decimal → tie.Start
+start c = c .before .before .before
+
 returns : tie.Need-returns
 returns c =
-    let small : c .before .before .before .before .before .before .before .before .args .n < 100000000000000000000 = omega arith in
+    let small : start (c .before .before .before .before .before) .args .n < 100000000000000000000 = omega arith in
     put-number _ _ _ (c .before .before .before .before .before .decimal .ensures .1 .0)
     (c .before .before .before .before .before .decimal .ensures .1 .1)
     (few-digits _ _ small (c .before .before .before .before .before .decimal .ensures .1 .0)) (c .before .before .put-word .ensures)

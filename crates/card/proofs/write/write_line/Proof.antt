@@ -17,10 +17,5 @@ write-line-spec {M = M} =
     (λ c. spelled-part (c .before .before .before .spell .ensures))
     (λ c κs. omega (arith, spelled-part (c .before .before .before .before .spell .ensures)))
     (λ c. search needs)
-    (λ c. (
-      write-all (c .before .before .before .before .before .before .before .spell .ensures) _ (omega arith)
-          (c .before .before .copy .ensures .1),
-      write-counts (c .before .before .before .before .before .before .before .spell .ensures) _ (omega arith)
-          (c .before .before .copy .ensures .1),
-    ))
+    (λ c. search (write-all, write-counts, needs))
     in tie.close closed

@@ -9,18 +9,20 @@ use Rattle.flat.proofs.slices.dimension_numbers.Tie as tie
 
 returns : tie.Need-returns
 returns c =
-    let e = c .before .before .before .before .before .before .before .before in
-    let d = e .before .before .before .before .before .before .before .args .dimension in
+    let third = c .before .before .before .before in
+    let first = third .before .before .before .before in
+    let kind = first .before .before in
+    let d = kind .before .before .before .before .before .args .dimension in
     let i : toZ w64 (ofZ w64 (d .series .start .amount)) ≡ d .series .start .amount = search needs in
     let j : toZ w64 (ofZ w64 (d .series .start .power)) ≡ d .series .start .power = search needs in
     let k : toZ w64 (ofZ w64 (d .series .step .amount)) ≡ d .series .step .amount = search needs in
     let l : toZ w64 (ofZ w64 (d .series .step .power)) ≡ d .series .step .power = search needs in
     let m : toZ w64 (ofZ w64 (d .series .exponent)) ≡ d .series .exponent = search needs in
     dimension-stored d
-    (c .before .before .before .before .before .before .before .before .before .before .kind-number .ensures)
-    (c .before .before .before .before .before .before .before .before .complement .ensures ∙ ap complement i)
-    (c .before .before .before .before .before .before .complement2 .ensures ∙ ap complement j)
-    (c .before .before .before .before .complement3 .ensures ∙ ap complement k)
+    (kind .kind-number .ensures)
+    (first .complement .ensures ∙ ap complement i)
+    (third .before .before .complement2 .ensures ∙ ap complement j)
+    (third .complement3 .ensures ∙ ap complement k)
     (c .before .before .complement4 .ensures ∙ ap complement l)
     (c .complement5 .ensures ∙ ap complement m)
 

@@ -8,19 +8,23 @@ use Rattle.flat.proofs.slices.tell_answer.Tie as tie
 
 returns-2 : tie.Need-returns-2
 returns-2 c =
-    let put₃ = c .before .before .before .before .before .before .before in
-    let put₁ = put₃ .before .before .before .before .before .before .before .before .before .before in
-    let rows = put₁ .before .before .before in
-    let tested = rows .before .before .before .before .before .before .before in
+    let put₄ = c .before .before in
+    let put₃ = put₄ .before .before .before .before .before in
+    let put₂ = put₃ .before .before .before .before .before in
+    let put₁ = put₂ .before .before .before .before .before in
+    let row₃ = put₁ .before .before .before in
+    let row₂ = row₃ .before .before in
+    let row₁ = row₂ .before .before in
+    let tested = row₁ .before .before .before in
     let start = tested .before .before in
     answer-stored (start .args .answer) (start .args .slice .now) (omega (arith, tested .if1 .left)) refl
-    (rows .before .before .before .before .dimension-numbers .ensures)
-    (rows .before .before .dimension-numbers2 .ensures)
-    (rows .dimension-numbers3 .ensures)
+    (row₁ .dimension-numbers .ensures)
+    (row₂ .dimension-numbers2 .ensures)
+    (row₃ .dimension-numbers3 .ensures)
     (put₁ .put .ensures)
-    (put₃ .before .before .before .before .before .put2 .ensures)
+    (put₂ .put2 .ensures)
     (put₃ .put3 .ensures)
-    (c .before .before .put4 .ensures)
+    (put₄ .put4 .ensures)
 
 pub tell-answer-spec : {M : Type 1} → statement M
 tell-answer-spec {M = M} =

@@ -1,10 +1,10 @@
 use Rattle.gifti_reader.specs.Laws.Keys.{writing, wrote-all}
+use borrow.Author.Needs.{needs}
 use Rattle.gifti_reader.proofs.keys.keys_at.Statement.{statement}
 use Rattle.gifti_reader.proofs.keys.keys_at.Tie as tie
 
 returns-2 : tie.Need-returns-2
-returns-2 c = wrote-all (c .before .before .before .before .before .before .before .pre)
-    (c .before .before .before .before .before .noted .ensures) _ (c .before .before .before .if1 .left) (c .before .fill .ensures)
+returns-2 c = search (wrote-all, needs)
 
 pub keys-at-spec : {M : Type 1} → statement M
 keys-at-spec {M = M} =

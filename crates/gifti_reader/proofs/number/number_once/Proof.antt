@@ -17,28 +17,34 @@ returns-2 c =
     once-eighteen (start .args .array) (start .pre .table-at) (c .before .before .before .before .searched .ensures) said
     (c .before .if1 .left) (c .if2 .taken)
 
+abbrev entry : tie.After-searched → tie.Start
+entry c = c .before .before
+
+abbrev after-searched : tie.After-attribute-number → tie.After-searched
+after-searched c = c .before .before
+
 returns-3 : tie.Need-returns-3
 returns-3 c =
-    let start = c .before .before .before .before .before .before .before .before in
+    let start = entry (c .before .before .before .before .before .before) in
     let said = said-so (start .pre .file) (c .before .before .before .before .attribute-number .ensures) in
     once-thirty (start .args .array) (start .pre .table-at) (c .before .before .before .before .before .before .searched .ensures) said
     (c .before .before .before .if1 .left) (c .before .before .if2 .left) (not-true _ (c .if3 .taken))
 
 returns-4 : tie.Need-returns-4
 returns-4 c =
-    let start = c .before .before .before .before .before .before .before .before .before .before in
+    let start = entry (after-searched (c .before .before .before .before .before .before)) in
     let said = said-so (start .pre .file) (c .before .before .before .before .before .before .attribute-number .ensures) in
     once-unknown (start .args .array) (start .pre .table-at)
-    (c .before .before .before .before .before .before .before .before .searched .ensures) said
+    (after-searched (c .before .before .before .before .before .before) .searched .ensures) said
     (c .before .before .before .before .before .if1 .left) (c .before .before .before .before .if2 .left)
     (not-false _ (c .before .before .if3 .left)) (c .if4 .taken)
 
 returns-5 : tie.Need-returns-5
 returns-5 c =
-    let start = c .before .before .before .before .before .before .before .before .before .before in
+    let start = entry (after-searched (c .before .before .before .before .before .before)) in
     let said = said-so (start .pre .file) (c .before .before .before .before .before .before .attribute-number .ensures) in
     once-none (start .args .array) (start .pre .table-at)
-    (c .before .before .before .before .before .before .before .before .searched .ensures) said
+    (after-searched (c .before .before .before .before .before .before) .searched .ensures) said
     (c .before .before .before .before .before .if1 .left) (c .before .before .before .before .if2 .left)
     (not-false _ (c .before .before .if3 .left)) (c .if4 .left)
 
