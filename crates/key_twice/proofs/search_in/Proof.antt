@@ -1,4 +1,5 @@
 use mathlib.Core.Path.{sym}
+use borrow.Author.Needs.{needs}
 use lib.ListN.{length}
 use lib.Seq.{length-take-le}
 use Rattle.label_table.specs.Walks.{toCome}
@@ -18,9 +19,7 @@ aggregate c =
     sym (length-take-le (turn .result .n) (turn .last .1 .1 .0) (turn .ensures .inside))
 
 returns : tie.Need-returns Inv-loop μ-loop
-returns c = searching-found (c .before .before .before .before .before .before .before .before .before .loop .inv)
-    (c .before .before .before .before .before .taken .ensures) (c .before .before .before .before .before .taken .kept .1 .1 .0)
-    (c .before .part-twice .ensures) (c .if1 .taken)
+returns c = search (searching-found, needs)
 
 pub search-in-spec : {M : Type 1} → statement M
 search-in-spec {M = M} =

@@ -22,9 +22,13 @@ abbrev μ-loop : tie.MeasureT-loop
 abbrev Wrote : (text : List ℕ) (m : Models) (start i : ℕ) (before after : List ℕ) → Type 0
 Wrote text m start i before after = after ≡ wrote (start + getD (m .offset) i 0) (recordsOf (nthModel text m i)) before
 
+-- the turn that wrote it
+abbrev turn : tie.After-fill-model Inv-loop μ-loop → tie.In-loop Inv-loop μ-loop
+turn c = c .before .before .before .before .before .before
+
 abbrev model-wrote : tie.After-fill-model Inv-loop μ-loop → Type 0
 model-wrote c =
-    let l = c .before .before .before .before .before .before .before in
+    let l = turn c .before in
     let a = l .before .before .before .args in
     Wrote (a .text .now) (a .t2) (a .start .0) (l .loop .i) (l .loop .out) (c .fill-model .last .1 .1 .1 .0)
 
@@ -39,7 +43,7 @@ fill-model-requires c κs =
 loop-again : tie.Need-loop-again Inv-loop μ-loop
 loop-again c =
     let f = c .before .before .before in
-    let t = f .before .before .before .before .before .before in
+    let t = turn f in
     placed-on (t .before .loop .inv) (t .loop-test .taken) (by-offset f)
 
 returns : tie.Need-returns Inv-loop μ-loop
@@ -67,8 +71,8 @@ fill-models-spec {M = M} =
     (λ c. search placing)
     (λ c. omega (
       arith,
-      placed-sum (c .before .before .before .before .before .before .before .before .before .before .loop .inv)
-          (c .before .before .before .before .before .before .before .before .before .loop-test .taken),
+      placed-sum (turn (c .before .before .before) .before .loop .inv)
+          (turn (c .before .before .before) .loop-test .taken),
     ))
     (λ c. search placing)
     (λ c. search placing)

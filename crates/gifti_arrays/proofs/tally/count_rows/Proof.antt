@@ -14,20 +14,18 @@ Inv-loop text from encoding codes row₀ values keys₀ known₀ place₀ row ke
 abbrev μ-loop : tie.MeasureT-loop
 μ-loop text from encoding codes row₀ values keys₀ known₀ place₀ row keys known place = keysLeft text place
 
+abbrev entry : tie.At-loop Inv-loop μ-loop → tie.Start Inv-loop μ-loop
+entry c = c .before .before .before .before .before
+
 add-known : tie.Need-add-known Inv-loop μ-loop
 add-known c =
     let here = c .before .before .before .before .before .before in
-    let start = c .before .before .before .before .before .before .before .before .before .before .before in
+    let start = entry (c .before .before .before .before .before .before) in
     let few : here .loop .known + c .known-among .result ≤ suc (length (start .args .text .now)) = search counting in
     omega (arith, few)
 
 add-keys : tie.Need-add-keys Inv-loop μ-loop
-add-keys c =
-    let here = c .before .before .before .before .before .before in
-    let start = c .before .before .before .before .before .before .before .before .before .before .before in
-    let got = c .before .before .before in
-    let few : here .loop .keys + got .fill-from .result .count ≤ suc (length (start .args .text .now)) = search counting in
-    omega (arith, few)
+add-keys c = search (counting, needs)
 
 done : tie.Need-returns Inv-loop μ-loop
 done c =

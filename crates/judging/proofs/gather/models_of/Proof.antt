@@ -10,10 +10,16 @@ Inv-loop text map models₀ seen₀ kid₀ t9 models seen kid = Along text (Gath
 abbrev μ-loop : tie.MeasureT-loop
 μ-loop text map models₀ seen₀ kid₀ t9 models seen kid = left text kid
 
+abbrev at-loop : tie.After-kid Inv-loop μ-loop → tie.At-loop Inv-loop μ-loop
+at-loop c = c .before .before
+
+abbrev after-kid : tie.After-name-is Inv-loop μ-loop → tie.After-kid Inv-loop μ-loop
+after-kid c = c .before .before .before .before
+
 with-model-requires : tie.Need-with-model-requires Inv-loop μ-loop
 with-model-requires c κs =
-    gathering-room (c .before .before .before .before .before .before .before .before .before .loop .inv)
-    (c .before .before .before .before .before .before .before .kid .given .1) (c .before .before .before .name-is .ensures)
+    gathering-room (at-loop (after-kid (c .before .before .before)) .loop .inv)
+    (after-kid (c .before .before .before) .kid .given .1) (c .before .before .before .name-is .ensures)
     (c .before .before .if1 .taken)
     (c .before .kind-at .ensures) (c .if2 .left)
 

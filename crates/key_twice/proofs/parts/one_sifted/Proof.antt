@@ -1,4 +1,5 @@
 use lib.ListN.{length}
+use borrow.Author.Needs.{needs}
 use Rattle.label_table.specs.Laws.Labels.{row}
 use Rattle.key_twice.specs.Laws.Parts.{meeting, Meeting, meeting-found}
 use Rattle.key_twice.proofs.parts.one_sifted.Statement.{statement}
@@ -11,9 +12,7 @@ abbrev μ-loop : tie.MeasureT-loop
 μ-loop text keys words kid₀ kid = length (row text kid)
 
 returns : tie.Need-returns Inv-loop μ-loop
-returns c = meeting-found (c .before .before .before .before .before .before .before .before .before .loop .inv)
-    (c .before .before .before .before .before .before .before .kid .given .1) (c .before .before .before .before .next-label .ensures)
-    (c .before .before .before .before .before .code-at .ensures) (c .before .place-in .ensures) (c .if2 .taken)
+returns c = search (meeting-found, needs)
 
 pub one-sifted-spec : {M : Type 1} → statement M
 one-sifted-spec {M = M} =

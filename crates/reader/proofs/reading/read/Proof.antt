@@ -1,15 +1,16 @@
 use Rattle.reader.specs.Laws.Reading.{reading, read-later}
+use borrow.Author.Needs.{needs}
 use Rattle.reader.proofs.reading.read.Statement.{statement}
 use Rattle.reader.proofs.reading.read.Tie as tie
 
 later-refused : tie.Need-returns-2
-later-refused c =
-    let found = c .before .before .before .before .before .before .before .before in
-    let told = found .before .before .before .before in
-    let begun = told .before .before .before .before in
-    let given = begun .before .before .before .before .before .args in
-    read-later (begun .surveyed .ensures) (given .records .now) (given .work .now) (told .before .before .if1 .left) (told .judged .ensures)
-    (found .later-refusal .ensures) (c .before .if2 .taken) (c .refused2 .ensures) (c .before .before .before .before .clear2 .ensures)
+later-refused c = search (read-later, needs)
+
+abbrev after-judged : tie.After-later-refusal → tie.After-judged
+after-judged c = c .before .before .before .before
+
+abbrev after-later-refusal : tie.After-clear2 → tie.After-later-refusal
+after-later-refusal c = c .before .before .before .before
 
 pub read-spec : {M : Type 1} → statement M
 read-spec {M = M} =
@@ -26,8 +27,8 @@ read-spec {M = M} =
     (λ c. search reading)
     later-refused
     (λ c κs. search (
-      c .before .before .before .before .before .before .before .before .before .before .before .before .judged .ensures,
-      c .before .before .before .before .before .before .before .before .later-refusal .ensures,
+      after-judged (after-later-refusal (c .before .before .before .before)) .judged .ensures,
+      after-later-refusal (c .before .before .before .before) .later-refusal .ensures,
       reading,
     ))
     (λ c κs. search reading)

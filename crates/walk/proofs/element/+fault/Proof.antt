@@ -2,6 +2,7 @@ use Rattle.schema.specs.Laws.Walk.{walking, Walking, walking-deeper, walking-ta
 use Prim.Native.Nat.{_-_}
 use lib.ListN.{length}
 use native.Mathlib.Omega.{arith}
+use borrow.Author.Needs.{needs}
 use Rattle.nodes.specs.Laws.AheadElements.{left-ahead}
 use Prim.Native.Nat.{ℕ, _<_}
 use borrow.Fn.Kinds.{In}
@@ -37,8 +38,9 @@ fault-Inv-loop text at table letters kind worst₀ from to words tally₀ next�
 abbrev fault-μ-loop : fault-lts.MeasureT-loop
 fault-μ-loop text at table letters kind worst₀ from to words tally₀ next₀ worst tally next = left-ahead text next
 
-pub +fault-spec : {M : Type 1} → statement M
-+fault-spec = close μ-fault λ t. fault-lts.spec (
+-- what the callees ask and tell, its own calls at a smaller measure
+abbrev claims : ℕ → fault-lts.Claims
+claims t = (
   own-fault-reads.Asked,
   own-fault-reads.Learnt,
   kind-cell-reads.Asked,
@@ -60,6 +62,17 @@ pub +fault-spec : {M : Type 1} → statement M
   finished-reads.Asked,
   finished-reads.Learnt,
 )
+
+abbrev after-own-fault : {t : ℕ} → fault-lts.At-loop (claims t) (fault-at t) fault.Post fault-Inv-loop fault-μ-loop
+    → fault-lts.After-own-fault (claims t) (fault-at t) fault.Post fault-Inv-loop fault-μ-loop
+after-own-fault c = c .before .before .before .before .before
+
+abbrev start : {t : ℕ} → fault-lts.After-own-fault (claims t) (fault-at t) fault.Post fault-Inv-loop fault-μ-loop
+    → fault-lts.Start (claims t) (fault-at t) fault.Post fault-Inv-loop fault-μ-loop
+start c = c .before .before .before .before
+
+pub +fault-spec : {M : Type 1} → statement M
++fault-spec = close μ-fault λ t. fault-lts.spec (claims t)
     (fault-at t)
     fault.Post
     fault-Inv-loop
@@ -71,23 +84,13 @@ pub +fault-spec : {M : Type 1} → statement M
     (λ c κs. search walking)
     (λ c. search walking)
     (λ c. search walking)
-    (λ c κs.
-    let u : length (c .before .before .before .before .before .before .before .before .before .before .before .before .args .text .now) <
-    18446744073709551616 = omega (
-      arith,
-      c .before .before .before .before .before .before .before .before .before .before .before .before .good .0 .0,
-    ) in
-    walking-tallying (c .before .before .before .loop .inv) (c .before .next .given .1) u)
+    (λ c κs. search (walking-tallying, needs))
     (λ c κs. search walking)
     (λ c. search walking)
     (λ c κs.
     let d = walking-deeper (c .before .before .before .before .before .before .loop .inv)
     (c .before .before .before .before .next .given .1) in (
-      omega (
-        arith,
-        c .before .before .before .before .before .before .before .before .before .before .before .before .before .before
-            .before .pre .0,
-      ),
+      omega (arith, start (after-own-fault (c .before .before .before .before .before .before)) .pre .0),
       search walking,
     ))
     (λ c κs. search walking)
