@@ -4,6 +4,9 @@ use Rattle.array_keys.specs.Laws.Rows.{sixteen, room-left}
 use Rattle.array_keys.proofs.rows.three_keys.Statement.{statement}
 use Rattle.array_keys.proofs.rows.three_keys.Tie as tie
 
+abbrev entry : tie.After-fits-in → tie.Start
+entry c = c .before .before .before
+
 pub three-keys-spec : {M : Type 1} → statement M
 three-keys-spec {M = M} =
     let closed = tie.spec {M = M}
@@ -27,7 +30,7 @@ three-keys-spec {M = M} =
     ))
     (λ c κs. search sixteen)
     (λ c.
-    let start = c .before .before .before .before .before .before .before in
+    let start = entry (c .before .before .before .before) in
     omega (
       arith,
       room-left (start .args .at) 16 (length (start .args .text .now))

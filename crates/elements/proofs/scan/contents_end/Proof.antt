@@ -11,6 +11,9 @@ Inv-loop text at depth₀ i₀ depth i = Scanning text at depth i
 abbrev μ-loop : tie.MeasureT-loop
 μ-loop text at depth₀ i₀ depth i = length text - i
 
+abbrev start : tie.After-sign-at Inv-loop μ-loop → tie.Start Inv-loop μ-loop
+start c = c .before .before .before .before
+
 pub contents-end-spec : {M : Type 1} → statement M
 contents-end-spec {M = M} =
     let closed = tie.spec {M = M}
@@ -30,7 +33,7 @@ contents-end-spec {M = M} =
     (λ c. search scanning)
     (λ c. search scanning)
     (λ c. let h : c .before .before .before .before .before .loop .depth < length
-    (c .before .before .before .before .before .before .before .args .text .now) = search scanning in omega arith)
+    (start (c .before .before .before) .args .text .now) = search scanning in omega arith)
     (λ c. search scanning)
     (λ c. search scanning)
     (λ c. search scanning)

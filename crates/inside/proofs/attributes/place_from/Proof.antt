@@ -1,4 +1,5 @@
 use Prim.Native.Nat.{_-_}
+use borrow.Author.Needs.{needs}
 use lib.ListN.{length}
 use Rattle.nodes.specs.Laws.Attributes.{Placing, placing, placing-hit}
 use Rattle.inside.proofs.attributes.place_from.Statement.{statement}
@@ -11,11 +12,7 @@ abbrev μ-loop : tie.MeasureT-loop
 μ-loop text at word i₀ i = length text - i
 
 returns-2 : tie.Need-returns-2 Inv-loop μ-loop
-returns-2 c = placing-hit _ _ _ _ (c .before .before .before .before .before .before .before .before .before .loop .inv)
-    (c .before .before .before .before .before .before .before .before .tag-ends .ensures)
-    (c .before .before .before .before .before .before .before .if1 .left)
-    (c .before .before .before .before .before .before .key-at .ensures) (c .before .before .before .before .from .given .1)
-    (c .before .equal .ensures) (c .if2 .taken)
+returns-2 c = search (placing-hit, needs)
 
 pub place-from-spec : {M : Type 1} → statement M
 place-from-spec {M = M} =

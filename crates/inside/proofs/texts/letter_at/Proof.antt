@@ -2,9 +2,12 @@ use Rattle.nodes.specs.Laws.Texts.{lettering, letter-reference, letter-return}
 use Rattle.inside.proofs.texts.letter_at.Statement.{statement}
 use Rattle.inside.proofs.texts.letter_at.Tie as tie
 
+abbrev start : tie.After-reference-at → tie.Start
+start c = c .before .before .before .before .before
+
 returns-2 : tie.Need-returns-2
-returns-2 c = letter-reference (c .before .before .before .before .before .before .before .before .args .text .now)
-    (c .before .before .before .before .before .before .before .before .args .at)
+returns-2 c = letter-reference (start (c .before .before .before) .args .text .now)
+    (start (c .before .before .before) .args .at)
     (c .before .before .before .before .before .before .if1 .left) (c .before .before .before .reference-at .ensures)
     (c .before .c .given .1)
 

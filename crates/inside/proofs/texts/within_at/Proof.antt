@@ -7,10 +7,16 @@ use Rattle.inside.proofs.texts.within_at.Tie as tie
 add-t21 : tie.Need-add-t21
 add-t21 c = omega (arith, ends-inside _ _ (c .feed-end .ensures) refl)
 
+abbrev start : tie.Else1 → tie.Start
+start c = c .before .before
+
+abbrev else1 : tie.After-mark-end → tie.Else1
+else1 c = c .before .before .before .before
+
 returns-2 : tie.Need-returns-2
-returns-2 c = within-out (c .before .before .before .before .before .before .before .before .before .args .text .now)
-    (c .before .before .before .before .before .before .before .before .before .args .at)
-    (c .before .before .before .before .before .before .before .if1 .left) (c .before .before .before .before .before .if2 .taken)
+returns-2 c = within-out (start (else1 (c .before .before .before)) .args .text .now)
+    (start (else1 (c .before .before .before)) .args .at)
+    (else1 (c .before .before .before) .if1 .left) (c .before .before .before .before .before .if2 .taken)
     (c .before .before .before .mark-end .ensures) (c .before .j .given .1)
 
 returns-5 : tie.Need-returns-5

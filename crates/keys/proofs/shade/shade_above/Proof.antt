@@ -17,10 +17,7 @@ ten-to-requires c κs =
     shade-few (s .args .amount) (s .args .power) (s .fits .power) (c .before .before .before .places-of .ensures) (c .before .k .given .1)
 
 returns-3 : tie.Need-returns-3
-returns-3 c =
-    let s = c .before .before .before .before .before .before .before in
-    shade-places (s .args .amount) (s .args .power) (s .fits .power) (c .before .before .before .before .places-of .ensures)
-    (c .before .before .k .given .1) (c .ten-to .ensures)
+returns-3 c = search (shade-places, needs)
 
 returns-4 : tie.Need-returns-4
 returns-4 c =

@@ -5,10 +5,13 @@ use Rattle.schema.specs.Laws.Table.{wording}
 use Rattle.lookup.proofs.table.word.Statement.{statement}
 use Rattle.lookup.proofs.table.word.Tie as tie
 
+abbrev start : tie.After-bound2 → tie.Start
+start c = c .before .before .before .before
+
 -- src/table.rt:105:1
 returns-3 : tie.Need-returns-3
 returns-3 c =
-    let b : (i : ℕ) → getD (c .before .before .before .before .before .before .before .args .letters .now) i 0 < 256 =
+    let b : (i : ℕ) → getD (start (c .before .before .before) .args .letters .now) i 0 < 256 =
     λ i. omega (arith, c .before .before .before .before .before .shared-slice-known2 .given i) in
     search wording
 

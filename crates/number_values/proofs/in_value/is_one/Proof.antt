@@ -12,9 +12,12 @@ ten-to-requires c κs =
     let f : SFits w64 (d .power) = search needs in
     one-few d (rw (toZ-ofZ w64 (d .power) f) at (c .before .before .before .places-of .ensures)) (c .before .k .given .1)
 
+abbrev start : tie.At-match-keys1 → tie.Start
+start c = c .before .before .before
+
 returns : tie.Need-returns
 returns c =
-    let d = c .before .before .before .before .before .before .before .before .args .d in
+    let d = start (c .before .before .before .before .before) .args .d in
     let f : SFits w64 (d .power) = search needs in
     let g : SFits w64 (d .amount) = search needs in
     one-value d (rw (toZ-ofZ w64 (d .power) f) at (c .before .before .before .before .before .before .places-of .ensures))
