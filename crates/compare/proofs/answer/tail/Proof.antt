@@ -5,9 +5,12 @@ use Rattle.comparison.specs.Laws.Part.{part-inside, part-second, part-first}
 use Rattle.compare.proofs.answer.tail.Statement.{statement}
 use Rattle.compare.proofs.answer.tail.Tie as tie
 
+abbrev start : tie.After-tail-place → tie.Start
+start c = c .before .before .before .before .before
+
 add-end : tie.Need-add-end
 add-end c =
-    let a = c .before .before .before .before .before .before .before .before .args in
+    let a = start (c .before .before .before) .args in
     omega (arith, part-inside (a .first .now) (a .second .now) _ (c .before .before .before .tail-place .ensures .answers))
 
 sub-result : tie.Need-sub-result

@@ -28,7 +28,7 @@ add-n-2 : tie.Need-add-n-2
 add-n-2 c = omega (arith, c .wide3 .ensures .1, c .before .before .wide2 .ensures .1, c .before .before .before .before .wide .ensures .1)
 
 shared-slice-read-if1 : tie.Need-shared-slice-read-if1
-shared-slice-read-if1 c = omega (arith, c .before .before .before .before .before .before .before .before .pre)
+shared-slice-read-if1 c = search needs
 
 mul-result : tie.Need-mul-result
 mul-result c = omega (
@@ -48,8 +48,11 @@ add-result c = omega (
       .before .before .before .before .before .before .wide .ensures .1,
 )
 
+abbrev start : tie.After-wide2 → tie.Start
+start c = c .before .before .before .before .before
+
 returns : tie.Need-returns
-returns c = end-five _ _ _ (c .before .before .before .before .before .before .before .before .before .pre) (omega (
+returns c = end-five _ _ _ (start (c .before .before .before .before) .pre) (omega (
   arith,
   c .before .before .wide3 .ensures .0,
   c .before .before .before .before .wide2 .ensures .0,
@@ -76,7 +79,7 @@ add-result-2 c = omega (
 )
 
 returns-2 : tie.Need-returns-2
-returns-2 c = end-seven _ _ _ (c .before .before .before .before .before .before .before .before .before .pre) (omega (
+returns-2 c = end-seven _ _ _ (start (c .before .before .before .before) .pre) (omega (
   arith,
   c .before .before .wide3 .ensures .0,
   c .before .before .before .before .wide2 .ensures .0,

@@ -17,51 +17,45 @@ both-in-requires c κs = laid-walkable (c .before .before .before .before .befor
     (c .before .count-in2 .ensures)
 
 twice-beyond-requires : tie.Need-twice-beyond-requires
-twice-beyond-requires c κs = laid-fits (c .before .before .before .before .before .before .before .before .before .before .pre)
-    (c .before .before .before .before .before .before .count-in .ensures)
-    (c .before .before .before .before .before .count-in2 .ensures) (c .before .before .before .both-in .kept .1 .1 .1 .1 .0)
+twice-beyond-requires c κs = search (laid-fits, needs)
 
 returns : tie.Need-returns
-returns c = repeat-is (c .before .before .before .before .before .before .before .before .before .before .before .before .before .before
-    .pre) (c .before .before .before .before .before .before .before .before .before .before .count-in .ensures)
-    (c .before .before .before .before .before .before .before .before .before .count-in2 .ensures)
-    (c .before .before .before .before .before .before .before .both-in .ensures) (c .before .before .before .twice-beyond .ensures)
-    (c .if1 .taken)
+returns c = search (repeat-is, needs)
 
 same-in-requires : tie.Need-same-in-requires
-same-in-requires c κs = laid-beside (c .before .before .before .before .before .before .before .before .before .before .before .before
-    .before .before .pre) (c .before .before .before .before .before .before .before .before .before .before .count-in .ensures)
-    (c .before .before .before .before .before .before .before .before .before .count-in2 .ensures)
+same-in-requires c κs = search (laid-beside, needs)
 
 sub-t13 : tie.Need-sub-t13
-sub-t13 c = same-few (c .before .before .before .before .before .before .before .before .before .before .before .before .before .before
-    .before .pre) (c .before .before .before .before .before .before .before .before .before .before .before .count-in .ensures)
-    (c .before .before .before .before .before .before .before .before .before .before .count-in2 .ensures)
-    (c .before .before .before .before .before .before .before .before .both-in .ensures) (c .before .before .before .before
-    .twice-beyond .ensures) (c .before .if1 .left)
-    (c .same-in .ensures)
+sub-t13 c = search (same-few, needs)
 
 sub-t14 : tie.Need-sub-t14
-sub-t14 c = both-few (c .before .before .before .before .before .before .before .before .before .before .before .before .before .before
-    .before .pre) (c .before .before .before .before .before .before .before .before .before .before .before .count-in .ensures)
-    (c .before .before .before .before .before .before .before .before .before .before .count-in2 .ensures)
-    (c .before .before .before .before .before .before .before .before .both-in .ensures) (c .before .before .before .before
-    .twice-beyond .ensures) (c .before .if1 .left)
+sub-t14 c = search (both-few, needs)
+
+-- the places where the two sheets are counted, and where the rest is
+abbrev in-first : tie.After-both-in → tie.After-count-in
+in-first c = c .before .before .before
+
+abbrev start : tie.After-count-in → tie.Start
+start c = c .before .before .before .before
+
+abbrev in-both : tie.After-twice-beyond → tie.After-both-in
+in-both c = c .before .before .before .before
 
 sub-t15 : tie.Need-sub-t15
-sub-t15 c = both-fits (c .before .before .before .before .before .before .before .before .before .before .before .before .before .before
-    .before .pre) (c .before .before .before .before .before .before .before .before .before .before .before .count-in .ensures)
-    (c .before .before .before .before .before .before .before .before .before .before .count-in2 .ensures)
-    (c .before .before .before .before .before .before .before .before .both-in .ensures) (c .before .before .before .before
-    .twice-beyond .ensures) (c .before .if1 .left)
+sub-t15 c =
+    let beyond = c .before .before .before .before in
+    let both = in-both beyond in
+    let first = in-first both in
+    both-fits (start first .pre) (first .count-in .ensures) (both .before .before .count-in2 .ensures) (both .both-in .ensures)
+    (beyond .twice-beyond .ensures) (c .before .if1 .left)
 
 returns-2 : tie.Need-returns-2
-returns-2 c = compared-is (c .before .before .before .before .before .before .before .before .before .before .before .before .before
-    .before .before .pre) (c .before .before .before .before .before .before .before .before .before .before .before .count-in .ensures)
-    (c .before .before .before .before .before .before .before .before .before .before .count-in2 .ensures)
-    (c .before .before .before .before .before .before .before .before .both-in .ensures) (c .before .before .before .before
-    .twice-beyond .ensures) (c .before .if1 .left)
-    (c .same-in .ensures)
+returns-2 c =
+    let beyond = c .before .before .before .before in
+    let both = in-both beyond in
+    let first = in-first both in
+    compared-is (start first .pre) (first .count-in .ensures) (both .before .before .count-in2 .ensures) (both .both-in .ensures)
+    (beyond .twice-beyond .ensures) (c .before .if1 .left) (c .same-in .ensures)
 
 pub counted-spec : {M : Type 1} → statement M
 counted-spec {M = M} =

@@ -17,9 +17,21 @@ count-in-requires-2 : tie.Need-count-in-requires-2
 count-in-requires-2 c κs = fine _ (sheets-fine _ _ (c .before .before .before .before .sheets-refusal .ensures)
     (c .before .if1 .left) .1) .0
 
+abbrev start : tie.After-sheets-refusal → tie.Start
+start c = c .before .before .before .before .before
+
+abbrev after-sheets-refusal : tie.Else1 → tie.After-sheets-refusal
+after-sheets-refusal c = c .before .before .before
+
+abbrev else1 : tie.After-count-in → tie.Else1
+else1 c = c .before
+
+abbrev after-count-in : tie.After-location-twice → tie.After-count-in
+after-count-in c = c .before .before .before .before
+
 add-if2 : tie.Need-add-if2
 add-if2 c =
-    let a = c .before .before .before .before .before .before .before .before .before .before .args in
+    let a = start (c .before .before .before .before .before) .args in
     let f = sheets-fine (a .first .now) (a .second .now) (c .before .before .before .before .before .sheets-refusal .ensures)
     (c .before .before .if1 .left) in
     let n = formed-most (a .first .now) (fine (a .first .now) (f .0) .0) in
@@ -33,23 +45,23 @@ returns-2 c =
     (c .before .count-in2 .ensures) (omega (arith, said .kept .1 .1 .0))
 
 location-twice-requires : tie.Need-location-twice-requires
-location-twice-requires c κs = fits-first _ _ (c .before .before .before .before .before .before .before .sheets-refusal .ensures)
+location-twice-requires c κs = fits-first _ _ (after-sheets-refusal (c .before .before .before .before) .sheets-refusal .ensures)
     (c .before .before .before .before .if1 .left) _ (c .before .before .before .count-in .ensures) (c .before .before .count-in2 .ensures)
     (c .before .if2 .left)
 
 returns-3 : tie.Need-returns-3
 returns-3 c =
-    let said = c .before .before .before .before .before .before .before .before .before .before .before .sheets-refusal in
-    front-twice _ _ (said .ensures) (c .before .before .before .before .before .before .before .before .if1 .left) _
-    (c .before .before .before .before .before .before .before .count-in .ensures) (c .before .before .before .before .before .before
+    let said = after-sheets-refusal (else1 (after-count-in (c .before .before .before))) .sheets-refusal in
+    front-twice _ _ (said .ensures) (else1 (after-count-in (c .before .before .before)) .if1 .left) _
+    (after-count-in (c .before .before .before) .count-in .ensures) (c .before .before .before .before .before .before
     .count-in2 .ensures)
     (omega (arith, said .kept .1 .1 .0)) (c .before .before .before .location-twice .ensures) (c .if3 .taken)
 
 returns-4 : tie.Need-returns-4
 returns-4 c =
-    let said = c .before .before .before .before .before .before .before .before .before .before .before .sheets-refusal in
-    front-none _ _ (said .ensures) (c .before .before .before .before .before .before .before .before .if1 .left) _
-    (c .before .before .before .before .before .before .before .count-in .ensures) (c .before .before .before .before .before .before
+    let said = after-sheets-refusal (else1 (after-count-in (c .before .before .before))) .sheets-refusal in
+    front-none _ _ (said .ensures) (else1 (after-count-in (c .before .before .before)) .if1 .left) _
+    (after-count-in (c .before .before .before) .count-in .ensures) (c .before .before .before .before .before .before
     .count-in2 .ensures)
     (omega (arith, said .kept .1 .1 .0)) (c .before .before .before .location-twice .ensures) (c .if3 .left)
 

@@ -11,22 +11,21 @@ use Rattle.compare.proofs.refusal.refusal.Tie as tie
 returns : tie.Need-returns
 returns c = front-refused _ _ _ (c .before .before .before .front-refusal .ensures) (c .if1 .taken)
 
+abbrev start : tie.After-front-refusal → tie.Start
+start c = c .before .before .before .before .before
+
 location-twice-requires : tie.Need-location-twice-requires
 location-twice-requires c κs =
     let said = c .before .before .before .before .front-refusal in
-    subst (λ (n : ℕ). Fits (c .before .before .before .before .before .before .before .before .before .args .second .now) n) (sym
+    subst (λ (n : ℕ). Fits (start (c .before .before .before .before) .args .second .now) n) (sym
     (said .kept .1 .1 .0))
     (fits-second _ _ _ (said .ensures) (c .before .if1 .left))
 
 returns-2 : tie.Need-returns-2
-returns-2 c = second-twice _ _ _ (c .before .before .before .before .before .before .before .before .front-refusal .ensures)
-    (c .before .before .before .before .before .if1 .left)
-    (c .before .before .before .location-twice .ensures) (c .if2 .taken)
+returns-2 c = search (second-twice, needs)
 
 returns-3 : tie.Need-returns-3
-returns-3 c = none-refused _ _ _ (c .before .before .before .before .before .before .before .before .front-refusal .ensures)
-    (c .before .before .before .before .before .if1 .left)
-    (c .before .before .before .location-twice .ensures) (c .if2 .left)
+returns-3 c = search (none-refused, needs)
 
 pub refusal-spec : {M : Type 1} → statement M
 refusal-spec =

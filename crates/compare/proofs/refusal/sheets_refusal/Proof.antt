@@ -9,9 +9,7 @@ returns : tie.Need-returns
 returns c = first-refused _ _ (c .before .before .before .sheet-refusal .ensures) (c .if1 .taken)
 
 returns-2 : tie.Need-returns-2
-returns-2 c = second-refused _ _ (c .before .before .before .before .before .before .before .sheet-refusal .ensures)
-    (c .before .before .before .before .if1 .left)
-    (c .before .before .sheet-refusal2 .ensures)
+returns-2 c = search (second-refused, needs)
 
 pub sheets-refusal-spec : {M : Type 1} → statement M
 sheets-refusal-spec {M = M} =

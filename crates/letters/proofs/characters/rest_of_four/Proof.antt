@@ -22,15 +22,15 @@ returns-6 : tie.Need-returns-6
 returns-6 c = search (four-no, needs)
 
 returns-7 : tie.Need-returns-7
-returns-7 c = four-good (c .before .before .before .before .before .before .before .before .before .before .before .before .before .args
-    .text .now) (c .before .before .before .before .before .before .before .before .before .before .before .before .before .args .at)
-    (c .before .before .before .before .before .before .before .before .before .before .before .before .before .args .a)
-    (c .before .before .before .before .before .before .before .before .before .before .before .if1 .left)
-    (c .before .before .before .before .before .before .before .before .before .is-lead4 .ensures)
-    (c .before .before .before .before .before .before .before .before .if2 .left)
-    (c .before .before .before .before .before .before .before .if3 .left)
-    (c .before .before .before .before .before .is-continuing .ensures) (c .before .before .before .before .if4 .left)
-    (c .before .before .before .if5 .left) (c .before .is-continuing2 .ensures) (c .if6 .left)
+returns-7 c =
+    let more = c .before .before .before .before .before in
+    let lead = more .before .before .before .before in
+    let some = lead .before .before in
+    let given = some .before .before .args in
+    four-good (given .text .now) (given .at) (given .a) (some .if1 .left)
+    (lead .is-lead4 .ensures) (more .before .before .before .if2 .left) (more .before .before .if3 .left)
+    (more .is-continuing .ensures) (c .before .before .before .before .if4 .left) (c .before .before .before .if5 .left)
+    (c .before .is-continuing2 .ensures) (c .if6 .left)
 
 pub rest-of-four-spec : {M : Type 1} → statement M
 rest-of-four-spec =

@@ -19,13 +19,15 @@ returns-5 : tie.Need-returns-5
 returns-5 c = search (three-no, needs)
 
 returns-6 : tie.Need-returns-6
-returns-6 c = three-good (c .before .before .before .before .before .before .before .before .before .before .before .args .text .now)
-    (c .before .before .before .before .before .before .before .before .before .before .before .args .at)
-    (c .before .before .before .before .before .before .before .before .before .before .before .args .a)
-    (c .before .before .before .before .before .before .before .before .before .if1 .left)
-    (c .before .before .before .before .before .before .before .is-lead3 .ensures)
-    (c .before .before .before .before .before .before .if2 .left) (c .before .before .before .before .before .if3 .left)
-    (c .before .before .before .is-continuing .ensures) (c .before .before .if4 .left) (c .before .is-noncharacter .ensures) (c .if5 .left)
+returns-6 c =
+    let more = c .before .before .before in
+    let lead = more .before .before .before .before in
+    let some = lead .before .before in
+    let given = some .before .before .args in
+    three-good (given .text .now) (given .at) (given .a) (some .if1 .left)
+    (lead .is-lead3 .ensures) (more .before .before .before .if2 .left) (more .before .before .if3 .left)
+    (more .is-continuing .ensures) (c .before .before .if4 .left)
+    (c .before .is-noncharacter .ensures) (c .if5 .left)
 
 pub rest-of-three-spec : {M : Type 1} → statement M
 rest-of-three-spec =

@@ -14,16 +14,21 @@ set-aside-requires c κs = walkable-by (c .before .before .before .before .befor
 slice-aggregate-count-matched : tie.Need-slice-aggregate-count-matched
 slice-aggregate-count-matched c = sym (length-take-le _ _ (c .before .before .before .set-aside .ensures .inside))
 
+abbrev start : tie.After-set-aside → tie.Start
+start c = c .before .before .before .before .before .before
+
+abbrev after-set-aside : tie.After-count-matched → tie.After-set-aside
+after-set-aside c = c .before .before .before .before
+
 add-result : tie.Need-add-result
 add-result c =
-    let both = c .before .before .before .before .before .before .before .before .before .before .before .before .before .pre .beside in
-    let apart = c .before .before .before .before .before .before .before .set-aside .ensures in
+    let both = start (after-set-aside (c .before .before .before)) .pre .beside in
+    let apart = after-set-aside (c .before .before .before) .set-aside .ensures in
     let few = shared-few both apart (c .before .before .before .count-matched .ensures) in
     omega (arith, few, few-first both)
 
 returns : tie.Need-returns
-returns c = shared (c .before .before .before .before .before .before .before .set-aside .ensures)
-    (c .before .before .before .count-matched .ensures)
+returns c = search (shared, needs)
 
 pub both-in-spec : {M : Type 1} → statement M
 both-in-spec {M = M} =

@@ -22,7 +22,7 @@ add-if3 c = let p = c .before .before .before .before .before .before .pre in le
     (p .0 .beside) in let h = p .1 .1 in omega arith
 
 second-at-requires-2 : tie.Need-second-at-requires-2
-second-at-requires-2 c κs = turning-second (c .before .before .before .before .before .before .before .before .pre .0 .beside) (omega arith)
+second-at-requires-2 c κs = search (turning-second, needs)
 
 pub first-goes-spec : {M : Type 1} → statement M
 first-goes-spec =

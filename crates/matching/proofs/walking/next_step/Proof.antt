@@ -20,23 +20,19 @@ record-in-requires : tie.Need-record-in-requires
 record-in-requires c κs = within-first (c .before .before .before .before .before .before .pre .beside) (omega arith)
 
 second-at-requires : tie.Need-second-at-requires
-second-at-requires c κs = turning-second (c .before .before .before .before .before .before .before .pre .beside) (omega arith)
+second-at-requires c κs = search (turning-second, needs)
 
 returns-3 : tie.Need-returns-3
-returns-3 c = step-pair _ (c .before .before .before .before .before .before .before .before .before .pre .beside) _ _ (omega arith)
-    (omega arith)
-    (c .before .before .record-in .ensures .0) (c .before .second-at .ensures .0) (c .if3 .taken)
+returns-3 c = search (step-pair, needs)
 
 first-goes-requires : tie.Need-first-goes-requires
-first-goes-requires c κs = (c .before .before .before .before .before .before .before .before .before .pre, (omega arith, omega arith))
+first-goes-requires c κs = search needs
 
 returns-4 : tie.Need-returns-4
-returns-4 c = step-first _ (c .before .before .before .before .before .before .before .before .before .before .before .pre .beside) _ _
-    (omega (arith, c .before .before .before .before .before .before .before .if1 .left))
+returns-4 c = search (step-first, needs)
 
 returns-5 : tie.Need-returns-5
-returns-5 c = step-second _ (c .before .before .before .before .before .before .before .before .before .before .before .pre .beside) _ _
-    (omega (arith, c .before .before .before .before .before .if2 .left))
+returns-5 c = search (step-second, needs)
 
 pub next-step-spec : {M : Type 1} → statement M
 next-step-spec =

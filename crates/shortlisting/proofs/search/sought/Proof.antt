@@ -66,12 +66,14 @@ find-requires c κs = search needs
 -- src/search.rt:203:33
 add-t17 : tie.Need-add-t17
 add-t17 c =
+    let found = c .before .before .before .before in
+    let kind = found .before .before .before in
+    let within = kind .before in
+    let asked = within .before in
     omega (
       arith,
-      found-inside _ _ _ _ _ _ (c .before .before .before .before .before .before .before .before .before .is-outside
-          .ensures) (c .before .before .before .before .before .before .before .before .if1 .left) (c .before .before .before .before
-          .before .before .before .is-record .ensures) (c .before .before .before .before .before .before .if2 .left) (c .before .before
-          .before .before .find .ensures) (c .before .if3 .taken),
+      found-inside _ _ _ _ _ _ (asked .is-outside .ensures) (within .if1 .left) (kind .is-record .ensures)
+          (found .before .before .if2 .left) (found .find .ensures) (c .before .if3 .taken),
     )
 
 -- src/search.rt:203:9
