@@ -1,10 +1,8 @@
--- MATCHED: how many even numbers of a list have their successor in it, and lists in another order. Assumes nothing.
-use mathlib.Core.Path.{_≡_}
+-- MATCHED: how many even numbers of a list have their successor in it. Assumes nothing.
 use mathlib.Core.Bool.{Bool, _&&_}
 use mathlib.Core.List.{List}
-use Prim.Native.Nat.{ℕ, _+_, _%_, _≤_, _<_}
+use Prim.Native.Nat.{ℕ, _+_, _%_}
 use lib.Dec.{eqb, leb}
-use lib.ListN.{length, getD}
 use Rattle.lists.specs.Lists.{count}
 
 -- the number stands in the list
@@ -17,15 +15,3 @@ paired l x = eqb (x % 2) 0 && member (x + 1) l
 
 unfoldable pub matched : List ℕ → ℕ
 matched l = count (paired l) l
-
--- the same numbers, as often, in another order
-pub record Reordered (xs ys : List ℕ) : Type 0 where
-  pub long : length ys ≡ length xs
-  pub counts : (p : ℕ → Bool) → count p ys ≡ count p xs
-
--- the numbers up to mid are the first m
-pub record Halved (mid : ℕ) (xs ys : List ℕ) (m : ℕ) : Type 0 where
-  pub within : m ≤ length ys
-  pub reordered : Reordered xs ys
-  pub front : (k : ℕ) → k < m → getD ys k 0 ≤ mid
-  pub rear : (k : ℕ) → m ≤ k → k < length ys → mid < getD ys k 0

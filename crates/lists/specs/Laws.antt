@@ -5,3 +5,6 @@ pub mod Tables
 pub mod Permuted
 pub mod Quantifiers
 pub mod Ranges
+pub mod Bits
+pub mod Numbers
+pub mod Reordered

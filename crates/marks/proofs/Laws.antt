@@ -2,7 +2,7 @@
 use mathlib.Core.Path.{_≡_, refl, sym, ap, _∙_}
 use mathlib.Core.List.{List, [], _∷_}
 use mathlib.Core.Bool.{Bool, true, false, false≢true}
-use Prim.Native.Nat.{ℕ, zero, suc, _+_, _*_, _/_, _%_, _^_, _≤_, _<_}
+use Prim.Native.Nat.{ℕ, zero, suc, _+_, _/_, _%_, _^_, _≤_, _<_}
 use native.Mathlib.Omega.{arith}
 use native.Mathlib.Nat.{zero-div}
 use lib.Dec.{eqb}
@@ -10,11 +10,8 @@ use borrow.Author.Needs.{needs}
 use lib.ListN.{length, getD, set, length-set}
 use lib.Seq.{getD-set-same, getD-set-other}
 use Rattle.marks.specs.Marks.{bit, marked, Stay, Marked, Unset}
-use Rattle.marks.specs.Laws.Bits.{Side, under, same, over, side, sets, keeps, fits, one-shifted}
+use Rattle.lists.specs.Laws.Bits.{Side, under, same, over, side, sets, keeps, fits, one-shifted}
 use Rattle.marks.specs.Laws.Apart.{all-stay}
-
-pub power-is : {s r : ℕ} → s < 64 → r ≡ 1 * 2 ^ s % 2 ^ 64 → r ≡ 2 ^ s
-power-is {s} h e = e ∙ one-shifted s h
 
 pub sum-fits : {w s p : ℕ} → Unset w s → w < 2 ^ 64 → p ≡ 2 ^ s → w + p < 2 ^ 64
 sum-fits {w} {s} u v e = rw e (fits w s (u .is-zero) (u .within) v)
@@ -78,6 +75,6 @@ module _ (before : List ℕ) (place : ℕ) {at w v : ℕ} (ea : at ≡ place / 6
       is-set : marked (set before at v) place ≡ 1
       is-set = ap (λ (x : ℕ). bit x (place % 64)) (same-word (place / 64) (sym ea)) ∙ sets w (place % 64) zero-bit
 
-pub ruleset marking = (power-is, sum-fits, unset-here, no-room, set-before, newly, needs)
+pub ruleset marking = (one-shifted, sum-fits, unset-here, no-room, set-before, newly, needs)
 
 pub ruleset marked-there = (none-there, told-by-bit, needs)

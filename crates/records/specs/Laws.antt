@@ -1,4 +1,3 @@
-pub mod Numbers
 pub mod Mapped
 pub mod Sheet
 pub mod Round

@@ -41,7 +41,7 @@ use Rattle.inside.specs.Laws.Treads.{called-alike}
 use Rattle.inside.specs.One.{tagEnd}
 use Rattle.map_names.specs.Way.{nameWay, mapWay}
 use Rattle.map_names.specs.Treads.{inMapTreads, mapThere, namedAt}
-use Rattle.map_names.specs.Laws.Treads.{name-thence, name-way, map-way}
+use Rattle.map_names.specs.Laws.Treads.{thence-at, name-thence, name-way, map-way}
 use Rattle.map_names.specs.Laws.Answered.{answered-found}
 use Rattle.map_names.specs.Placed.{NamePlaced}
 use Rattle.map_names.specs.Laws.Placed.{placed-name, Fine, fine}
@@ -79,11 +79,6 @@ unfolding nthPlace
 nth-at [] n h = absurd (omega arith)
 nth-at (c ∷ ks) zero h = refl
 nth-at (c ∷ ks) (suc n) h = nth-at ks n (le-of-suc-le-suc h)
-
-thence-at : (f : Found) → thence (λ k. At k) f ≡ f
-unfolding thence
-thence-at Nothing = refl
-thence-at (At k) = refl
 
 -- the way goes on from the map to the n-th NamedMap and its MapName
 on-nth : (text : List ℕ) (at n : ℕ) → n < length (namedIn text at)

@@ -51,7 +51,7 @@ pub record Listing (lengths : List ℕ) (l : List Map) : Type 0 where
   pub one : (d : ℕ) → d < length lengths → OnePlace 0 (eqb d) (listedDimensions l)
   pub exists : (i : ℕ) → i < length (listedDimensions l) → getD (listedDimensions l) i 0 < length lengths
 
-split : (x y : Bool) → (not x || y) ≡ false → (x ≡ true) × (y ≡ false)
+pub split : (x y : Bool) → (not x || y) ≡ false → (x ≡ true) × (y ≡ false)
 split true y h = (refl, h)
 split false y h = absurd (true≢false h)
 

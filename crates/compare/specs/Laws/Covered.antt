@@ -11,7 +11,7 @@ use borrow.Author.Tests.{eqb-true, eq-eqb}
 use Rattle.lists.specs.Lists.{any, count, twoOf}
 use Rattle.lists.specs.Laws.Lists.{count-same}
 use Rattle.comparison.specs.Compare.{has}
-use Rattle.comparison.specs.Laws.Sums.{once}
+use Rattle.comparison.specs.Laws.Sums.{once, nothing}
 
 -- one more record, that the list has already, or that it has not
 again : (y : ℕ) (b : List ℕ) → has b y ≡ true → (x : ℕ) → has (y ∷ b) x ≡ has b x
@@ -25,11 +25,6 @@ again y b h x = by (eqb x y) refl
 at-most-one : (t : Bool) → cond {A = ℕ} t 1 0 ≤ 1
 at-most-one true = omega arith
 at-most-one false = omega arith
-
-none-in : (a : List ℕ) → count (has []) a ≡ 0
-unfolding has any count
-none-in [] = refl
-none-in (x ∷ a) = let e = none-in a in omega arith
 
 either-few : (y : ℕ) (b a : List ℕ) → count (has (y ∷ b)) a ≤ count (eqb y) a + count (has b) a
 unfolding has any count
@@ -50,7 +45,7 @@ module _ (a : List ℕ) (onceOnly : twoOf eqb a ≡ false) where
   seen y = let e = once y a onceOnly in let f = at-most-one (has a y) in omega arith
 
   few : (b : List ℕ) → count (has b) a ≤ length b
-  few [] = let e = none-in a in omega arith
+  few [] = let e = nothing a in omega arith
   few (y ∷ b) = by (has b y) refl (few b)
     where
       by : (t : Bool) → has b y ≡ t → count (has b) a ≤ length b → count (has (y ∷ b)) a ≤ suc (length b)

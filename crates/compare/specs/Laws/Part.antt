@@ -10,7 +10,7 @@ use lib.Dec.{eqb, ltb}
 use lib.ListN.{length, getD, take, drop, length-drop}
 use lib.Seq.{drop-drop}
 use borrow.Author.Tests.{lt-ltb, le-ltb, eq-eqb, ne-eqb}
-use Rattle.records.specs.Laws.Numbers.{eq?}
+use Rattle.lists.specs.Laws.Numbers.{eq?}
 use Rattle.records.specs.Outcome.{unless}
 use Rattle.records.specs.Width.{seven}
 use Rattle.records.specs.Bytes.{numberWritten, numbersIn}

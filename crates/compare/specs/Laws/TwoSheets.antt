@@ -7,8 +7,8 @@ use native.Mathlib.Omega.{arith}
 use lib.Dec.{eqb, ltb}
 use lib.ListN.{length, getD}
 use mathlib.Core.Logic.{_⊎_, ⊎-elim}
-use borrow.Author.Tests.{eqb-true, eqb-false, eq-eqb, ne-eqb, lt-ltb, le-ltb}
-use Rattle.records.specs.Laws.Numbers.{lt?}
+use borrow.Author.Tests.{eqb-true, eq-eqb, lt-ltb, le-ltb}
+use Rattle.lists.specs.Laws.Numbers.{lt?, eqb-turned}
 use mathlib.Core.Logic.{_↔_}
 use Rattle.lists.specs.Lists.{twoOf}
 use Rattle.records.specs.Width.{seven}
@@ -19,7 +19,7 @@ use Rattle.records.specs.Laws.Round.{said-wider}
 use Rattle.records.specs.Laws.Widths.{fits-wider}
 use Rattle.comparison.specs.Compare.{countBelow, hasAt, sameAt, same, moved, firstOnly, secondOnly, Compares, Tails}
 use Rattle.comparison.specs.declared.Compared.{Compared}
-use Rattle.comparison.specs.Laws.Sums.{below-most, both-is, both-turned, adds-up, adds-up-second}
+use Rattle.comparison.specs.Laws.Sums.{front, below-most, both-is, both-turned, adds-up, adds-up-second}
 
 pub compare-unique : (s t before : List ℕ) (a b : Compared) (x y : List ℕ) → Compares s t before a x → Compares s t before b y →
     (a ≡ b) × (x ≡ y)
@@ -29,11 +29,6 @@ pub tail-unique : (s t before a b x y : List ℕ) → Tails s t before a x → T
 tail-unique s t before a b x y p q = (p .answers ∙ sym (q .answers), p .zero ∙ sym (q .zero))
 
 -- ---- The sheets exchanged.
-
-front : (n : ℕ) (p : ℕ → Bool) → countBelow (suc n) p ≡ cond (p 0) 1 0 + countBelow n (λ i. p (suc i))
-unfolding countBelow
-front zero p = refl
-front (suc n) p = let e = front n p in omega arith
 
 alike : (n : ℕ) (p q : ℕ → Bool) → ((i : ℕ) → p i ≡ q i) → countBelow n p ≡ countBelow n q
 unfolding countBelow
@@ -51,13 +46,6 @@ none-there : (n : ℕ) (a : List ℕ) → countBelow n (sameAt a []) ≡ 0
 unfolding countBelow
 none-there zero a = refl
 none-there (suc n) a = rw (not-there a n) (let e = none-there n a in omega arith)
-
-eqb-turned : (x y : ℕ) → eqb x y ≡ eqb y x
-eqb-turned x y = go (eqb x y) refl
-  where
-    go : (t : Bool) → eqb x y ≡ t → eqb x y ≡ eqb y x
-    go true e = e ∙ sym (eq-eqb y x (sym (eqb-true x y e)))
-    go false e = e ∙ sym (ne-eqb y x (λ h. eqb-false x y e (sym h)))
 
 module _ (x y : ℕ) (a b : List ℕ) where
   less : (i : ℕ) → ltb (suc i) (suc (length b)) ≡ ltb i (length b)

@@ -9,7 +9,7 @@ use lib.Dec.{eqb, ltb}
 use lib.ListN.{length, take, drop, length-drop}
 use lib.Seq.{take-all}
 use borrow.Author.Tests.{lt-ltb, le-ltb, ltb-true, ltb-false, ne-eqb, eqb-true, eqb-false}
-use Rattle.records.specs.Laws.Numbers.{eq?}
+use Rattle.lists.specs.Laws.Numbers.{eq?}
 use Rattle.records.specs.Outcome.{unless}
 use Rattle.records.specs.Sheet.{countOf, widthOf}
 use Rattle.comparison.specs.Compare.{compareRefusal, recordPlace, behind, partOf, placed}

@@ -8,9 +8,10 @@ use native.Mathlib.Omega.{arith}
 use native.Mathlib.Numerals.{add-one}
 use lib.Dec.{eqb, ltb}
 use lib.ListN.{length, getD}
-use borrow.Author.Tests.{eqb-true, eqb-false, eq-eqb, ne-eqb, ltb-true}
+use borrow.Author.Tests.{eqb-true, ltb-true}
 use Rattle.lists.specs.Lists.{any, count, twoOf}
 use Rattle.lists.specs.Laws.Booleans.{and-left, and-right, or-left, or-right, or-second, both-ways}
+use Rattle.lists.specs.Laws.Numbers.{eqb-turned}
 use Rattle.comparison.specs.Compare.{countBelow, hasAt, has, sameAt, movedAt, onlyAt, same, moved, firstOnly, secondOnly}
 
 -- ---- Counting over numbers below n.
@@ -48,7 +49,7 @@ every zero = refl
 every (suc n) = let e = every n in omega arith
 
 -- by the front rather than by the end
-front : (n : ℕ) (p : ℕ → Bool) → countBelow (suc n) p ≡ cond (p 0) 1 0 + countBelow n (λ i. p (suc i))
+pub front : (n : ℕ) (p : ℕ → Bool) → countBelow (suc n) p ≡ cond (p 0) 1 0 + countBelow n (λ i. p (suc i))
 unfolding countBelow
 front zero p = refl
 front (suc n) p = let e = front n p in omega arith
@@ -125,13 +126,6 @@ once x (y ∷ b) h = go (eqb x y) refl (once x b (or-right (any (eqb y) b) (twoO
         rw e (omega arith)
     go false e r = rw e (omega arith)
 
-eqb-turned : (x y : ℕ) → eqb x y ≡ eqb y x
-eqb-turned x y = go (eqb x y) refl
-  where
-    go : (t : Bool) → eqb x y ≡ t → eqb x y ≡ eqb y x
-    go true e = e ∙ sym (eq-eqb y x (sym (eqb-true x y e)))
-    go false e = e ∙ sym (ne-eqb y x (λ h. eqb-false x y e (sym h)))
-
 -- one more number of the other list
 more : (x : ℕ) (a b : List ℕ) → has a x ≡ false → count (has (x ∷ a)) b ≡ count (eqb x) b + count (has a) b
 unfolding has count any
@@ -146,7 +140,7 @@ more x a (y ∷ b) h = go (eqb x y) refl (any (eqb y) a) refl (more x a b h)
     go false e true f r = rw (sym (eqb-turned x y), e, f) (omega arith)
     go false e false f r = rw (sym (eqb-turned x y), e, f) (omega arith)
 
-nothing : (b : List ℕ) → count (has []) b ≡ 0
+pub nothing : (b : List ℕ) → count (has []) b ≡ 0
 unfolding has count any
 nothing [] = refl
 nothing (y ∷ b) = let e = nothing b in omega arith

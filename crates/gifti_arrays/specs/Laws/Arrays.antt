@@ -1,6 +1,6 @@
 -- All arrays, one after the other.
 use mathlib.Core.Path.{_≡_, refl, sym, ap, _∙_}
-use mathlib.Core.Bool.{Bool, true, false, _&&_, cond}
+use mathlib.Core.Bool.{Bool, true, false, _&&_}
 use mathlib.Core.List.{List, [], _∷_, _++_}
 use Prim.Native.Nat.{ℕ, suc, _+_, _*_, _^_, _≤_, _<_}
 use native.Mathlib.Omega.{arith}
@@ -22,7 +22,7 @@ use Rattle.nodes.specs.Laws.Along.{Along, along-start, along-done, along-stands
 use Rattle.nodes.specs.declared.Kid.{Kid}
 use Rattle.nodes.specs.declared.Kid.the-variants.{Child, Done}
 use Rattle.numbers.specs.Numbers.{inKeys}
-use Rattle.comparison.specs.Laws.Matched.{count-most}
+use Rattle.lists.specs.Laws.Lists.{count-most, few-those}
 use Rattle.comparison.specs.Matched.{member}
 use Rattle.label_table.specs.Codes.{codeOf}
 use Rattle.known_keys.specs.Known.{knownIn}
@@ -77,15 +77,6 @@ pub record Summed (text : List ℕ) (e : Element) (codes : List ℕ) (arrays : �
   pub in-range : all inKeys (keysOfAll (arraysOf e)) ≡ all inKeys (keysOfAll (those isArray l))
   pub few : keys ≤ arrays * 16777217
   pub known-few : known ≤ keys
-
-few-those : (p : Element → Bool) (l : List Element) → length (those p l) ≤ length l
-unfolding those
-few-those p [] = omega arith
-few-those p (a ∷ l) = go (p a) (few-those p l)
-  where
-    go : (b : Bool) → length (those p l) ≤ length l → length (cond b (a ∷ those p l) (those p l)) ≤ length (a ∷ l)
-    go true h = omega arith
-    go false h = omega arith
 
 summed-up : {text : List ℕ} {e : Element} {codes : List ℕ} {arrays : ℕ} {fit : Bool} {keys known : ℕ}
     → Summed text e codes arrays fit keys known [] → ToldAll e codes (record { arrays = arrays; fit = fit; keys = keys; known = known })

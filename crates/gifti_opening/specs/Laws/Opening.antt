@@ -1,5 +1,5 @@
 -- The turns of the opening: of the root, and of the whole.
-use mathlib.Core.Path.{_≡_, refl, sym, ap, _∙_}
+use mathlib.Core.Path.{_≡_, sym, ap, _∙_}
 use mathlib.Core.List.{List, [], _∷_}
 use mathlib.Core.Option.{Option, some}
 use mathlib.Core.Option
@@ -11,6 +11,7 @@ use borrow.Author.Tests.{lt-ltb, le-ltb}
 use lib.ListN.{length}
 use Rattle.lists.specs.Lists.{there, isSome}
 use Rattle.lists.specs.Refusals.{Refusal, _when_, first}
+use Rattle.lists.specs.Laws.Refusals.{first-row}
 use Rattle.grammar.specs.Document.{Element}
 use Rattle.grammar.specs.Parser.{parse}
 use Rattle.nodes.specs.Places.{Stands, the}
@@ -75,11 +76,6 @@ module _ {text : List ℕ} {at n : ℕ} (j : JudgedGifti text at n) where
 pub ruleset rooted = (root-stands, root-wrong, root-shape, root-unread, root-passes, root-number, needs)
 
 -- ---- The conditions, row by row.
-
-first-row : (n : ℕ) (b : Bool) (l : List Refusal) → first (n when b ∷ l) ≡ cond b n (first l)
-unfolding first
-first-row n true l = refl
-first-row n false l = refl
 
 root-rows : (a b c d : Bool) (l : List Refusal)
     → first (4 when a ∷ 6 when b ∷ 29 when c ∷ 7 when d ∷ l) ≡ cond a 4 (cond b 6 (cond c 29 (cond d 7 (first l))))

@@ -34,7 +34,7 @@ use Rattle.label_table.specs.Laws.Codes.{twice-codes}
 use Rattle.comparison.specs.Matched.{member}
 use Rattle.known_keys.specs.Order.{orderedFrom, inOrder}
 use Rattle.known_keys.specs.Known.{knownIn}
-use Rattle.known_keys.specs.Laws.Order.{all-counted, counted-all}
+use Rattle.lists.specs.Laws.Lists.{all-counted, counted-all}
 use Rattle.known_keys.specs.Laws.Turns.{member-key}
 use Rattle.gifti.specs.Arrays.{arraysOf, arraysSaid, arrayKeys, labelTables, knownKeys, keysOfArrays}
 use Rattle.gifti.specs.Conditions.{arraysWrong, labelTwice, noArray, lengthWrong, isKnown, someUnknown, keyUnknown}

@@ -13,7 +13,7 @@ use Rattle.grammar.specs.Grammar
 use Rattle.grammar.specs.Grammar.{TextCharacter, Comment, CData, WritesElement, WritesContents}
 use Rattle.grammar.specs.Laws.Words.{Nowhere, nowhere-end, nowhere-more, nowhere-first, nowhere-drop, tail-past}
 use Rattle.grammar.specs.Laws.Tokens.{parted-apart}
-use Rattle.grammar.specs.Laws.Sound.{parted-less}
+use Rattle.grammar.specs.Laws.Sound.{begins-less, parted-less}
 
 -- a stretch of text ends where the contents end, or a `<` stands
 pub data Ends : List ℕ → Type 0 where
@@ -37,13 +37,6 @@ pub data Stretched (d : ℕ) : Contents → List ℕ → Type 0 where
 under : (t : Bool) {p q : Bool} → (p ≡ false → q ≡ false) → (t && p) ≡ false → (t && q) ≡ false
 under true f e = f e
 under false f e = refl
-
--- what a text does not begin with, its front does not
-less : (k x r : List ℕ) → begins k (x ++ r) ≡ false → begins k x ≡ false
-unfolding begins
-less [] x r e = e
-less (a ∷ k) [] r e = refl
-less (a ∷ k) (b ∷ x) r e = under (eqb b a) (λ f. less k x r f) e
 
 -- no byte is `<`
 data Unmarked : List ℕ → Type 0 where
@@ -82,7 +75,7 @@ alone : {d : ℕ} {c : Contents} {b w s : List ℕ} → TextCharacter b w → pa
     → Stretched d c s → Stretched d (merged b c) (w ⊹ s)
 unfolding runs
 alone {w = w} {s = s} h p f e t =
-    let f₀ : begins (ascii "]]>") (w ++ []) ≡ false = rw append-nil (less (ascii "]]>") w s f) in
+    let f₀ : begins (ascii "]]>") (w ++ []) ≡ false = rw append-nil (begins-less (ascii "]]>") w s f) in
     let one = stretch (and-more h (parted-less w [] s p) none-more) (fronted h [] f₀ nowhere-end) e t in
     rw append-nil at one
 
@@ -104,7 +97,7 @@ longer h p f (remark {s = s} q t) = alone h p f (comment-ends s q) (remark q t)
 longer h p f (marked {s = s} q t) = alone h p f (data-ends s q) (marked q t)
 longer h p f (inner {s = s} q t) = alone h p f (element-ends s q) (inner q t)
 longer {w = w} h p f (stretch {w = v} {s = s} q n e t) =
-    let f₀ : begins (ascii "]]>") (w ++ v) ≡ false = less (ascii "]]>") (w ++ v) s (rw append-assoc f) in
+    let f₀ : begins (ascii "]]>") (w ++ v) ≡ false = begins-less (ascii "]]>") (w ++ v) s (rw append-assoc f) in
     let whole = stretch (and-more h (parted-less w v s p) q) (fronted h v f₀ n) e t in
     rw append-assoc at whole
 

@@ -204,6 +204,11 @@ before-append w r =
     let n : length (w ++ r) - length r ≡ length w = omega (arith, length-append w r) in
     rw (n, take-append-seam)
 
+pub alt-fail : {A : Type 0} (m : Read A) {n : Read A} → n ≡ fail → alt m n ≡ m
+unfolding alt
+alt-fail fail e = e
+alt-fail (got a r) e = refl
+
 pub seen-sound : {A : Type 0} {P : A → List ℕ → Type 0} (p : Reader A) (s : List ℕ) → Ok (Takes P s) (p s)
     → Ok (λ x r. (s ≡ x .1 ++ r) × P (x .0) (x .1)) (seen p s)
 unfolding seen

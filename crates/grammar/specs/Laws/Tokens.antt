@@ -161,7 +161,7 @@ reference-ampersand Grammar.gt = ampersand _
 reference-ampersand Grammar.quot = ampersand _
 reference-ampersand Grammar.apos = ampersand _
 
-ampersand-long : {w : List ℕ} → Ampersand w → 0 < length w
+pub ampersand-long : {w : List ℕ} → Ampersand w → 0 < length w
 ampersand-long (ampersand w) = omega arith
 
 pub line-end-long : {w : List ℕ} → LineEnd w → 0 < length w
@@ -269,7 +269,7 @@ unfolding ends
 ends-blanks p no-byte r = refl
 ends-blanks p (a-byte h k) r = rw (h, ends) (ends-blanks p k r)
 
-gap-each : {u : List ℕ} → Gap u → Each blank u
+pub gap-each : {u : List ℕ} → Gap u → Each blank u
 gap-each (Grammar.gap h k) = a-byte h k
 
 pub ends-name : {n : List ℕ} → Name n → (r : List ℕ) → ends closing (n ++ r) ≡ false

@@ -1,7 +1,7 @@
 -- Numbers in order are twice there where two neighbours are equal; a table is told part by part.
 use mathlib.Core.Path.{_≡_, refl, sym, ap, _∙_}
 use mathlib.Core.List.{List, [], _∷_, _++_, append-nil}
-use mathlib.Core.Bool.{Bool, true, false, _&&_, _||_, cond, true≢false, false≢true}
+use mathlib.Core.Bool.{Bool, true, false, _&&_, _||_, false≢true}
 use Prim.Native.Nat.{ℕ, _+_, _^_, _≤_, _<_}
 use native.Mathlib.Omega.{arith}
 use native.Mathlib.Numerals.{add-one}
@@ -10,13 +10,16 @@ use lib.ListN.{length, getD, take, drop}
 use lib.Seq.{drop-cons, drop-length}
 use borrow.Author.Needs.{needs}
 use borrow.Author.Tests.{leb-true, eq-eqb, ne-eqb}
-use Rattle.lists.specs.Lists.{any, count, twoOf}
+use Rattle.lists.specs.Lists.{any, twoOf}
 use Rattle.lists.specs.Laws.Lists.{any-same, two-append}
-use Rattle.lists.specs.Laws.Booleans.{and-left, and-right, or-first, or-neither, or-true, refute}
+use Rattle.lists.specs.Laws.Booleans.{and-left, and-right, or-first, or-true, refute}
 use Rattle.lists.specs.Laws.Permuted.{two-permuted, append-turned}
+use Rattle.lists.specs.Laws.Numbers.{eqb-turned}
+use Rattle.lists.specs.Laws.Reordered.{two-kept}
+use Rattle.lists.specs.Reordered.{Reordered}
 use Rattle.nodes.specs.declared.Kid.{Kid}
 use Rattle.nodes.specs.declared.Kid.the-variants.{Child, Done}
-use Rattle.comparison.specs.Matched.{member, Reordered}
+use Rattle.comparison.specs.Matched.{member}
 use Rattle.label_table.specs.Labels.{twiceAt, firstLabel, nextLabel}
 use Rattle.label_table.specs.Codes.{codeHere, codesAt}
 use Rattle.label_table.specs.Laws.Codes.{twice-codes}
@@ -26,7 +29,7 @@ use Rattle.known_keys.specs.Order.{orderedFrom, inOrder}
 use Rattle.known_keys.specs.Known.{Placed, Taken}
 use Rattle.known_keys.specs.Sieve.{sifted, Sieve, Sifting}
 use Rattle.known_keys.specs.Laws.Search.{placed-member}
-use Rattle.known_keys.specs.Laws.Turns.{once, turned, member-any, taken-less}
+use Rattle.known_keys.specs.Laws.Turns.{member-any, taken-less}
 use Rattle.key_twice.specs.Parts.{someIn, partTwice}
 
 -- ---- Neighbours.
@@ -155,33 +158,6 @@ module _ (part later : List ℕ) {b : Bool} (q : b ≡ twoOf eqb part) where
 
 pub ruleset parting = (part-alike, part-later, needs)
 
--- ---- A number stands as often in another order.
-
-alone : (a : ℕ) (l : List ℕ) → count (λ y. eqb y a) (a ∷ l) ≤ 1 → any (eqb a) l ≡ false
-unfolding count member
-alone a l h =
-    let k : cond (eqb a a) 1 0 + count (λ y. eqb y a) l ≤ 1 = h in
-    let w : _≡_ {A = ℕ} (cond (eqb a a) 1 0) 1 = rw (eq-eqb a a refl) refl in
-    let z : count (λ y. eqb y a) l ≡ 0 = omega arith in
-    sym (member-any a l) ∙ rw z refl
-
-all-once : (l : List ℕ) → ((c : ℕ) → count (λ y. eqb y c) l ≤ 1) → twoOf eqb l ≡ false
-unfolding twoOf count
-all-once [] h = refl
-all-once (a ∷ l) h = or-neither (alone a l (h a)) (all-once l (λ c. let z = h c in omega arith))
-
-once-kept : (xs ys : List ℕ) → ((c : ℕ) → count (λ y. eqb y c) ys ≡ count (λ y. eqb y c) xs) → twoOf eqb xs ≡ false
-    → twoOf eqb ys ≡ false
-once-kept xs ys r h = all-once ys (λ c. let o = once c xs h in let e = r c in omega arith)
-
-two-kept : {xs ys : List ℕ} → Reordered xs ys → twoOf eqb ys ≡ twoOf eqb xs
-two-kept {xs} {ys} r = go (twoOf eqb xs) refl (twoOf eqb ys) refl
-  where
-    go : (b : Bool) → twoOf eqb xs ≡ b → (d : Bool) → twoOf eqb ys ≡ d → twoOf eqb ys ≡ twoOf eqb xs
-    go false e d f = once-kept xs ys (λ c. r .counts (λ y. eqb y c)) e ∙ sym e
-    go true e true f = f ∙ sym e
-    go true e false f = absurd (true≢false (sym e ∙ once-kept ys xs (λ c. sym (r .counts (λ y. eqb y c))) f))
-
 -- ---- Part by part.
 
 module _ {codes part : List ℕ} (r : Reordered codes part) (same : (c : ℕ) → member c part ≡ member c codes) (later : List ℕ) where
@@ -192,7 +168,7 @@ module _ {codes part : List ℕ} (r : Reordered codes part) (same : (c : ℕ) �
   two-parts : twoOf eqb (codes ++ later) ≡ (partTwice part later || twoOf eqb later)
   unfolding partTwice
   two-parts =
-      two-permuted eqb turned (append-turned codes later) ∙ two-append eqb later codes ∙ rw (in-both, ← two-kept r)
+      two-permuted eqb eqb-turned (append-turned codes later) ∙ two-append eqb later codes ∙ rw (in-both, ← two-kept r)
       (round (twoOf eqb later) (someIn part later) (twoOf eqb part))
     where
       round : (x s k : Bool) → ((x || s) || k) ≡ ((k || s) || x)

@@ -9,10 +9,12 @@ use lib.IntN.{ℤ}
 use lib.ListN.{length, set, take, drop, length-set, length-append}
 use lib.Seq.{length-take-le, take-suc-set, take-at, length-front}
 use borrow.Author.Needs.{needs}
-use borrow.Author.Tests.{le-leb, eqb-true, eqb-false, eq-eqb, ne-eqb}
+use borrow.Author.Tests.{le-leb}
 use Rattle.lists.specs.Lists.{all, any, count, twoOf, each}
 use Rattle.lists.specs.Laws.Lists.{all-append, count-append, two-append, any-each, any-same}
-use Rattle.lists.specs.Laws.Booleans.{and-left, and-both, or-left, or-right, clash}
+use Rattle.lists.specs.Laws.Booleans.{and-left, and-both, or-right, clash}
+use Rattle.lists.specs.Laws.Numbers.{eqb-turned}
+use Rattle.lists.specs.Laws.Reordered.{once}
 use Rattle.grammar.specs.Bytes.{between}
 use Rattle.nodes.specs.declared.Kid.{Kid}
 use Rattle.nodes.specs.declared.Kid.the-variants.{Child, Done}
@@ -126,24 +128,6 @@ taken-less {text} {from} {work} {n} {next} t e u =
 
 -- ---- Those of a list that stand in the table, counted over the turns.
 
-never-two : (a c : ℕ) (l : List ℕ) → any (eqb a) l ≡ false → a ≡ c → count (λ y. eqb y c) l ≡ 0
-unfolding any count
-never-two a c [] h e = refl
-never-two a c (y ∷ l) h e =
-    let r = never-two a c l (or-right (eqb a y) (any (eqb a) l) h) e in
-    rw (ne-eqb y c (λ f. eqb-false a y (or-left (eqb a y) (any (eqb a) l) h) (e ∙ sym f))) (omega arith)
-
-pub once : (c : ℕ) (l : List ℕ) → twoOf eqb l ≡ false → count (λ y. eqb y c) l ≤ 1
-unfolding twoOf count
-once c [] h = omega arith
-once c (a ∷ l) h = go (eqb a c) refl (once c l (or-right (any (eqb a) l) (twoOf eqb l) h))
-  where
-    go : (b : Bool) → eqb a c ≡ b → count (λ y. eqb y c) l ≤ 1 → cond b 1 0 + count (λ y. eqb y c) l ≤ 1
-    go true e on =
-        let z = never-two a c l (or-left (any (eqb a) l) (twoOf eqb l) h) (eqb-true a c e) in
-        omega arith
-    go false e on = omega arith
-
 -- of two numbers one is 0, and the other 0 or 1
 one-of : (x y : ℕ) → x + y ≤ 1 → cond (leb 1 (x + y)) 1 0 ≡ cond (leb 1 x) 1 0 + cond (leb 1 y) 1 0
 one-of zero zero h = refl
@@ -177,17 +161,10 @@ known-none (c ∷ l) = let r = known-none l in omega arith
 
 -- ---- A key stands in the table where its code does.
 
-pub turned : (x y : ℕ) → eqb x y ≡ eqb y x
-turned x y = go (eqb x y) refl
-  where
-    go : (b : Bool) → eqb x y ≡ b → b ≡ eqb y x
-    go true e = sym (eq-eqb y x (sym (eqb-true x y e)))
-    go false e = sym (ne-eqb y x (λ f. eqb-false x y e (sym f)))
-
 pub member-any : (c : ℕ) (l : List ℕ) → member c l ≡ any (eqb c) l
 unfolding member count any
 member-any c [] = refl
-member-any c (y ∷ l) = go (eqb y c) (turned y c) (member-any c l)
+member-any c (y ∷ l) = go (eqb y c) (eqb-turned y c) (member-any c l)
   where
     go : (b : Bool) → b ≡ eqb c y → member c l ≡ any (eqb c) l → leb 1 (cond b 1 0 + count (λ z. eqb z c) l) ≡ (eqb c y || any (eqb c) l)
     go true e on = rw (← e) (le-leb 1 (1 + count (λ z. eqb z c) l) (omega arith))

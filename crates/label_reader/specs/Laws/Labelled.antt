@@ -32,6 +32,7 @@ use Rattle.inside.specs.Laws.Walked.{Stood, none, one, children-stood, Agrees}
 use Rattle.inside.specs.Laws.Walked.{not-there, stands-there}
 use Rattle.inside.specs.Treads.{called}
 use Rattle.inside.specs.Laws.Treads.{called-alike}
+use Rattle.map_names.specs.Laws.Treads.{thence-at}
 use Rattle.label_reader.specs.Way.{tableWay, labelOf, toLabel, labelWay}
 
 -- ---- What a found Label says of the keys.
@@ -92,11 +93,6 @@ module _ (key : ℤ) (e : Element) where
 
 -- ---- The way by places.
 
-at-end : (r : Found) → thence (λ k. At k) r ≡ r
-unfolding thence
-at-end Nothing = refl
-at-end (At k) = refl
-
 walked-on : (w v : List Step) (text : List ℕ) (at : ℕ) → walked (w ++ v) text at ≡ thence (walked v text) (walked w text at)
 unfolding walked thence
 walked-on [] v text at = refl
@@ -152,7 +148,7 @@ module _ (key : ℤ) (text : List ℕ) where
   unfolding labelWith labels labelsFrom walked toLabel childAt keysRight labelsOf children
   label-places {t} st f =
       ap (nthPlace 0) (same-places (children-stood st) f)
-      ∙ sym (at-end (nthPlace 0 (wanted (placesFrom text (first text t)))))
+      ∙ sym (thence-at (nthPlace 0 (wanted (placesFrom text (first text t)))))
 
 pub label-way : (text : List ℕ) (d i : ℕ) (key : ℤ) {t : ℕ} → Stands text t → keysRight (the text t) ≡ true
     → wayAt (tableWay d i) text ≡ At t → {k : ℕ} → labelWith key text t ≡ At k → wayAt (labelWay d i key) text ≡ At k

@@ -9,8 +9,8 @@ use Prim.Native.Nat.{ℕ}
 use lib.IntN.{ℤ}
 use lib.ListN.{length}
 use Rattle.lists.specs.Lists.{there}
-use Rattle.lists.specs.Refusals.{Refusal, _when_, first, positive, NoneApplies, none-left, passed}
-use Rattle.lists.specs.Laws.Refusals.{first-kept, first-none, given-none}
+use Rattle.lists.specs.Refusals.{Refusal, _when_, first, positive, NoneApplies}
+use Rattle.lists.specs.Laws.Refusals.{first-kept, first-none, given-none, none-front}
 use Rattle.grammar.specs.Bytes.{ascii}
 use Rattle.grammar.specs.Document.{Element}
 use Rattle.grammar.specs.Parser.{parse}
@@ -33,10 +33,6 @@ use Rattle.map_names.specs.Laws.Reached.{listed-once}
 use Rattle.label_reader.specs.Way.{tableWay}
 use Rattle.label_reader.specs.Before.{rowsBefore, numberBefore}
 use Rattle.label_reader.specs.Laws.Found.{TableOf, no-table, a-table, table-of}
-
-none-front : (l k : List Refusal) → NoneApplies (l ++ k) → NoneApplies l
-none-front [] k h = none-left
-none-front (n when b ∷ l) k (passed h) = passed (none-front l k h)
 
 module _ (text lengths : List ℕ) (d i : ℕ) where
   abbrev rows : List Refusal

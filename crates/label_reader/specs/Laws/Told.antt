@@ -13,8 +13,8 @@ use lib.ListN.{length, getD, drop, List·getD-append}
 use Rattle.lists.specs.Lists.{any, count, twoOf, each, there}
 use Rattle.lists.specs.Laws.Booleans.{both-ways}
 use Rattle.lists.specs.Laws.Lists.{length-each}
-use Rattle.lists.specs.Refusals.{Refusal, _when_, first, positive, NoneApplies, none-left, passed}
-use Rattle.lists.specs.Laws.Refusals.{given-none, row-fails}
+use Rattle.lists.specs.Refusals.{Refusal, _when_, first, positive, NoneApplies, passed}
+use Rattle.lists.specs.Laws.Refusals.{given-none, row-fails, none-front}
 use Rattle.grammar.specs.Document.{Element}
 use Rattle.grammar.specs.Grammar.{Writes}
 use Rattle.grammar.specs.Look.{withinOf}
@@ -36,10 +36,6 @@ use Rattle.label_reader.specs.Laws.Found.{TableOf, no-table, a-table, ta
 use Rattle.label_reader.specs.Told.{KeysTold, LabelTold}
 use Rattle.label_reader.specs.Laws.Once.{keys-once}
 use Rattle.label_reader.specs.Laws.Only.{only-label}
-
-none-front : (l k : List Refusal) → NoneApplies (l ++ k) → NoneApplies l
-none-front [] k h = none-left
-none-front (n when b ∷ l) k (passed h) = passed (none-front l k h)
 
 none-back : (l k : List Refusal) → NoneApplies (l ++ k) → NoneApplies k
 none-back [] k h = h

@@ -11,10 +11,11 @@ use mir.Syntax.{w32, w64}
 use mir.Val.{Fits, SFits, toZ, ofZ}
 use mir.ValLaws.{toZ-ofZ}
 use borrow.Author.Needs.{needs}
-use borrow.Author.Tests.{eqb-true, eqb-false, eq-eqb, ne-eqb, le-ltb}
+use borrow.Author.Tests.{ne-eqb, le-ltb}
 use Rattle.lists.specs.Lists.{twoOf, each}
 use Rattle.lists.specs.Laws.Lists.{two-same, two-each}
 use Rattle.lists.specs.Laws.Booleans.{and-right}
+use Rattle.lists.specs.Laws.Numbers.{eqb-same}
 use Rattle.grammar.specs.Bytes.{ascii}
 use Rattle.grammar.specs.Look.{Word}
 use Rattle.nodes.specs.Found.{value-at-name}
@@ -54,23 +55,15 @@ pub code-small : (text : List ℕ) (k : ℕ) → codeHere text k < 2 ^ 32
 unfolding codeHere
 code-small text k = small (keyHere text k) (here-in text k)
 
--- one and the same
-same-test : (x y u v : ℕ) → (x ≡ y → u ≡ v) → (u ≡ v → x ≡ y) → eqb x y ≡ eqb u v
-same-test x y u v f g = go (eqb x y) refl
-  where
-    go : (b : Bool) → eqb x y ≡ b → eqb x y ≡ eqb u v
-    go true h = h ∙ sym (eq-eqb u v (f (eqb-true x y h)))
-    go false h = h ∙ sym (ne-eqb u v (λ e. eqb-false x y h (g e)))
-
 pub code-same : (a b : ℤ) → inKeys a ≡ true → inKeys b ≡ true → sameKey a b ≡ eqb (codeOf a) (codeOf b)
 unfolding sameKey codeOf
-code-same (pos m) (pos n) h k = same-test m n (2147483648 + m) (2147483648 + n) (λ e. omega arith) (λ e. omega arith)
+code-same (pos m) (pos n) h k = eqb-same m n (2147483648 + m) (2147483648 + n) (λ e. omega arith) (λ e. omega arith)
 code-same (pos m) (negsuc n) h k = sym (ne-eqb (2147483648 + m) (2147483647 - n) (λ e. omega arith))
 code-same (negsuc m) (pos n) h k = sym (ne-eqb (2147483647 - m) (2147483648 + n) (λ e. omega arith))
 code-same (negsuc m) (negsuc n) h k =
     let a = below-in m h in
     let b = below-in n k in
-    same-test m n (2147483647 - m) (2147483647 - n) (λ e. omega arith) (λ e. omega arith)
+    eqb-same m n (2147483647 - m) (2147483647 - n) (λ e. omega arith) (λ e. omega arith)
 
 pub twice-codes : (text : List ℕ) (at : ℕ) → twiceAt text at ≡ twoOf eqb (codesAt text at)
 unfolding twiceAt keysAt codesAt codeHere

@@ -11,7 +11,7 @@ use mir.Val.{SFits, toZ, ofZ}
 use mir.ValLaws.{toZ-ofZ}
 use borrow.Author.Needs.{needs}
 use Rattle.lists.specs.Lists.{all, those, each}
-use Rattle.lists.specs.Laws.Lists.{length-each}
+use Rattle.lists.specs.Laws.Lists.{length-each, few-those}
 use Rattle.lists.specs.Laws.Booleans.{clash}
 use Rattle.grammar.specs.Bytes.{ascii}
 use Rattle.nodes.specs.Names.{named}
@@ -147,15 +147,6 @@ unfolding placesWithin
 few-within zero text kid = omega arith
 few-within (suc m) text Done = omega arith
 few-within (suc m) text (Child k) = let h = few-within m text (next text k) in omega arith
-
-few-those : (p : ℕ → Bool) (l : List ℕ) → length (those p l) ≤ length l
-unfolding those
-few-those p [] = omega arith
-few-those p (a ∷ l) = go (p a) (few-those p l)
-  where
-    go : (b : Bool) → length (those p l) ≤ length l → length (cond b (a ∷ those p l) (those p l)) ≤ length (a ∷ l)
-    go true h = omega arith
-    go false h = omega arith
 
 pub few-labels : (text : List ℕ) (at : ℕ) → length (labels text at) ≤ suc (length text)
 unfolding labels labelsFrom placesFrom

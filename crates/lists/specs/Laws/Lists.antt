@@ -2,11 +2,11 @@
 use mathlib.Core.Path.{_≡_, refl, ap, ap₂, _∙_}
 use mathlib.Core.List.{List, [], _∷_, _++_}
 use mathlib.Core.Bool.{Bool, true, false, _&&_, _||_, cond}
-use Prim.Native.Nat.{ℕ, suc, _+_}
+use Prim.Native.Nat.{ℕ, suc, _+_, _≤_}
 use native.Mathlib.Omega.{arith}
 use lib.ListN.{length}
-use Rattle.lists.specs.Lists.{all, any, count, twoOf, total, each, eachIn}
-use Rattle.lists.specs.Laws.Booleans.{and-assoc, or-assoc}
+use Rattle.lists.specs.Lists.{all, any, those, count, twoOf, total, each, eachIn}
+use Rattle.lists.specs.Laws.Booleans.{and-assoc, or-assoc, and-left, and-right}
 
 -- ---- Tests that agree.
 
@@ -118,6 +118,39 @@ none-counted p (a ∷ l) h = go (p a) h (none-counted p l)
     go : (b : Bool) → cond b 1 0 + count p l ≡ 0 → (count p l ≡ 0 → any p l ≡ false) → (b || any p l) ≡ false
     go true k ih = absurd (omega arith)
     go false k ih = ih (omega arith)
+
+pub count-most : {A : Type 0} (p : A → Bool) (l : List A) → count p l ≤ length l
+unfolding count
+count-most p [] = omega arith
+count-most p (a ∷ l) = go (p a) (count-most p l)
+  where
+    go : (b : Bool) → count p l ≤ length l → cond b 1 0 + count p l ≤ suc (length l)
+    go true h = omega arith
+    go false h = omega arith
+
+pub few-those : {A : Type 0} (p : A → Bool) (l : List A) → length (those p l) ≤ length l
+unfolding those
+few-those p [] = omega arith
+few-those p (a ∷ l) = go (p a) (few-those p l)
+  where
+    go : (b : Bool) → length (those p l) ≤ length l → length (cond b (a ∷ those p l) (those p l)) ≤ length (a ∷ l)
+    go true h = omega arith
+    go false h = omega arith
+
+-- all pass exactly where as many pass as there are
+pub all-counted : {A : Type 0} (p : A → Bool) (l : List A) → all p l ≡ true → count p l ≡ length l
+unfolding all count
+all-counted p [] h = refl
+all-counted p (a ∷ l) h = let r = all-counted p l (and-right (p a) (all p l) h) in rw (and-left (p a) (all p l) h) (omega arith)
+
+pub counted-all : {A : Type 0} (p : A → Bool) (l : List A) → count p l ≡ length l → all p l ≡ true
+unfolding all count
+counted-all p [] h = refl
+counted-all p (a ∷ l) h = go (p a) h (counted-all p l)
+  where
+    go : (b : Bool) → cond b 1 0 + count p l ≡ suc (length l) → (count p l ≡ length l → all p l ≡ true) → (b && all p l) ≡ true
+    go true c on = on (omega arith)
+    go false c on = let m = count-most p l in absurd (omega arith)
 
 pub any-in : {A B : Type 0} (p : B → Bool) (f : A → List B) (l : List A) → any p (eachIn f l) ≡ any (λ a. any p (f a)) l
 unfolding any eachIn

@@ -24,6 +24,12 @@ refusal-first (n when false ∷ l) = go (refusal-first l)
     go (none-first h) = none-first (passed h)
     go (this-first before rest h e) = this-first (n when false ∷ before) rest (passed h) (ap (λ k. n when false ∷ k) e)
 
+-- row by row
+pub first-row : (n : ℕ) (b : Bool) (l : List Refusal) → first (n when b ∷ l) ≡ cond b n (first l)
+unfolding first
+first-row n true l = refl
+first-row n false l = refl
+
 -- where no row applies 0 is given, and where 0 is given no row applies
 pub none-given : {l : List Refusal} → NoneApplies l → first l ≡ 0
 unfolding first
@@ -48,6 +54,11 @@ pub rows-past : (n : ℕ) {l : List Refusal} → NoneApplies l → NoneApplies (
 rows-past zero h = h
 rows-past (suc n) none-left = none-left
 rows-past (suc n) (passed h) = rows-past n h
+
+-- of two lists in a row
+pub none-front : (l k : List Refusal) → NoneApplies (l ++ k) → NoneApplies l
+none-front [] k h = none-left
+none-front (n when b ∷ l) k (passed h) = passed (none-front l k h)
 
 pub none-applies : {l : List Refusal} → NoneApplies l → (m : ℕ) → ¬ Applies l m
 none-applies (passed h) m (later a) = none-applies h m a

@@ -4,7 +4,7 @@ use mathlib.Core.Path.{_≡_, refl, sym, ap, _∙_}
 use mathlib.Core.List.{List, [], _∷_, _++_, append-nil}
 use mathlib.Core.Option.{Option, some}
 use mathlib.Core.Option
-use mathlib.Core.Bool.{Bool, true, false, cond, not, _&&_, _||_}
+use mathlib.Core.Bool.{Bool, true, false, cond, not, _&&_}
 use Prim.Native.Nat.{ℕ, zero, suc, _+_, _≤_, _<_}
 use Prim.Native.String.{String}
 use native.Mathlib.Omega.{arith}
@@ -23,6 +23,7 @@ use Rattle.cifti.specs.Rows.{cifti, matrix}
 use Rattle.cifti.specs.Maps.{Map, mapOf, mapsOf, dimensionsOf, mapElements}
 use Rattle.cifti.specs.Conditions.{listedDimensions, dimensionsWrong}
 use Rattle.cifti.specs.Names.{holdsName, noName, namesOn}
+use Rattle.cifti.specs.Laws.Meaning.{split}
 use Rattle.maps.specs.Good.{Good}
 use Rattle.maps.specs.Laws.Kinds.{OnlyChild, root-child}
 use Rattle.maps.specs.Laws.MapKind.{map-dimensions}
@@ -34,10 +35,6 @@ use Rattle.map_names.specs.Way.{ofName, listsDimension, mapThatLists, in
 use Rattle.map_names.specs.Laws.Held.{Named, no-named, one-named, each-named, holds-so}
 
 -- ---- Condition 8 does not apply: no dimension is listed twice.
-
-split : (x y : Bool) → (not x || y) ≡ false → (x ≡ true) × (y ≡ false)
-split true y h = (refl, h)
-split false y h = both-ways refl h
 
 pub listed-once : (lengths : List ℕ) (l : List Map) → dimensionsWrong lengths l ≡ false → (d : ℕ) → count (eqb d) (listedDimensions l) ≤ 1
 unfolding dimensionsWrong

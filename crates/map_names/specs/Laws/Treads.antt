@@ -73,7 +73,7 @@ seeking-first go e q t = seeking-found go e q t refl
 
 pub ruleset first-map = (seeking-start, seeking-done, seeking-less, seeking-off, seeking-first, needs)
 
-thence-at : (f : Found) → thence (λ k. At k) f ≡ f
+pub thence-at : (f : Found) → thence (λ k. At k) f ≡ f
 unfolding thence
 thence-at Nothing = refl
 thence-at (At k) = refl

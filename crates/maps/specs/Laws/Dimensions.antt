@@ -12,6 +12,7 @@ use Rattle.grammar.specs.Bytes.{between}
 use Rattle.grammar.specs.Laws.Facts.{and-left, and-right, within}
 use Rattle.grammar.specs.Look.{Word}
 use Rattle.numbers.specs.Numbers.{digit, digits, number, value, onFirst, parts, comma, dimensionList, commaValues}
+use Rattle.numbers.specs.Laws.Cuts.{digit-in, digit-no-comma}
 
 -- a list in form: a digit; a digit, a comma and a list
 pub data Listing : Word → Type 0 where
@@ -51,14 +52,6 @@ parts-other a w h = rw h
 comma-is : (a : ℕ) → comma a ≡ true → a ≡ 44
 unfolding comma
 comma-is a h = eqb-true a 44 h
-
-digit-in : (a : ℕ) → digit a ≡ true → (48 ≤ a) × (a ≤ 57)
-unfolding digit
-digit-in a h = within 48 57 a h
-
-digit-comma : (a : ℕ) → digit a ≡ true → comma a ≡ false
-unfolding comma
-digit-comma a h = let k = digit-in a h in ne-eqb a 44 (λ e. omega arith)
 
 -- the first part of what follows a digit is nothing
 after : (a : ℕ) (w : Word) → all (digits 1 1) (parts comma (a ∷ w)) ≡ true → (digit a ≡ true) × (l : List Word)
@@ -120,9 +113,9 @@ digit-value a h = omega arith
 
 said-of : {w : Word} → Listing w → each value (parts comma w) ≡ digitSays w
 unfolding each onFirst digitSays comma
-said-of (last-digit {a} d) = rw (parts-other a [] (digit-comma a d), parts-none, digit-value a d, digit-comma a d)
+said-of (last-digit {a} d) = rw (parts-other a [] (digit-no-comma a d), parts-none, digit-value a d, digit-no-comma a d)
 said-of (and-then {a} {w} d r) =
-    rw (parts-other a (44 ∷ w) (digit-comma a d), parts-comma w, digit-value a d, digit-comma a d)
+    rw (parts-other a (44 ∷ w) (digit-no-comma a d), parts-comma w, digit-value a d, digit-no-comma a d)
     (ap (λ l. (a - 48) ∷ l) (said-of r ∙ sym (said-comma w)))
   where
     said-comma : (w : Word) → digitSays (44 ∷ w) ≡ digitSays w
@@ -144,11 +137,11 @@ digit-same a d h = let k = digit-in a h in go (eqb (d + 48) a) refl
 
 said-last : (a : ℕ) → digit a ≡ true → digitSays (a ∷ []) ≡ (a - 48) ∷ []
 unfolding digitSays
-said-last a h = rw (digit-comma a h)
+said-last a h = rw (digit-no-comma a h)
 
 said-then : (a : ℕ) (w : Word) → digit a ≡ true → digitSays (a ∷ 44 ∷ w) ≡ (a - 48) ∷ digitSays w
 unfolding digitSays comma
-said-then a w h = rw (digit-comma a h)
+said-then a w h = rw (digit-no-comma a h)
 
 count-said : {w : Word} → Listing w → (d : ℕ) → count (eqb d) (digitSays w) ≡ count (eqb (d + 48)) w
 unfolding count

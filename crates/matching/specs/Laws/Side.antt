@@ -21,7 +21,7 @@ use Rattle.comparison.specs.Tagged.{tagged, placeIn}
 use Rattle.comparison.specs.Laws.Counts.{formed-most}
 use Rattle.comparison.specs.Laws.Held.{held-long, held-small, held-at}
 use Rattle.comparison.specs.Laws.Sums.{below-most, below-yes, below-no}
-use Rattle.comparison.specs.Laws.Matched.{count-most}
+use Rattle.lists.specs.Laws.Lists.{count-most}
 use Rattle.comparison.specs.Laws.Pairs.{Side, side-start, side-room, first-aside, second-aside, pair-taken, side-end}
 use Rattle.matching.specs.declared.walking.Step.{Step}
 use Rattle.matching.specs.declared.walking.Step.the-variants.{Pair, First, Second}

@@ -5,7 +5,8 @@ use mathlib.Core.Bool.{Bool, true, false, _&&_}
 use Prim.Native.Nat.{ℕ, _+_, _<_, _≤_}
 use native.Mathlib.Omega.{arith}
 use lib.Dec.{eqb}
-use borrow.Author.Tests.{eqb-true, eq-eqb, ne-eqb, eqb-false}
+use borrow.Author.Tests.{ne-eqb}
+use Rattle.lists.specs.Laws.Numbers.{eqb-same}
 use Rattle.grammar.specs.Document.{Element}
 use Rattle.grammar.specs.Look.{attr}
 use Rattle.nodes.specs.Places.{Stands, the}
@@ -29,13 +30,6 @@ use Rattle.maps.specs.Laws.Fields.{word-at}
 use Rattle.models.specs.Kind.{ModelAt}
 
 -- ---- Alike is the same number.
-
-eqb-same : (a b c d : ℕ) → (a ≡ b → c ≡ d) → (c ≡ d → a ≡ b) → eqb a b ≡ eqb c d
-eqb-same a b c d f g = go (eqb a b) refl
-  where
-    go : (t : Bool) → eqb a b ≡ t → t ≡ eqb c d
-    go true e = sym (eq-eqb c d (f (eqb-true a b e)))
-    go false e = sym (ne-eqb c d (λ z. eqb-false a b e (g z)))
 
 pub alike-number : (a b : Model) → a .structure < 32 → b .structure < 32 → alike a b ≡ eqb (typeAndStructure a) (typeAndStructure b)
 unfolding alike typeAndStructure sameType typeNumber

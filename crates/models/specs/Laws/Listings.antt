@@ -43,7 +43,7 @@ unfolding listsCount numbersOf
 counts-none n (vertices s l) h e = ne-eqb (length l) n (λ z. omega (arith, ap length e))
 counts-none n (voxels l) h e = ne-eqb (length l) (3 * n) (λ z. omega (arith, ap length e))
 
-count-some : {e : Element} → GoodModel e → 1 ≤ (modelOf e) .count
+pub count-some : {e : Element} → GoodModel e → 1 ≤ (modelOf e) .count
 unfolding modelOf
 count-some {e} g = whole-within 1 1048576 (attr "IndexCount" e) (model-facts g .count) .0
 

@@ -17,7 +17,7 @@ use Rattle.grammar.specs.Read.{Read, fail, got, Reader, bind, byte, mark, all-o
 use Rattle.grammar.specs.Laws.Read.{Ok, good, ok-got, byte-sound}
 use Rattle.grammar.specs.Parser.{reference-at, line-end-at, value-character-at, value-at}
 use Rattle.grammar.specs.Laws.Sound.{reference-sound, value-character-sound, value-character-whole}
-use Rattle.grammar.specs.Laws.Tokens.{reference-complete, reference-other, reference-ampersand, Ampersand, ampersand}
+use Rattle.grammar.specs.Laws.Tokens.{reference-complete, reference-other, reference-ampersand, ampersand-long}
 use Rattle.grammar.specs.Laws.Tokens.{line-end-other, value-character-long, high-no-blank}
 use lib.Seq.{drop-drop, getD-drop}
 use Rattle.grammar.specs.Laws.Facts.{blank-in, quote-in, no-return}
@@ -44,9 +44,6 @@ or-else-short : (s : List ℕ) (m : Read (List ℕ)) (n : Next) → Ok (λ _ r. 
 unfolding or-else
 or-else-short s fail n h k = k
 or-else-short s (got b r) n (good h) k = one-short h
-
-ampersand-long : {w : List ℕ} → Ampersand w → 0 < length w
-ampersand-long (ampersand w) = omega arith
 
 pub next-short : (q : ℕ) (s : List ℕ) → ShorterNext s (next-byte q s)
 unfolding next-byte bare-byte

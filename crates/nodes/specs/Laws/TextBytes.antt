@@ -20,7 +20,7 @@ use Rattle.grammar.specs.Parser.{reference-at, line-end-at, comment-at, data-at
 use Rattle.grammar.specs.Parser.{look, look-if, look₂, look-by, look₃, look-third}
 use Rattle.grammar.specs.Laws.Sound.{reference-sound, data-sound}
 use Rattle.grammar.specs.Laws.Data.{open-apart, data-character-long}
-use Rattle.grammar.specs.Laws.Tokens.{reference-complete, reference-other, reference-ampersand, Ampersand, ampersand, line-end-other}
+use Rattle.grammar.specs.Laws.Tokens.{reference-complete, reference-other, reference-ampersand, ampersand-long, line-end-other}
 use Rattle.grammar.specs.Unfuelled.{contents}
 use Rattle.grammar.specs.Laws.Unfuelled.{less}
 use Rattle.steps.specs.Leaves.{first-byte}
@@ -67,9 +67,6 @@ bare-short : (side : List ℕ → Rest) → Side side → (a : ℕ) (s : List �
 unfolding bare-char
 bare-short side k a s = referring-short side k (length (a ∷ s)) (line-end-at (ascii "\n") (a ∷ s)) (char a (side s))
     (line-end-eats (ascii "\n") (a ∷ s)) (char-short {r = side s} (rw (k s) (omega arith)))
-
-ampersand-long : {w : List ℕ} → Ampersand w → 0 < length w
-ampersand-long (ampersand w) = omega arith
 
 mark-eats : (a : ℕ) (k s : List ℕ) → Ok (λ _ r. length r < length s) (mark (a ∷ k) s)
 mark-eats a k s = ok-map (mark-sound (a ∷ k) s) λ _ r e. omega (arith, ap length e, length-append k r)

@@ -13,6 +13,7 @@ use lib.Seq.{drop-cons}
 use borrow.Author.Needs.{needs}
 use borrow.Author.Tests.{lt-ltb, le-ltb, le-leb, lt-leb, eq-eqb, ne-eqb, leb-true, not-false}
 use Rattle.lists.specs.Lists.{any, eachIn, those, there, isSome}
+use Rattle.lists.specs.Laws.Refusals.{first-row}
 use Rattle.grammar.specs.Document.{Element}
 use Rattle.grammar.specs.Look.{is, nameOf, contentsOf, elements, children}
 use Rattle.grammar.specs.Parser.{parse}
@@ -105,11 +106,6 @@ unfolding children those
 matrix-one e m h n = rw (h, n)
 
 -- ---- The header's conditions, row by row.
-
-first-row : (n : ℕ) (b : Bool) (l : List C.Refusal) → C.first (n when b ∷ l) ≡ cond b n (C.first l)
-unfolding C.first
-first-row n true l = refl
-first-row n false l = refl
 
 root-rows : (a b c d f g h : Bool) (l : List C.Refusal)
     → C.first (1 when a ∷ 2 when b ∷ 3 when c ∷ 4 when d ∷ 5 when f ∷ 6 when g ∷ 7 when h ∷ l)

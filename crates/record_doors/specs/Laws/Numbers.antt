@@ -15,7 +15,7 @@ use Rattle.lists.specs.Laws.Quantifiers.{allBelow-iff}
 use Rattle.lists.specs.Laws.Tables.{up-one, up-done, up-all, size-of-table}
 use Rattle.records.specs.Fill.{wrote, wrote-none, wrote-one, wrote-on, length-wrote}
 use Rattle.records.specs.Outcome.{unless, outcome}
-use Rattle.records.specs.Laws.Numbers.{eq?}
+use Rattle.lists.specs.Laws.Numbers.{eq?}
 use Rattle.records.specs.declared.counters.Index.{Index}
 use Rattle.shortlist.specs.Runs.{runs, kindOf}
 use Rattle.shortlist.specs.Making.{listRefusal}

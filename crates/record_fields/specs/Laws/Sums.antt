@@ -12,7 +12,7 @@ use borrow.Author.Tests.{eq-eqb, ne-eqb, le-leb, lt-leb, lt-ltb, le-ltb}
 use Rattle.records.specs.Limits.{mostVertex}
 use Rattle.records.specs.Width.{Width, recordBits}
 use Rattle.records.specs.Record.{legalIn}
-use Rattle.records.specs.Laws.Numbers.{lt?}
+use Rattle.lists.specs.Laws.Numbers.{lt?}
 use Rattle.records.specs.Laws.Fields.{above}
 use Rattle.records.specs.Laws.Record.{Sound}
 use Rattle.records.specs.Laws.Widths.{legal-low, legal-high}

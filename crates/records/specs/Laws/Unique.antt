@@ -9,7 +9,7 @@ use lib.ListN.{length, take, replicate}
 use Rattle.records.specs.Width.{Width, five}
 use Rattle.records.specs.Record.{onSurface, inVolume, recordOf, wrapped, isVoxel, structureOf, payloadOf, iOf, jOf, kOf, keyOf}
 use Rattle.records.specs.Record.{legalRecord, legalIn, widened}
-use Rattle.records.specs.Laws.Numbers.{eq?, lt?}
+use Rattle.lists.specs.Laws.Numbers.{eq?, lt?}
 use Rattle.records.specs.Sheet.{PacksIn, UnpacksIn, packedInto, unpackedInto}
 use Rattle.records.specs.Find.{FirstPlace, Finds}
 use Rattle.records.specs.Repeat.{Checks}
@@ -69,7 +69,7 @@ unpack-unique {v} {w} s before a b x y p q =
     let e : a ≡ b = p .answers ∙ sym (q .answers) in
     (e, p .holds ∙ ap (λ (o : Outcome). unpackedInto v w (o .number) s before) e ∙ sym (q .holds))
 
-same-place : (rs : List ℕ) (x p q : ℕ) → FirstPlace rs x p → FirstPlace rs x q → p ≡ q
+pub same-place : (rs : List ℕ) (x p q : ℕ) → FirstPlace rs x p → FirstPlace rs x q → p ≡ q
 same-place rs x p q f g =
     ⊎-elim (λ (h : p < q). absurd (g .absent p h (f .stands)))
     (λ (h : q ≤ p). ⊎-elim (λ (k : q < p). absurd (f .absent q k (g .stands))) (λ (k : p ≤ q). omega arith) (lt? q p)) (lt? p q)

@@ -34,7 +34,7 @@ use Rattle.schema.specs.Walked.{AllListed}
 use Rattle.schema.specs.Laws.Searches.{among-found}
 
 -- A NAME AMONG THOSE OF ATTRIBUTES
-by-name : (n : ℕ) (s : String) (f : Form) → rowName (attributeBy n s f) ≡ s
+pub by-name : (n : ℕ) (s : String) (f : Form) → rowName (attributeBy n s f) ≡ s
 unfolding attributeBy rowName
 by-name zero s f = refl
 by-name (suc n) s f = refl

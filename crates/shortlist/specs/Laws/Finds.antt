@@ -17,7 +17,7 @@ use Rattle.lists.specs.Laws.Booleans.{or-left, or-right, or-first, or-second, o
 use Rattle.lists.specs.Laws.Booleans.{refute}
 use Rattle.records.specs.Record.{isVoxel, structureOf, legalRecord}
 use Rattle.records.specs.Find.{FirstPlace, Finds, findRefusal}
-use Rattle.records.specs.Laws.Numbers.{eq?}
+use Rattle.lists.specs.Laws.Numbers.{eq?}
 use Rattle.records.specs.declared.search.Found.{Found}
 use Rattle.shortlist.specs.Runs.{kindNumber, kindOf, kindIn, alike, runs, comesBack}
 use Rattle.shortlist.specs.Asking.{pastEnd, holdsIndex, ofKind, the, stretch, isRecord, ownStretch}
@@ -25,7 +25,7 @@ use Rattle.shortlist.specs.Asking.{soughtNumber, soughtIndex, seekRefusa
 use Rattle.shortlist.specs.Laws.Location.{legal-is-record}
 use Rattle.shortlist.specs.Laws.Search.{the-cons, the-has-not}
 use Rattle.shortlist.specs.Laws.Answers.{none-past}
-use Rattle.shortlist.specs.Laws.Unique.{first-once}
+use Rattle.records.specs.Laws.Unique.{same-place}
 use Rattle.shortlist.specs.Laws.Theorems.{WasMade, HeldAs, list-good, held-as}
 use Rattle.shortlist.specs.declared.answer.Model.{Model}
 use Rattle.shortlist.specs.declared.answer.Sought.{Sought}
@@ -162,7 +162,7 @@ module _ (rs : List ℕ) (made : WasMade rs) (x : ℕ) where
   place-is answer p s f z =
       let w = s .found z in
       let (a, b) = held p (f .inside) (f .stands) in
-      let e = first-once (ownStretch (runs rs) rs x) x (w .place) (p - own .first .0) (w .first-place) (first-in p f) in
+      let e = same-place (ownStretch (runs rs) rs x) x (w .place) (p - own .first .0) (w .first-place) (first-in p f) in
       let i : own .first .0 + (p - own .first .0) ≡ p = omega arith in
       w .index-is ∙ ap (λ n. own .first .0 + n) e ∙ i
 

@@ -17,7 +17,7 @@ use Rattle.lists.specs.Laws.Tables.{size-of-table}
 use Rattle.records.specs.Outcome.{unless, ends, applies, passes, gives-first}
 use Rattle.records.specs.Record.{legalRecord}
 use Rattle.records.specs.Sheet.{goodCount}
-use Rattle.records.specs.Laws.Numbers.{eq?}
+use Rattle.lists.specs.Laws.Numbers.{eq?}
 use Rattle.shortlist.specs.Runs.{runs, comesBack, laid}
 use Rattle.shortlist.specs.Making.{listRefusal, listedNumber, listedCount, Lists}
 use Rattle.shortlist.specs.Asking.{noModel}

@@ -3,13 +3,12 @@ use mathlib.Core.Path.{_≡_, refl, sym, ap, _∙_}
 use mathlib.Core.Bool.{Bool, true, false, cond}
 use mathlib.Core.List.{List}
 use mathlib.Core.Logic.{⊎-elim}
-use Prim.Native.Nat.{ℕ, _+_, _<_, _≤_}
-use native.Mathlib.Omega.{arith}
+use Prim.Native.Nat.{ℕ, _+_}
 use lib.Dec.{eqb}
 use lib.ListN.{length}
 use Rattle.records.specs.Outcome.{unless}
-use Rattle.records.specs.Find.{FirstPlace}
-use Rattle.records.specs.Laws.Numbers.{eq?, lt?}
+use Rattle.records.specs.Laws.Unique.{same-place}
+use Rattle.lists.specs.Laws.Numbers.{eq?}
 use Rattle.shortlist.specs.Runs.{runs, kindOf, laid}
 use Rattle.shortlist.specs.Making.{listedNumber, listedCount, Lists}
 use Rattle.shortlist.specs.Made.{listedBy}
@@ -58,11 +57,6 @@ told-unique l n a b p q =
     sym (told-back a) ∙ ap (λ i. toldBy i (toldVoxels a) (toldStructure a)) k ∙ ap (λ i. toldBy (toldNumber b) i (toldStructure a)) v
     ∙ ap (toldBy (toldNumber b) (toldVoxels b)) s ∙ told-back b
 
-pub first-once : (rs : List ℕ) (x p q : ℕ) → FirstPlace rs x p → FirstPlace rs x q → p ≡ q
-first-once rs x p q f g =
-    ⊎-elim (λ (h : p < q). absurd (g .absent p h (f .stands)))
-    (λ (h : q ≤ p). ⊎-elim (λ (k : q < p). absurd (f .absent q k (g .stands))) (λ (k : p ≤ q). omega arith) (lt? q p)) (lt? p q)
-
 soughtBy : ℕ → ℕ → Sought
 soughtBy n i = cond (eqb n 26) Sought.BadList (cond (eqb n 19) Sought.Nowhere (Sought.At (record { 0 = i })))
 
@@ -84,5 +78,5 @@ sought-unique l rs x a b p q =
     found u v =
         u .index-is
         ∙ ap (λ k. (the (ofKind (kindOf x)) l) .first .0 + k)
-        (first-once (ownStretch l rs x) x (u .place) (v .place) (u .first-place) (v .first-place))
+        (same-place (ownStretch l rs x) x (u .place) (v .place) (u .first-place) (v .first-place))
         ∙ sym (v .index-is)

@@ -17,7 +17,7 @@ use Rattle.lists.specs.Laws.Quantifiers.{all-iff}
 use Rattle.lists.specs.Laws.Tables.{table-below}
 use Rattle.records.specs.Outcome.{Gives, ends, applies, passes, gives-first}
 use Rattle.records.specs.Record.{legalRecord}
-use Rattle.records.specs.Laws.Numbers.{eq?}
+use Rattle.lists.specs.Laws.Numbers.{eq?}
 use Rattle.shortlist.specs.Runs.{kindOf, kindIn, alike, alone, longer, runsOn, runsFrom, runs, comesBack}
 use Rattle.shortlist.specs.Made.{modelAt, refusedBy, withRun, Sized, RunEnd, RunsOf}
 use Rattle.shortlist.specs.Laws.Named.{again, again-new, again-old, again-done, again-first, flagged, flag-adds, flags-empty}

@@ -5,12 +5,13 @@ use Prim.Native.Nat.{ℕ, zero, suc, _+_, _-_, _≤_, _<_}
 use native.Mathlib.Numerals.{add-one}
 use native.Mathlib.Omega.{arith}
 use mathlib.Core.Bool.{Bool, true, false, not, _&&_, _||_}
-use borrow.Author.Tests.{not-true, not-false, le-leb, lt-leb, ltb-true, ltb-false}
-use lib.Dec.{leb, ltb}
+use borrow.Author.Tests.{not-true, not-false, le-leb, lt-leb}
+use lib.Dec.{leb}
 use mathlib.Core.Logic.{_⊎_, inl, inr}
 use lib.ListN.{length, drop, getD, set, length-append, length-set}
 use lib.Seq.{getD-set-same, getD-set-other}
 use Rattle.lists.specs.Laws.Booleans.{clash, and-false, and-no}
+use Rattle.lists.specs.Laws.Numbers.{lt?}
 use Rattle.grammar.specs.Document.{Attribute, attribute}
 use Rattle.grammar.specs.Read.{Read, fail, got, Reader, bind, test, all-of, many-step}
 use Rattle.grammar.specs.Laws.Read.{test-complete}
@@ -186,18 +187,11 @@ noted-more text starts ends n x y h k =
     let l : n ≤ n = omega arith in
     rw (add-one n, noted, noted-set text starts ends n x y n l, getD-set-same starts n x 0 h, getD-set-same ends n y 0 k)
 
-either : (a b : ℕ) → (a < b) ⊎ (b ≤ a)
-either a b = go (ltb a b) refl
-  where
-    go : (t : Bool) → ltb a b ≡ t → (a < b) ⊎ (b ≤ a)
-    go true e = inl (ltb-true a b e)
-    go false e = inr (ltb-false a b e)
-
 spans-more : (text starts tos : List ℕ) (n from to : ℕ) → n < length starts → n < length tos → Spans text starts tos n → (n ≡ 16 → ⊥)
     → from ≤ to → to ≤ length text
     → Spans text (set starts n from) (set tos n to) (n + 1)
 spans-more text starts tos n from to h₁ h₂ s f a b =
-    record { few = omega (arith, s .few); ahead = λ k l. ahead k l (either k n); inside = λ k l. inside k l (either k n) }
+    record { few = omega (arith, s .few); ahead = λ k l. ahead k l (lt? k n); inside = λ k l. inside k l (lt? k n) }
   where
     ahead : (k : ℕ) → k < n + 1 → (k < n) ⊎ (n ≤ k) → getD (set starts n from) k 0 ≤ getD (set tos n to) k 0
     ahead k l (inl m) = let o : k ≡ n → ⊥ = λ e. omega arith in
@@ -210,7 +204,7 @@ spans-more text starts tos n from to h₁ h₂ s f a b =
 
 here-inside : (text : List ℕ) (i : ℕ) → ends closing (drop i text) ≡ true → i ≤ length text
 unfolding ends
-here-inside text i e = go (either i (length text))
+here-inside text i e = go (lt? i (length text))
   where
     go : (i < length text) ⊎ (length text ≤ i) → i ≤ length text
     go (inl h) = omega arith

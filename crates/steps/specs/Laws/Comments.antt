@@ -9,8 +9,8 @@ use lib.Dec.{eqb}
 use lib.ListN.{length, drop, getD}
 use Rattle.lists.specs.Laws.Booleans.{and-true}
 use Rattle.grammar.specs.Bytes.{ascii, between, begins}
-use Rattle.grammar.specs.Read.{Read, fail, got, bind, byte, mark, alt}
-use Rattle.grammar.specs.Laws.Read.{mark-other, mark-complete}
+use Rattle.grammar.specs.Read.{fail, bind, byte, mark, alt}
+use Rattle.grammar.specs.Laws.Read.{mark-other, mark-complete, alt-fail}
 use Rattle.grammar.specs.Parser.{literal-at, no-dash, plain-at, dashed-at, remark-at, comment-at}
 use Rattle.steps.specs.Step.{stepped}
 use Rattle.steps.specs.Laws.Step.{at-byte, at-end, refuses, fell, went}
@@ -65,11 +65,6 @@ dashed-other a s f = rw (mark-other 45 a [] s (ne-eqb a 45 f))
 dashed-dash : (s : List ℕ) → dashed-at (45 ∷ s) ≡ plain-at s
 unfolding dashed-at bind
 dashed-dash s = rw (mark-complete (ascii "-") s)
-
-alt-fail : {A : Type 0} (m : Read A) {n : Read A} → n ≡ fail → alt m n ≡ m
-unfolding alt
-alt-fail fail e = e
-alt-fail (got a r) e = refl
 
 remark-plain : (n a : ℕ) (s : List ℕ) → (a ≡ 45 → ⊥) → stepped n (remark-at (a ∷ s)) ≡ stepped n (character-at (a ∷ s))
 unfolding remark-at

@@ -10,8 +10,8 @@ use borrow.Author.Tests.{eqb-true}
 use Rattle.lists.specs.Lists.{all}
 use Rattle.grammar.specs.Bytes.{ascii, blank, begins}
 use Rattle.grammar.specs.Characters.{lead1}
-use Rattle.grammar.specs.Read.{Read, fail, got, bind, byte, mark, test, alt}
-use Rattle.grammar.specs.Laws.Read.{mark-other, Ok}
+use Rattle.grammar.specs.Read.{fail, bind, byte, mark, test, alt}
+use Rattle.grammar.specs.Laws.Read.{mark-other, alt-fail, Ok}
 use Rattle.grammar.specs.Parser.{width, width-by, rest-by, rest-at, literal-at, no-dash, plain-at, dashed-at, remark-at, comment-at}
 use Rattle.steps.specs.Leaves.{comment-rest-at}
 use Rattle.steps.specs.Laws.Leaves.{remark-eats}
@@ -38,15 +38,10 @@ goes-on : (s : List ℕ) → begins (ascii "--") s ≡ false → comment-rest-at
 unfolding comment-rest-at
 goes-on s e = until-go (begins (ascii "--")) remark-at (mark (ascii "-->")) remark-eats s e
 
-alt-none : {A : Type 0} (m : Read A) → alt m fail ≡ m
-unfolding alt
-alt-none fail = refl
-alt-none (got a r) = refl
-
 -- a byte that is no dash
 plain-remark : (a : ℕ) (s : List ℕ) → eqb a 45 ≡ false → remark-at (a ∷ s) ≡ plain-at (a ∷ s)
 unfolding remark-at dashed-at bind
-plain-remark a s e = rw (mark-other 45 a [] s e) (alt-none (plain-at (a ∷ s)))
+plain-remark a s e = rw (mark-other 45 a [] s e) (alt-fail (plain-at (a ∷ s)) refl)
 
 plain-on : (a : ℕ) (s : List ℕ) → eqb a 45 ≡ false → comment-rest-at (a ∷ s) ≡ bind (plain-at (a ∷ s)) (λ _ r. comment-rest-at r)
 unfolding begins

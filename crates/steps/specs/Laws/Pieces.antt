@@ -12,10 +12,11 @@ use Rattle.lists.specs.Laws.Booleans.{clash}
 use Rattle.grammar.specs.Bytes.{ascii, blank, begins, parted, special}
 use Rattle.grammar.specs.Characters.{utf8-1, lead1}
 use Rattle.grammar.specs.Grammar.{TextCharacter}
-use Rattle.grammar.specs.Read.{Read, fail, got, bind, alt, byte, test, mark}
+use Rattle.grammar.specs.Read.{fail, got, bind, alt, byte, test, mark}
 use Rattle.grammar.specs.Parser.{Look, at-close, at-comment, at-data, at-element, at-text, look, look-if, look₂, look₃, look-third}
 use Rattle.grammar.specs.Parser.{look-by, text-at}
 use Rattle.grammar.specs.Parser.{reference-at, standsFor, feed-at, line-end-at, text-byte, literal-at, comment-at, data-at}
+use Rattle.grammar.specs.Laws.Read.{alt-fail}
 use Rattle.grammar.specs.Laws.Tokens.{text-complete, reference-other, line-end-other}
 use Rattle.steps.specs.Step.{stepped}
 use Rattle.steps.specs.Laws.Step.{arrives, refuses, at-byte, at-end}
@@ -105,18 +106,13 @@ pub front-is : (l k : Look) → front l ≡ front k → l ≡ k
 front-is l k e = sym (shown-front l) ∙ ap shown e ∙ shown-front k
 
 -- a character, or a reference
-alt-none : {A : Type 0} (m : Read A) → alt m fail ≡ m
-unfolding alt
-alt-none fail = refl
-alt-none (got a r) = refl
-
 reference-none : text-at [] ≡ fail
 unfolding text-at reference-at standsFor line-end-at mark alt bind literal-at byte
 reference-none = refl
 
 amp-text : (s : List ℕ) → text-at (38 ∷ s) ≡ reference-at (38 ∷ s)
 unfolding text-at text-byte special alt
-amp-text s = rw (line-end-other (ascii "\n") 38 refl s, literal-not text-byte 38 s refl) (alt-none (reference-at (38 ∷ s)))
+amp-text s = rw (line-end-other (ascii "\n") 38 refl s, literal-not text-byte 38 s refl) (alt-fail (reference-at (38 ∷ s)) refl)
 
 pub return-text : (s : List ℕ) → text-at (13 ∷ s) ≡ feed-at (ascii "\n") s
 unfolding text-at alt

@@ -10,12 +10,12 @@ use lib.ListN.{length, drop, getD}
 use Rattle.lists.specs.Laws.Booleans.{and-left, and-right, or-left, or-right, clash}
 use Rattle.grammar.specs.Bytes.{ascii, between, blank, quote, special, begins}
 use Rattle.grammar.specs.Document.{together}
-use Rattle.grammar.specs.Read.{Read, fail, got, bind, byte, mark, alt, all-of}
-use Rattle.grammar.specs.Laws.Read.{mark-other, mark-complete, byte-complete, byte-other}
+use Rattle.grammar.specs.Read.{fail, got, bind, byte, mark, alt, all-of}
+use Rattle.grammar.specs.Laws.Read.{mark-complete, byte-complete, byte-other, alt-fail}
 use Rattle.grammar.specs.Parser.{standsFor, reference-at, feed-at, line-end-at, spacing, space-at, literal-at, value-byte}
 use Rattle.grammar.specs.Parser.{value-character-at, value-at}
 use Rattle.grammar.specs.Laws.Facts.{no-return, within}
-use Rattle.grammar.specs.Laws.Tokens.{line-end-other}
+use Rattle.grammar.specs.Laws.Tokens.{reference-other, line-end-other}
 use Rattle.steps.specs.Step.{stepped}
 use Rattle.steps.specs.Laws.Step.{at-byte, at-end, arrives, refuses}
 use Rattle.steps.specs.Laws.Until.{Going, going-start, going-stops, going-fails, going-stuck, going-goes, moved}
@@ -27,22 +27,6 @@ use Rattle.steps.specs.Laws.Leaves.{literal-is, literal-not, value-chara
 use Rattle.steps.specs.Laws.Characters.{plain-step}
 use Rattle.steps.specs.declared.Step.{Step}
 use Rattle.steps.specs.declared.Step.the-variants.{To, No}
-
-pub reference-other : (a : ℕ) → eqb a 38 ≡ false → (s : List ℕ) → reference-at (a ∷ s) ≡ fail
-unfolding reference-at standsFor alt bind
-reference-other a e s =
-    rw (
-      mark-other 38 a (ascii "amp;") s e,
-      mark-other 38 a (ascii "lt;") s e,
-      mark-other 38 a (ascii "gt;") s e,
-      mark-other 38 a (ascii "quot;") s e,
-      mark-other 38 a (ascii "apos;") s e,
-    )
-
-alt-fail : {A : Type 0} (m : Read A) {n : Read A} → n ≡ fail → alt m n ≡ m
-unfolding alt
-alt-fail fail e = e
-alt-fail (got a r) e = refl
 
 -- one character, by its first byte
 module _ (q b : ℕ) (s : List ℕ) where

@@ -8,7 +8,7 @@ use native.Mathlib.Omega.{arith}
 use lib.ListN.{length, getD}
 use Rattle.lists.specs.Lists.{any, each, those, total}
 use Rattle.grammar.specs.Document.{Element}
-use Rattle.grammar.specs.Look.{is, nameOf, contentsOf, elements, attr}
+use Rattle.grammar.specs.Look.{is, nameOf, contentsOf, elements}
 use Rattle.nodes.specs.Places.{the}
 use Rattle.records.specs.Record.{onSurface, Fits}
 use Rattle.records.specs.Fill.{wrote}
@@ -21,13 +21,14 @@ use Rattle.maps.specs.Laws.Fill as Fill
 use Rattle.maps.specs.Table.{recordsOf}
 use Rattle.maps.specs.Laws.Table.{fitting, table-law}
 use Rattle.maps.specs.Laws.Good.{AllGood, none-left, one-good}
-use Rattle.maps.specs.Laws.Kinds.{good-model, model-facts, brainRows, brain-children}
+use Rattle.maps.specs.Laws.Kinds.{good-model, brainRows, brain-children}
 use Rattle.maps.specs.Kinds.{GoodModel}
 use Rattle.models.specs.Brain.{BrainAt}
-use Rattle.models.specs.Laws.Brain.{isModel, models-are, map-models, map-volume, brain-sum, whole-within}
+use Rattle.models.specs.Laws.Brain.{isModel, models-are, map-models, map-volume, brain-sum}
 use Rattle.models.specs.Held.{BrainHeld, modelsAt}
 use Rattle.models.specs.Laws.Held.{holding, held-models, held-count, held-at}
 use Rattle.models.specs.declared.gather.Models.{Models}
+use Rattle.models.specs.Laws.Listings.{count-some}
 use Rattle.table.specs.Listing.{AllFit}
 use Rattle.table.specs.Placing.{nthModel, Placing, Placed}
 use Rattle.table.specs.Laws.Volumes.{InBits, brain-sized, all-fit, model-fits, none-beyond}
@@ -47,10 +48,6 @@ fits-by (Fill.one-fits h k more) b (suc i) u = fits-by more b i (le-of-suc-le-su
 counting-by : (b : Model) (l : List Model) → ((i : ℕ) → i < length l → 1 ≤ (getD l i b) .count) → Counting l
 counting-by b [] h = none-counts
 counting-by b (m ∷ l) h = one-counts (h 0 (omega arith)) (counting-by b l (λ i u. h (suc i) (omega arith)))
-
-count-some : {e : Element} → GoodModel e → 1 ≤ (modelOf e) .count
-unfolding modelOf
-count-some {e} g = whole-within 1 1048576 (attr "IndexCount" e) (model-facts g .count) .0
 
 -- ---- Every model of a good brain map is good.
 

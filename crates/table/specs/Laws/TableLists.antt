@@ -13,6 +13,7 @@ use Rattle.lists.specs.Laws.Permuted.{Permuted, all-permuted, count-permuted, t
 use Rattle.lists.specs.Laws.Quantifiers.{all-iff, count-one-iff, twoOf-iff}
 use Rattle.lists.specs.Laws.Booleans.{and-left, and-right, and-both, or-left, or-right, both-ways, refute, clash}
 use Rattle.lists.specs.Laws.Lists.{two-each, length-each}
+use Rattle.lists.specs.Laws.Numbers.{eqb-turned}
 use Rattle.grammar.specs.Bytes.{between}
 use Rattle.grammar.specs.Document.{Element}
 use Rattle.grammar.specs.Look.{is, nameOf, attr, contentsOf, elements}
@@ -108,20 +109,11 @@ alike-turned : (a b : Model) → alike a b ≡ alike b a
 unfolding alike sameType
 alike-turned a b = go (a .listed) (b .listed)
   where
-    turned : (m n : ℕ) → eqb m n ≡ eqb n m
-    turned m n = by (eqb m n) refl (eqb n m) refl
-      where
-        by : (x : Bool) → eqb m n ≡ x → (y : Bool) → eqb n m ≡ y → x ≡ y
-        by true e true f = refl
-        by false e false f = refl
-        by true e false f = absurd (eqb-false n m f (sym (eqb-true m n e)))
-        by false e true f = absurd (eqb-false m n e (sym (eqb-true n m f)))
-
     go : (x y : Listed) → (sameType x y && eqb (a .structure) (b .structure)) ≡ (sameType y x && eqb (b .structure) (a .structure))
-    go (vertices s l) (vertices t k) = turned (a .structure) (b .structure)
+    go (vertices s l) (vertices t k) = eqb-turned (a .structure) (b .structure)
     go (vertices s l) (voxels k) = refl
     go (voxels l) (vertices t k) = refl
-    go (voxels l) (voxels k) = turned (a .structure) (b .structure)
+    go (voxels l) (voxels k) = eqb-turned (a .structure) (b .structure)
 
 -- models that share none make entries that share none
 entries-apart : (n : ℕ) (l : List Model) → all (whole n) l ≡ true → twoOf alike l ≡ false → twoOf short.alike (each entryOf l) ≡ false

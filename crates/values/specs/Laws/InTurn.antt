@@ -3,7 +3,6 @@ use mathlib.Core.Path.{_≡_, refl, ap, sym, _∙_}
 use mathlib.Core.List.{List, [], _∷_, _++_, append-assoc}
 use mathlib.Core.Bool.{Bool, true, false, _||_, not}
 use Prim.Native.Nat.{ℕ, zero, suc, _+_, _-_, _≤_, _<_}
-use Prim.Native.String.{String}
 use native.Mathlib.Omega.{arith}
 use borrow.Author.Needs.{needs}
 use borrow.Author.Tests.{leb-true, leb-false}
@@ -13,16 +12,16 @@ use lib.Seq.{drop-drop}
 use Rattle.lists.specs.Lists.{all, any, countUp}
 use Rattle.lists.specs.Laws.Booleans.{refute, or-first, or-second, clash}
 use Rattle.lists.specs.Laws.Lists.{all-append}
-use Rattle.grammar.specs.Bytes.{ascii, blank, Each, a-byte}
+use Rattle.grammar.specs.Bytes.{ascii}
 use Rattle.grammar.specs.Document.{Attribute}
 use Rattle.grammar.specs.Grammar as grammar
-use Rattle.grammar.specs.Grammar.{Absent, Distinct, Attributes, Gap}
+use Rattle.grammar.specs.Grammar.{Absent, Distinct, Attributes}
 use Rattle.grammar.specs.Look.{is, attributesOf, textOf}
 use Rattle.grammar.specs.Read.{fail, got, bind, byte}
 use Rattle.grammar.specs.Laws.Read.{ok-got}
 use Rattle.grammar.specs.Parser.{name-at, gap-at, value-at, ends, closing, same}
 use Rattle.grammar.specs.Laws.Sound.{gap-sound, name-sound, attributes-sound, same-refl}
-use Rattle.grammar.specs.Laws.Tokens.{ends-blanks, ends-name, same-equal}
+use Rattle.grammar.specs.Laws.Tokens.{gap-each, ends-blanks, ends-name, same-equal}
 use Rattle.steps.specs.Step.{stepped}
 use Rattle.steps.specs.Laws.Step.{at-end, fell, went}
 use Rattle.steps.specs.Laws.Leaves.{name-tails}
@@ -46,8 +45,8 @@ use Rattle.nodes.specs.Laws.ReadSteps.{spelled}
 use Rattle.nodes.specs.Laws.Attributes.{keys-go, keys-tag}
 use Rattle.nodes.specs.declared.Found.{Found}
 use Rattle.nodes.specs.declared.Found.the-variants.{At, Nothing}
-use Rattle.schema.specs.Schema.{Form, rowName}
-use Rattle.schema.specs.Table.{wordAt, formAt, kindCell, attributeCell, attributeBy, attributeAt}
+use Rattle.schema.specs.Schema.{rowName}
+use Rattle.schema.specs.Table.{wordAt, formAt, kindCell, attributeCell, attributeAt}
 use Rattle.schema.specs.Table.{attributesOfKind, attributesFrom, attributesTo}
 use Rattle.schema.specs.Faults.{sooner}
 use Rattle.schema.specs.Parts.{valueFault, textFault, nameListed, keyListed}
@@ -57,7 +56,7 @@ use Rattle.schema.specs.Laws.Asked.{known-small, known-stands, known-other}
 use Rattle.schema.specs.Laws.Attributes.{attribute-there, attribute-missing, attribute-spared}
 use Rattle.schema.specs.Laws.Attributes.{Fitting, fitting-start, fitting-attributed, fitting-room, fitting-on, fitting-end}
 use Rattle.schema.specs.Laws.Attributes.{own-six, own-other, own-text}
-use Rattle.schema.specs.Laws.Keys.{key-ahead, key-inside}
+use Rattle.schema.specs.Laws.Keys.{by-name, key-ahead, key-inside}
 use Rattle.values.specs.InTurn.{keysFrom, Over, none-passed, one-passed, Within, Placed, Asking, Asked, Begins, Walked}
 
 -- NO NAME TWICE
@@ -87,9 +86,6 @@ unfolding place
 place-law name st before rest {v} e = sym (rw e (first-place name v rest before (rw e at (keys-law st)) (distinct-law st)))
 
 -- AN ATTRIBUTE AT A PLACE
-gap-blank : {u : List ℕ} → Gap u → Each blank u
-gap-blank (grammar.gap h k) = a-byte h k
-
 module _ (text : List ℕ) (i : ℕ) {k : token-key.Key} (ek : k ≡ keyed (length text) (steps-keys.key-at (drop i text)))
     {from to end : ℕ} (z : k ≡ key-is.Is from to end) where
   goes-on : ends closing (drop i text) ≡ false
@@ -97,7 +93,7 @@ module _ (text : List ℕ) (i : ℕ) {k : token-key.Key} (ek : k ≡ keyed (leng
       let f = key-found text i ek z in
       let g = ok-got (rw (f .gap .reads) at (gap-sound (drop i text))) in
       let n = ok-got (rw (f .name .reads) at (name-sound (drop from text))) in
-      rw (g .0, n .0) (ends-blanks closing (gap-blank (g .1)) (f .name .value ++ drop to text) ∙ ends-name (n .1) (drop to text))
+      rw (g .0, n .0) (ends-blanks closing (gap-each (g .1)) (f .name .value ++ drop to text) ∙ ends-name (n .1) (drop to text))
 
   pub sought-met : {at : ℕ} → Within text at i → (name : List ℕ) {t : Bool} → t ≡ same (part from to text) name → t ≡ true → {x : Step}
       → x ≡ stepped (length text) (value-at (drop end text)) → {j : ℕ} → x ≡ To j → Placed text at i name (At end) j
@@ -207,11 +203,6 @@ walking-start t l p e u f b =
       named = refl;
       inside = b .inside (p .stands);
     }
-
-by-name : (n : ℕ) (s : String) (f : Form) → rowName (attributeBy n s f) ≡ s
-unfolding attributeBy rowName
-by-name zero s f = refl
-by-name (suc n) s f = refl
 
 here-named : (t l : List ℕ) (w : ℕ) → is (rowName (attributeAt t l w)) (ascii (wordAt t l (attributeCell t w 0))) ≡ true
 unfolding attributeAt is

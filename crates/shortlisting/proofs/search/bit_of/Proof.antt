@@ -1,6 +1,6 @@
 -- `shortlisting::search::bit_of` meets its contract. Assumes nothing.
 use native.Mathlib.Omega.{arith}
-use Rattle.shortlist.specs.Laws.Bits.{one-shifted}
+use Rattle.lists.specs.Laws.Bits.{one-shifted}
 use borrow.Author.Needs.{needs}
 use Rattle.shortlisting.proofs.search.bit_of.Statement.{statement}
 use Rattle.shortlisting.proofs.search.bit_of.Tie as tie

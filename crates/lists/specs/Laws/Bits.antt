@@ -1,10 +1,12 @@
--- A bit that is not set is set by a sum, and no other changes.
+-- BITS OF A NUMBER: a bit that is not set is set by a sum, and no other changes. Assumes nothing.
 use mathlib.Core.Path.{_≡_, refl, sym, ap, _∙_, subst}
 use Prim.Native.Nat.{ℕ, zero, suc, _+_, _*_, _-_, _/_, _%_, _^_, _≤_, _<_}
 use native.Mathlib.Omega.{arith}
 use native.Mathlib.Nat.{mul-add-div-right, div-add-mod', mod-lt, mul-le-mul-right, add-mul}
 use lib.Pow.{pow-pos, pow-add, shr-shr, shr-lt, shl-exact}
-use Rattle.marks.specs.Marks.{bit}
+
+abbrev bit : (number place : ℕ) → ℕ
+bit w s = w / 2 ^ s % 2
 
 -- so many times 2 ^ t more
 more : (w m t : ℕ) → (w + m * 2 ^ t) / 2 ^ t ≡ w / 2 ^ t + m
@@ -36,7 +38,7 @@ module _ (w s : ℕ) (unset : bit w s ≡ 0) where
   pub sets : bit (w + 2 ^ s) s ≡ 1
   sets = rw (once w s) (omega (arith, unset))
 
-  below : (t d : ℕ) → s ≡ 1 + d + t → bit (w + 2 ^ s) t ≡ bit w t
+  pub below : (t d : ℕ) → s ≡ 1 + d + t → bit (w + 2 ^ s) t ≡ bit w t
   below t d e =
       let p : 2 ^ s ≡ 2 * 2 ^ d * 2 ^ t = ap (λ (x : ℕ). 2 ^ x) e ∙ pow-add 2 (1 + d) t ∙ ap (λ (x : ℕ). x * 2 ^ t) (pow-add 2 1 d) in
       rw (p, more w (2 * 2 ^ d) t) (omega arith)
@@ -44,7 +46,7 @@ module _ (w s : ℕ) (unset : bit w s ≡ 0) where
   half : (w + 2 ^ s) / 2 ^ s / 2 ≡ w / 2 ^ s / 2
   half = rw (once w s) (omega (arith, unset))
 
-  above : (t d : ℕ) → t ≡ s + (1 + d) → bit (w + 2 ^ s) t ≡ bit w t
+  pub above : (t d : ℕ) → t ≡ s + (1 + d) → bit (w + 2 ^ s) t ≡ bit w t
   above t d e = ap (λ (x : ℕ). x % 2) (shift (w + 2 ^ s) ∙ ap (λ (x : ℕ). x / 2 ^ d) half ∙ sym (shift w))
     where
       shift : (x : ℕ) → x / 2 ^ t ≡ x / 2 ^ s / 2 / 2 ^ d
@@ -75,5 +77,5 @@ module _ (w s : ℕ) (unset : bit w s ≡ 0) where
       two-more : (q : ℕ) → suc (suc q) * 2 ^ s ≡ q * 2 ^ s + 2 ^ s + 2 ^ s
       two-more q = omega arith
 
-pub one-shifted : (s : ℕ) → s < 64 → 1 * 2 ^ s % 2 ^ 64 ≡ 2 ^ s
-one-shifted s h = let o : 1 * 2 ^ s ≡ 2 ^ s = omega arith in shl-exact 1 s 64 (omega arith) (omega arith) ∙ o
+pub one-shifted : {s r : ℕ} → s < 64 → r ≡ 1 * 2 ^ s % 2 ^ 64 → r ≡ 2 ^ s
+one-shifted {s} h e = let o : 1 * 2 ^ s ≡ 2 ^ s = omega arith in e ∙ shl-exact 1 s 64 (omega arith) (omega arith) ∙ o
