@@ -2,12 +2,9 @@
 use mathlib.Core.Bool.{Bool, _&&_}
 use mathlib.Core.List.{List}
 use Prim.Native.Nat.{ℕ, _+_, _%_}
-use lib.Dec.{eqb, leb}
+use lib.Dec.{eqb}
 use Rattle.lists.specs.Lists.{count}
-
--- the number stands in the list
-unfoldable pub member : ℕ → List ℕ → Bool
-member x l = leb 1 (count (λ y. eqb y x) l)
+use Rattle.lists.specs.Reordered.{member}
 
 -- an even number whose successor stands in the list; how many are so
 unfoldable pub paired : List ℕ → ℕ → Bool

@@ -4,7 +4,7 @@ use mathlib.Core.Bool.{Bool, _||_}
 use Prim.Native.Nat.{ℕ}
 use lib.Dec.{eqb}
 use Rattle.lists.specs.Lists.{any, twoOf}
-use Rattle.comparison.specs.Matched.{member}
+use Rattle.lists.specs.Reordered.{member}
 
 -- a number of the list is one of `keys`
 unfoldable pub someIn : (keys : List ℕ) → List ℕ → Bool

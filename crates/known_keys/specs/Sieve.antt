@@ -6,7 +6,7 @@ use Prim.Native.Nat.{ℕ, _%_}
 use lib.Dec.{eqb, ltb}
 use lib.ListN.{length}
 use Rattle.marks.specs.Marks.{marked}
-use Rattle.comparison.specs.Matched.{member}
+use Rattle.lists.specs.Reordered.{member}
 use Rattle.known_keys.specs.Order.{inOrder}
 
 unfoldable pub sievePlace : ℕ → ℕ

@@ -12,7 +12,8 @@ use lib.Seq.{drop-cons, drop-length, take-all, take-suc, take-suc-set}
 use borrow.Author.Tests.{eqb-true, eqb-false, eq-eqb, ne-eqb, le-leb}
 use Rattle.lists.specs.Lists.{count, twoOf}
 use Rattle.lists.specs.Laws.Lists.{count-append}
-use Rattle.comparison.specs.Matched.{member, paired, matched}
+use Rattle.lists.specs.Reordered.{member}
+use Rattle.comparison.specs.Matched.{paired, matched}
 use Rattle.comparison.specs.Tagged.{tagged, placeIn, ahead, inHand}
 use Rattle.comparison.specs.Compare.{has}
 use Rattle.comparison.specs.Laws.Matched.{matched-counts, matched-most}

@@ -9,7 +9,8 @@ use lib.Dec.{eqb, leb}
 use borrow.Author.Tests.{eqb-true, eqb-false, eq-eqb, ne-eqb, le-leb}
 use Rattle.lists.specs.Lists.{any, count}
 use Rattle.lists.specs.Laws.Lists.{count-append}
-use Rattle.comparison.specs.Matched.{member, paired, matched}
+use Rattle.lists.specs.Reordered.{member}
+use Rattle.comparison.specs.Matched.{paired, matched}
 use Rattle.comparison.specs.Tagged.{tagged}
 use Rattle.comparison.specs.Compare.{has}
 

@@ -23,7 +23,7 @@ use Rattle.nodes.specs.declared.Kid.{Kid}
 use Rattle.nodes.specs.declared.Kid.the-variants.{Child, Done}
 use Rattle.numbers.specs.Numbers.{inKeys}
 use Rattle.lists.specs.Laws.Lists.{count-most, few-those}
-use Rattle.comparison.specs.Matched.{member}
+use Rattle.lists.specs.Reordered.{member}
 use Rattle.label_table.specs.Codes.{codeOf}
 use Rattle.known_keys.specs.Known.{knownIn}
 use Rattle.known_keys.specs.Order.{inOrder}

@@ -17,7 +17,7 @@ use Rattle.lists.specs.Lists.{all, each, count}
 use Rattle.lists.specs.Laws.Booleans.{and-both}
 use Rattle.lists.specs.Laws.Lists.{all-append}
 use Rattle.numbers.specs.Numbers.{inKeys, withSign}
-use Rattle.comparison.specs.Matched.{member}
+use Rattle.lists.specs.Reordered.{member}
 use Rattle.label_table.specs.Labels.{filledWith}
 use Rattle.label_table.specs.Laws.Told.{filled-told}
 use Rattle.known_keys.specs.Known.{knownIn, codesOf, KnownAmong}

@@ -31,7 +31,7 @@ use Rattle.label_table.specs.Labels.{keysAt, twiceAt}
 use Rattle.label_table.specs.Laws.Told.{keys-told, twice-told}
 use Rattle.label_table.specs.Codes.{codeOf, codesAt}
 use Rattle.label_table.specs.Laws.Codes.{twice-codes}
-use Rattle.comparison.specs.Matched.{member}
+use Rattle.lists.specs.Reordered.{member}
 use Rattle.known_keys.specs.Order.{orderedFrom, inOrder}
 use Rattle.known_keys.specs.Known.{knownIn}
 use Rattle.lists.specs.Laws.Lists.{all-counted, counted-all}

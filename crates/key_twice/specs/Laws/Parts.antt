@@ -19,7 +19,7 @@ use Rattle.lists.specs.Laws.Reordered.{two-kept}
 use Rattle.lists.specs.Reordered.{Reordered}
 use Rattle.nodes.specs.declared.Kid.{Kid}
 use Rattle.nodes.specs.declared.Kid.the-variants.{Child, Done}
-use Rattle.comparison.specs.Matched.{member}
+use Rattle.lists.specs.Reordered.{member}
 use Rattle.label_table.specs.Labels.{twiceAt, firstLabel, nextLabel}
 use Rattle.label_table.specs.Codes.{codeHere, codesAt}
 use Rattle.label_table.specs.Laws.Codes.{twice-codes}

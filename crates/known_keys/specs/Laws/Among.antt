@@ -15,7 +15,7 @@ use borrow.Author.Tests.{le-leb}
 use Rattle.lists.specs.Lists.{all, count, each}
 use Rattle.lists.specs.Laws.Booleans.{refute, and-both}
 use Rattle.numbers.specs.Numbers.{inKeys, withSign}
-use Rattle.comparison.specs.Matched.{member}
+use Rattle.lists.specs.Reordered.{member}
 use Rattle.label_table.specs.Codes.{codeOf}
 use Rattle.known_keys.specs.Order.{inOrder}
 use Rattle.known_keys.specs.Known.{knownIn, codesOf, KnownAmong, Placed}

@@ -11,8 +11,8 @@ use borrow.Author.Needs.{needs}
 use borrow.Author.Tests.{leb-true, le-leb, eqb-true, eq-eqb}
 use Rattle.lists.specs.Lists.{count}
 use Rattle.lists.specs.Laws.Booleans.{and-left, and-right, refute}
-use Rattle.comparison.specs.Matched.{member}
-use Rattle.comparison.specs.Laws.Matched.{absent}
+use Rattle.lists.specs.Reordered.{member}
+use Rattle.lists.specs.Laws.Reordered.{absent}
 use Rattle.known_keys.specs.Order.{orderedFrom, inOrder}
 use Rattle.known_keys.specs.Known.{Nearest, Placed}
 

@@ -11,7 +11,7 @@ use borrow.Author.Needs.{needs}
 use borrow.Author.Tests.{lt-ltb, le-ltb, eq-eqb}
 use Rattle.lists.specs.Laws.Booleans.{or-true}
 use Rattle.marks.specs.Marks.{marked, Stay, Marked}
-use Rattle.comparison.specs.Matched.{member}
+use Rattle.lists.specs.Reordered.{member}
 use Rattle.known_keys.specs.Order.{inOrder}
 use Rattle.known_keys.specs.Sieve.{sievePlace, sifted, Sieve, Sifting}
 use Rattle.known_keys.specs.Laws.Search.{At, stands}

@@ -19,7 +19,7 @@ use Rattle.grammar.specs.Bytes.{between}
 use Rattle.nodes.specs.declared.Kid.{Kid}
 use Rattle.nodes.specs.declared.Kid.the-variants.{Child, Done}
 use Rattle.numbers.specs.Numbers.{inKeys, sameKey}
-use Rattle.comparison.specs.Matched.{member}
+use Rattle.lists.specs.Reordered.{member}
 use Rattle.label_table.specs.Labels.{labels, keyHere, keysAt, nextLabel}
 use Rattle.label_table.specs.Laws.Labels.{row}
 use Rattle.label_table.specs.Codes.{codeOf, codeHere, codesAt}
