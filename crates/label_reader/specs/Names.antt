@@ -17,7 +17,8 @@ use Rattle.label_reader.specs.Way.{labelWay}
 
 abbrev pub LabelPlaced : (text lengths : List ℕ) (dimension index : ℕ) (key : ℤ) (r : NamePlace) → Type 0
 LabelPlaced text lengths dimension index key r =
-    PlacedBy (LabelNumber text lengths dimension index key) (LabelPart text lengths dimension index key) (labelWay dimension index key) text r
+    PlacedBy (LabelNumber text lengths dimension index key) (LabelPart text lengths dimension index key)
+    (labelWay dimension index key) text r
 
 -- ---- On any bytes, in the table at a place: 19 where no Label has the key; else where the first that has it stands.
 

@@ -111,7 +111,9 @@ module _ {Number : ℕ → Type 0} {Part : List ℕ → Type 0} {way : List Step
       by (no k) = p .refused k .0 ∙ sym (q .refused (λ z. k (number-same ∙ z)) .0)
 
   length-same : a .length ≡ b .length
-  length-same = sym (as-long text (a .start) (a .length) (p .inside)) ∙ ap length part-same ∙ as-long text (b .start) (b .length) (q .inside)
+  length-same =
+      sym (as-long text (a .start) (a .length) (p .inside)) ∙ ap length part-same
+      ∙ as-long text (b .start) (b .length) (q .inside)
 
   pub placed-unique : a ≡ b
   placed-unique = λ k. record { number = number-same k; start = start-same k; length = length-same k }
