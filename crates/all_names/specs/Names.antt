@@ -31,13 +31,13 @@ unfoldable pub namesAnswer : (lengths : List ℕ) (size room dimension : ℕ) �
 namesAnswer lengths size room d o = outcome (namesRefusal lengths size room d o) (nameCount d o)
 
 -- the n-th two numbers of a list, as the place of a name
-abbrev pub placeIn : List ℕ → ℕ → NamePlace
-placeIn l n = record { number = 0; start = getD l (2 * n) 0; length = getD l (2 * n + 1) 0 }
+abbrev pub namePlaceIn : List ℕ → ℕ → NamePlace
+namePlaceIn l n = record { number = 0; start = getD l (2 * n) 0; length = getD l (2 * n + 1) 0 }
 
 -- THE PROMISE; `before` and `after` are the list lent
 pub record MapNamesPlaced (text lengths : List ℕ) (dimension : ℕ) (before : List ℕ) (answer : Outcome) (after : List ℕ) : Type 0 where
   pub answered : Answers text (namesAnswer lengths (length text) (length before) dimension) answer
-  pub each : (n : ℕ) → n < answer .value → NamePlaced text lengths dimension n (placeIn after n)
+  pub each : (n : ℕ) → n < answer .value → NamePlaced text lengths dimension n (namePlaceIn after n)
   pub past : drop (2 * answer .value) after ≡ drop (2 * answer .value) before
   pub long : length after ≡ length before
 

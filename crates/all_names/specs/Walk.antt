@@ -20,7 +20,7 @@ use Rattle.inside.specs.One.{tagEnd}
 
 -- where the NamedMaps begin
 unfoldable pub namedIn : List ℕ → ℕ → List ℕ
-namedIn text k = those (called text (ascii "NamedMap")) (placesFrom text (Children.first text k))
+namedIn text k = those (called text (ascii "NamedMap")) (placesFrom text (Children.firstChild text k))
 
 -- where the name starts, and its length
 unfoldable pub startBy : List ℕ → Found → ℕ

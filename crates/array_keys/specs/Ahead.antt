@@ -62,12 +62,12 @@ unfoldable pub keysLeft : List ℕ → KeyPlace → ℕ
 keysLeft text p = left text (p .at)
 
 -- where the keys of the element at a place begin: an empty tag has none
-unfoldable pub startIn : List ℕ → Found → KeyPlace
-startIn text Nothing = record { at = length text; held = 0; bytes = 0 }
-startIn text (At i) = record { at = i; held = 0; bytes = 0 }
+unfoldable pub keyStartIn : List ℕ → Found → KeyPlace
+keyStartIn text Nothing = record { at = length text; held = 0; bytes = 0 }
+keyStartIn text (At i) = record { at = i; held = 0; bytes = 0 }
 
 unfoldable pub keysStart : List ℕ → ℕ → KeyPlace
-keysStart text at = startIn text (inside text at)
+keysStart text at = keyStartIn text (inside text at)
 
 -- What `key_next` promises: the next key, the others being ahead of the place behind it, or that there is none, and how many bytes are
 -- left over.

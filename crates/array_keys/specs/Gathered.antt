@@ -21,7 +21,7 @@ pub record BytesRead (more count : ℕ) : Type 0 where
   pub small : more < 256 ^ count
 
 -- The bytes held and ahead of a place are those held and ahead of another; four and more are held there, or no more are ahead.
-pub record Gathered (text : List ℕ) (from to : KeyPlace) : Type 0 where
+pub record BytesGathered (text : List ℕ) (from to : KeyPlace) : Type 0 where
   pub same : bytesFrom text from ≡ lowBytes (to .bytes) (to .held) ++ bytesAhead (lettersAt text (to .at))
   pub few : to .bytes ≤ 6
   pub ended : to .bytes < 4 → bytesAhead (lettersAt text (to .at)) ≡ []

@@ -11,7 +11,7 @@ ghost use mathlib.Core.Path.{_≡_};
 ghost use Prim.Native.Nat.{_+_, _*_, _%_, _^_, _<_, _≤_};
 ghost use Rattle.base64_reader.specs.Groups.{valuesLent};
 ghost use Rattle.array_keys.specs.Ahead.{KeyTold, encodingIf};
-ghost use Rattle.array_keys.specs.Gathered.{keptBytes, BytesRead, Gathered};
+ghost use Rattle.array_keys.specs.Gathered.{keptBytes, BytesRead, BytesGathered};
 
 // How many bytes are held: three at most.
 fn kept_bytes(bytes: usize) -> usize
@@ -41,7 +41,7 @@ fn more_held(held: u64, more: u64, count: usize) -> u64
 // Reads on until four bytes and more are held, or there are no more.
 fn gathered(text: &[u8], from: KeyPlace, values: &[u8]) -> KeyPlace
     requires { ⌜ now values ≡ valuesLent ⌝ }
-    ensures { λ r. ⌜ Gathered (now (text .entry)) from r ⌝ }
+    ensures { λ r. ⌜ BytesGathered (now (text .entry)) from r ⌝ }
 {
     let mut at = from.at;
     let mut held = from.held;

@@ -20,28 +20,29 @@ unfoldable pub letterOf : ℕ → ℕ
 letterOf v = getD alphabet v 0
 
 -- 24 bits, from left to right, are three bytes, and four letters of six bits each
-unfoldable pub bits : (a b c : ℕ) → ℕ
-bits a b c = a * 65536 + b * 256 + c
+unfoldable pub bitsOfThree : (a b c : ℕ) → ℕ
+bitsOfThree a b c = a * 65536 + b * 256 + c
 
-unfoldable pub first : ℕ → ℕ
-first n = letterOf (n / 262144)
+unfoldable pub firstLetter : ℕ → ℕ
+firstLetter n = letterOf (n / 262144)
 
-unfoldable pub second : ℕ → ℕ
-second n = letterOf (n / 4096 % 64)
+unfoldable pub secondLetter : ℕ → ℕ
+secondLetter n = letterOf (n / 4096 % 64)
 
-unfoldable pub third : ℕ → ℕ
-third n = letterOf (n / 64 % 64)
+unfoldable pub thirdLetter : ℕ → ℕ
+thirdLetter n = letterOf (n / 64 % 64)
 
-unfoldable pub fourth : ℕ → ℕ
-fourth n = letterOf (n % 64)
+unfoldable pub fourthLetter : ℕ → ℕ
+fourthLetter n = letterOf (n % 64)
 
 -- Where fewer than 24 bits are left at the end, bits of value 0 are added on the right, and `=` stands for each letter that would hold
 -- none of the bytes' bits.
 unfoldable pub encode : List ℕ → Word
 encode [] = []
-encode (a ∷ []) = first (bits a 0 0) ∷ second (bits a 0 0) ∷ 61 ∷ 61 ∷ []
-encode (a ∷ b ∷ []) = first (bits a b 0) ∷ second (bits a b 0) ∷ third (bits a b 0) ∷ 61 ∷ []
-encode (a ∷ b ∷ c ∷ l) = first (bits a b c) ∷ second (bits a b c) ∷ third (bits a b c) ∷ fourth (bits a b c) ∷ encode l
+encode (a ∷ []) = firstLetter (bitsOfThree a 0 0) ∷ secondLetter (bitsOfThree a 0 0) ∷ 61 ∷ 61 ∷ []
+encode (a ∷ b ∷ []) = firstLetter (bitsOfThree a b 0) ∷ secondLetter (bitsOfThree a b 0) ∷ thirdLetter (bitsOfThree a b 0) ∷ 61 ∷ []
+encode (a ∷ b ∷ c ∷ l) = firstLetter (bitsOfThree a b c) ∷ secondLetter (bitsOfThree a b c) ∷ thirdLetter (bitsOfThree a b c)
+    ∷ fourthLetter (bitsOfThree a b c) ∷ encode l
 
 -- a word without its blanks
 unfoldable pub unblanked : Word → Word
@@ -64,12 +65,12 @@ unfoldable pub sixes : (p q r s : ℕ) → ℕ
 sixes p q r s = p * 262144 + q * 4096 + r * 64 + s
 
 -- the three bytes of 24 bits, and others behind them
-unfoldable pub three : ℕ → List ℕ → List ℕ
-three n l = (n / 65536) ∷ (n / 256 % 256) ∷ (n % 256) ∷ l
+unfoldable pub threeBytes : ℕ → List ℕ → List ℕ
+threeBytes n l = (n / 65536) ∷ (n / 256 % 256) ∷ (n % 256) ∷ l
 
 unfoldable pub threeMore : ℕ → Option (List ℕ) → Option (List ℕ)
 threeMore n Option.none = Option.none
-threeMore n (some l) = some (three n l)
+threeMore n (some l) = some (threeBytes n l)
 
 -- one byte or two, where the spare bits are 0
 unfoldable pub oneByte : ℕ → Option (List ℕ)
@@ -79,12 +80,12 @@ unfoldable pub twoBytes : ℕ → Option (List ℕ)
 twoBytes n = cond (eqb (n % 256) 0) (some ((n / 65536) ∷ (n / 256 % 256) ∷ [])) Option.none
 
 -- four letters of which the last is `=`: nothing stands behind them
-unfoldable pub ending : (p q r : ℕ) → Word → Option (List ℕ)
-ending p q r [] =
+unfoldable pub fourEnding : (p q r : ℕ) → Word → Option (List ℕ)
+fourEnding p q r [] =
     cond (isValue p && isValue q)
     (cond (eqb r 65) (oneByte (sixes p q 0 0)) (cond (isValue r) (twoBytes (sixes p q r 0)) Option.none))
     Option.none
-ending p q r (a ∷ w) = Option.none
+fourEnding p q r (a ∷ w) = Option.none
 
 unfoldable pub fourValues : (p q r s : ℕ) → Bool
 fourValues p q r s = isValue p && (isValue q && (isValue r && isValue s))
@@ -95,7 +96,7 @@ decode (a ∷ []) = Option.none
 decode (a ∷ b ∷ []) = Option.none
 decode (a ∷ b ∷ c ∷ []) = Option.none
 decode (a ∷ b ∷ c ∷ d ∷ w) =
-    cond (eqb (worth d) 65) (ending (worth a) (worth b) (worth c) w)
+    cond (eqb (worth d) 65) (fourEnding (worth a) (worth b) (worth c) w)
     (cond (fourValues (worth a) (worth b) (worth c) (worth d))
     (threeMore (sixes (worth a) (worth b) (worth c) (worth d)) (decode w))
     Option.none)
@@ -108,6 +109,6 @@ unfoldable pub coded : Word → Bool
 coded w = isSome (bytesIn w)
 
 unfoldable pub base64 : Unit {0}
-unfolding alphabet letterOf bits first second third fourth encode unblanked worth isValue sixes three threeMore oneByte twoBytes ending
-    fourValues decode bytesIn coded
+unfolding alphabet letterOf bitsOfThree firstLetter secondLetter thirdLetter fourthLetter encode unblanked worth isValue sixes threeBytes
+    threeMore oneByte twoBytes fourEnding fourValues decode bytesIn coded
 base64 = tt

@@ -54,15 +54,15 @@ unfoldable pub bitsOfKey : ℤ → ℕ
 bitsOfKey (pos n) = n
 bitsOfKey (negsuc n) = 4294967295 - n
 
-unfoldable pub four : (a b c d : ℕ) → List ℕ
-four a b c d = a ∷ b ∷ c ∷ d ∷ []
+unfoldable pub fourBytes : (a b c d : ℕ) → List ℕ
+fourBytes a b c d = a ∷ b ∷ c ∷ d ∷ []
 
-unfoldable pub bytesOf : Endian → ℤ → List ℕ
-bytesOf e z = let n = bitsOfKey z in inEndian e four (n / 16777216) (n / 65536 % 256) (n / 256 % 256) (n % 256)
+unfoldable pub bytesOfKey : Endian → ℤ → List ℕ
+bytesOfKey e z = let n = bitsOfKey z in inEndian e fourBytes (n / 16777216) (n / 65536 % 256) (n / 256 % 256) (n % 256)
 
 unfoldable pub keyBytes : Endian → List ℤ → List ℕ
-keyBytes e l = eachIn (bytesOf e) l
+keyBytes e l = eachIn (bytesOfKey e) l
 
 unfoldable pub fours : Unit {0}
-unfolding inEndian bits32 twos keysIn bytesOr codedKeys codedBytes bitsOfKey four bytesOf keyBytes
+unfolding inEndian bits32 twos keysIn bytesOr codedKeys codedBytes bitsOfKey fourBytes bytesOfKey keyBytes
 fours = tt

@@ -12,7 +12,7 @@ use Rattle.grammar.specs.Look.{Word}
 use Rattle.nodes.specs.Texts.{saysAt, left}
 use Rattle.nodes.specs.declared.Char.{Char}
 use Rattle.nodes.specs.declared.Char.the-variants as chars
-use Rattle.base64.specs.Base64.{unblanked, worth, isValue, sixes, three, threeMore, ending, fourValues, decode}
+use Rattle.base64.specs.Base64.{unblanked, worth, isValue, sixes, threeBytes, threeMore, fourEnding, fourValues, decode}
 use Rattle.base64.specs.Fours.{bytesOr}
 use Rattle.base64_reader.specs.declared.Group.{Group}
 use Rattle.base64_reader.specs.declared.Group.the-variants.{Bytes, End, Bad}
@@ -49,11 +49,11 @@ bitsOf p q r s = cond (fourValues p q r s) (sixes p q r s) 16777216
 
 -- four letters by their values, the word behind them, and what it holds
 unfoldable pub fourRead : (p q r s : ℕ) → Word → Option (List ℕ) → Option (List ℕ)
-fourRead p q r s w m = cond (eqb s 65) (ending p q r w) (cond (fourValues p q r s) (threeMore (sixes p q r s) m) Option.none)
+fourRead p q r s w m = cond (eqb s 65) (fourEnding p q r w) (cond (fourValues p q r s) (threeMore (sixes p q r s) m) Option.none)
 
 -- The bytes of a word up to the first four letters that hold none: all its bytes where it is Base64.
 unfoldable pub fourAhead : (p q r s : ℕ) → Word → List ℕ → List ℕ
-fourAhead p q r s w l = cond (eqb s 65) (bytesOr (ending p q r w)) (cond (fourValues p q r s) (three (sixes p q r s) l) [])
+fourAhead p q r s w l = cond (eqb s 65) (bytesOr (fourEnding p q r w)) (cond (fourValues p q r s) (threeBytes (sixes p q r s) l) [])
 
 unfoldable pub bytesAhead : Word → List ℕ
 bytesAhead [] = []
@@ -63,7 +63,7 @@ bytesAhead (a ∷ b ∷ c ∷ []) = []
 bytesAhead (a ∷ b ∷ c ∷ d ∷ w) = fourAhead (worth a) (worth b) (worth c) (worth d) w (bytesAhead w)
 
 -- n bytes are read, of the number v; the others are ahead of the place j, and those and n are fewer than `most`
-pub record Taken (text : List ℕ) (whole : Option (List ℕ)) (ahead : List ℕ) (most v n j : ℕ) : Type 0 where
+pub record BytesTaken (text : List ℕ) (whole : Option (List ℕ)) (ahead : List ℕ) (most v n j : ℕ) : Type 0 where
   pub some-read : 1 ≤ n
   pub few : n ≤ 3
   pub small : v < 256 ^ n
@@ -72,17 +72,17 @@ pub record Taken (text : List ℕ) (whole : Option (List ℕ)) (ahead : List ℕ
   pub less : left text j + n < most
 
 -- a group, where a text holds `whole` and reading finds the bytes `ahead`
-pub record Told (text : List ℕ) (whole : Option (List ℕ)) (ahead : List ℕ) (most : ℕ) (r : Group) : Type 0 where
-  pub on-bytes : {v n j : ℕ} → r ≡ Bytes v n j → Taken text whole ahead most v n j
+pub record GroupRead (text : List ℕ) (whole : Option (List ℕ)) (ahead : List ℕ) (most : ℕ) (r : Group) : Type 0 where
+  pub on-bytes : {v n j : ℕ} → r ≡ Bytes v n j → BytesTaken text whole ahead most v n j
   pub on-end : r ≡ End → (whole ≡ some []) × (ahead ≡ [])
   pub on-bad : r ≡ Bad → (whole ≡ Option.none) × (ahead ≡ [])
 
 abbrev pub GroupTold : List ℕ → ℕ → Group → Type 0
-GroupTold text i r = Told text (decode (lettersAt text i)) (bytesAhead (lettersAt text i)) (left text i) r
+GroupTold text i r = GroupRead text (decode (lettersAt text i)) (bytesAhead (lettersAt text i)) (left text i) r
 
 abbrev pub FourTold : List ℕ → (p q r s i : ℕ) → Group → Type 0
 FourTold text p q r s i g =
-    Told text (fourRead p q r s (lettersAt text i) (decode (lettersAt text i)))
+    GroupRead text (fourRead p q r s (lettersAt text i) (decode (lettersAt text i)))
     (fourAhead p q r s (lettersAt text i) (bytesAhead (lettersAt text i))) (left text i + 4) g
 
 -- the last bytes, with nothing behind them
@@ -99,7 +99,7 @@ pub record LastTold (whole : Option (List ℕ)) (at : ℕ) (r : Group) : Type 0 
   pub on-bad : r ≡ Bad → whole ≡ Option.none
 
 -- the 24 bits of four plain letters; 16777216 says nothing
-pub record Quick (text : List ℕ) (at n : ℕ) : Type 0 where
+pub record QuickGroup (text : List ℕ) (at n : ℕ) : Type 0 where
   pub told : n < 16777216 → GroupTold text at (Bytes n 3 (at + 4))
   pub inside : n < 16777216 → at + 4 ≤ length text
 

@@ -7,8 +7,8 @@ ghost use mathlib.Core.Path.{_≡_};
 ghost use mathlib.Core.List.{[]};
 ghost use Prim.Native.Nat.{suc, _<_, _≤_};
 ghost use Rattle.nodes.specs.Texts.{saysAt, left};
-ghost use Rattle.base64.specs.Base64.{unblanked, oneByte, twoBytes, ending};
-ghost use Rattle.base64_reader.specs.Groups.{bitsOf, LastTold, FourTold, GroupTold, Quick, valuesLent};
+ghost use Rattle.base64.specs.Base64.{unblanked, oneByte, twoBytes, fourEnding};
+ghost use Rattle.base64_reader.specs.Groups.{bitsOf, LastTold, FourTold, GroupTold, QuickGroup, valuesLent};
 
 // One byte in 24 bits, the others being 0.
 fn one_byte(bits: u64, at: usize) -> Group
@@ -34,7 +34,7 @@ fn two_bytes(bits: u64, at: usize) -> Group
 
 // Three letters before the last `=`, with nothing behind it.
 fn last_of(p: u64, q: u64, r: u64, at: usize) -> Group
-    ensures { λ g. ⌜ LastTold (ending p q r []) at g ⌝ }
+    ensures { λ g. ⌜ LastTold (fourEnding p q r []) at g ⌝ }
 {
     if 64 <= p {
         return Group::Bad;
@@ -112,7 +112,7 @@ pub fn any_group(text: &[u8], at: usize, values: &[u8]) -> Group
 // The 24 bits of four plain letters at `at`, those that stand in the text as they are; 16777216 where there are none.
 pub fn quick_bits(text: &[u8], at: usize, values: &[u8]) -> u64
     requires { ⌜ now values ≡ valuesLent ⌝ }
-    ensures { λ n. ⌜ Quick (now (text .entry)) at n ⌝ }
+    ensures { λ n. ⌜ QuickGroup (now (text .entry)) at n ⌝ }
 {
     if text.len() < 4 {
         return 16777216;

@@ -7,8 +7,8 @@ use Rattle.grammar.specs.Look.{Word}
 use Rattle.nodes.specs.Texts.{saysAt}
 use Rattle.numbers.specs.Numbers.{digits, value, words}
 
-unfoldable pub sumOf : List Word → ℕ
-sumOf l = cond (all (digits 1 7) l) (total value l % 2 ^ 64) 0
+unfoldable pub sumOfWords : List Word → ℕ
+sumOfWords l = cond (all (digits 1 7) l) (total value l % 2 ^ 64) 0
 
 unfoldable pub sumFrom : List ℕ → ℕ → ℕ
-sumFrom text at = sumOf (words (saysAt text at))
+sumFrom text at = sumOfWords (words (saysAt text at))

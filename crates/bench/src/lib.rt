@@ -3,7 +3,7 @@ use numbers::Next;
 ghost use mathlib.Core.Path.{_≡_};
 ghost use lib.ListN.{take};
 ghost use Rattle.steps.specs.WellFormed.{WellFormed};
-ghost use Rattle.records.specs.Repeat.{Checks};
+ghost use Rattle.records.specs.Repeat.{ChecksRepeats};
 ghost use Rattle.bench.specs.Numbered.{PacksBytes, UnpacksRecords};
 ghost use Rattle.bench.specs.Sum.{sumFrom};
 
@@ -58,7 +58,7 @@ pub extern "C" fn bench_unpack(sheet: &[u8], records: &mut [u64]) -> u64
 // 14 where two of the first n numbers of the work space are the same, 13 where there are not so many.
 #[no_mangle]
 pub extern "C" fn bench_repeats(work: &mut [u64], n: usize) -> u64
-    ensures { λ r. ⌜ Checks n (take n (now (work .entry))) (now (work .entry)) r (now (work .exit)) ⌝ }
+    ensures { λ r. ⌜ ChecksRepeats n (take n (now (work .entry))) (now (work .entry)) r (now (work .exit)) ⌝ }
 {
     repeats::repeats_in(work, n)
 }

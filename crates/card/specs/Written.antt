@@ -47,7 +47,7 @@ cardBytes a records = eachIn lineBytes (card a records)
 
 -- ---- Written from the start of a lent slice, what lies past left as it was; nothing where the slice is too short.
 
-pub record Writes (bytes out : List ℕ) (count : ℕ) (outAfter : List ℕ) : Type 0 where
+pub record WritesOut (bytes out : List ℕ) (count : ℕ) (outAfter : List ℕ) : Type 0 where
   pub counted : count ≡ cond (leb (length bytes) (length out)) (length bytes) 0
   pub filled : outAfter ≡ cond (leb (length bytes) (length out)) (wrote 0 bytes out) out
 

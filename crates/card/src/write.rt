@@ -10,7 +10,7 @@ ghost use Prim.Native.Nat.{_+_, _≤_};
 ghost use lib.ListN.{length, take};
 ghost use Rattle.io.specs.Counts.{Counts};
 ghost use Rattle.grammar.specs.Bytes.{ascii};
-ghost use Rattle.card.specs.Written.{inTens, spaced, lineBytes, Puts, Spells, Writes};
+ghost use Rattle.card.specs.Written.{inTens, spaced, lineBytes, Puts, Spells, WritesOut};
 ghost use Rattle.cifti.specs.Maps.{kindWord, kindBytes};
 
 // The first `count` letters are a word.
@@ -163,7 +163,7 @@ fn spell(line: Line, out: &mut [u8]) -> usize
 
 // The line goes to the start of the bytes lent; answers how many, 0 where they are too few.
 pub fn write_line(line: Line, out: &mut [u8]) -> usize
-    ensures { λ r. ⌜ Writes (lineBytes line) (now (out .entry)) r (now (out .exit)) ⌝ }
+    ensures { λ r. ⌜ WritesOut (lineBytes line) (now (out .entry)) r (now (out .exit)) ⌝ }
     ensures { λ r. ⌜ Counts r (now (out .exit)) ⌝ }
 {
     let mut space = [0u8; 128];

@@ -11,8 +11,8 @@ use Rattle.numbers.specs.Numbers.{key, keyValue, sameKey}
 unfoldable pub labelsOf : Element → List Element
 labelsOf e = children "Label" e
 
-unfoldable pub keyOf : Element → ℤ
-keyOf l = keyValue (attr "Key" l)
+unfoldable pub labelKey : Element → ℤ
+labelKey l = keyValue (attr "Key" l)
 
 -- every Key is in form
 unfoldable pub keysRight : Element → Bool
@@ -20,20 +20,20 @@ keysRight e = all (λ l. key (attr "Key" l)) (labelsOf e)
 
 -- the keys of the table
 unfoldable pub tableKeys : Element → List ℤ
-tableKeys e = each keyOf (labelsOf e)
+tableKeys e = each labelKey (labelsOf e)
 
 -- two Labels of the table have one key, by value
-unfoldable pub keyTwice : Element → Bool
-keyTwice e = twoOf sameKey (tableKeys e)
+unfoldable pub keyTwiceIn : Element → Bool
+keyTwiceIn e = twoOf sameKey (tableKeys e)
 
 -- the Labels that have this key
 unfoldable pub labelsWith : ℤ → Element → List Element
-labelsWith k e = those (λ l. sameKey k (keyOf l)) (labelsOf e)
+labelsWith k e = those (λ l. sameKey k (labelKey l)) (labelsOf e)
 
 -- their names: what stands between the tags of each, undecoded (`<Label ../>`: nothing)
 unfoldable pub namesWith : ℤ → Element → List Word
 namesWith k e = each withinOf (labelsWith k e)
 
 unfoldable pub labelWords : Unit {0}
-unfolding labelsOf keyOf keysRight tableKeys keyTwice labelsWith namesWith
+unfolding labelsOf labelKey keysRight tableKeys keyTwiceIn labelsWith namesWith
 labelWords = tt

@@ -71,9 +71,9 @@ kindWords =
     ∷ "CIFTI_INDEX_TYPE_LABELS" ⇒ Labels
     ∷ []
 
-unfoldable pub kindIn : List (Case Kind) → Word → Kind
-kindIn [] w = None
-kindIn ((s ⇒ k) ∷ l) w = cond (is s w) k (kindIn l w)
+unfoldable pub kindByWord : List (Case Kind) → Word → Kind
+kindByWord [] w = None
+kindByWord ((s ⇒ k) ∷ l) w = cond (is s w) k (kindByWord l w)
 
 unfoldable pub caseWord : Case Kind → String
 caseWord (s ⇒ k) = s
@@ -222,7 +222,7 @@ seriesOf e = record {
 }
 
 unfoldable pub kindOfMap : Element → Kind
-kindOfMap e = kindIn kindWords (attr "IndicesMapToDataType" e)
+kindOfMap e = kindByWord kindWords (attr "IndicesMapToDataType" e)
 
 unfoldable pub dimensionsOf : Element → List ℕ
 dimensionsOf e = commaValues (attr "AppliesToMatrixDimension" e)
@@ -300,7 +300,7 @@ unfoldable pub labelsMaps : List Map → List Map
 labelsMaps l = those (λ m. isLabels (m .kind)) l
 
 unfoldable pub mapWords : Unit {0}
-unfolding kindWords kindIn caseWord caseKind wordsOfKinds allKinds rowFor listedBy modelOf sizesBy sizesOf seriesOf kindOfMap
+unfolding kindWords kindByWord caseWord caseKind wordsOfKinds allKinds rowFor listedBy modelOf sizesBy sizesOf seriesOf kindOfMap
     dimensionsOf tablesIn mapOf mapElements mapsOf vertexNumbers threes voxelsOf sameVoxel voxelAt locationsBy locations covers lengthBy
     lengthOf brainMaps labelsMaps
 mapWords = tt

@@ -5,17 +5,17 @@ use Prim.Native.Nat.{ℕ, _+_, _-_, _*_}
 use lib.Dec.{ltb}
 use lib.ListN.{length, getD}
 use Rattle.records.specs.Sheet.{countOf, widthOf}
-use Rattle.comparison.specs.Compare.{has, sameAt}
+use Rattle.comparison.specs.Compare.{hasRecord, sameAt}
 use Rattle.compare.specs.declared.changes.Change.{Change}
 use Rattle.compare.specs.declared.changes.Change.the-variants.{Same, Moved, First, Second}
 
 -- an index of the first: nothing if same, else moved or first
 unfoldable pub ofFirst : List ℕ → List ℕ → ℕ → Change
-ofFirst a b i = cond (sameAt a b i) Same (cond (has b (getD a i 0)) Moved First)
+ofFirst a b i = cond (sameAt a b i) Same (cond (hasRecord b (getD a i 0)) Moved First)
 
 -- an index of the second: nothing if the first has its location
 unfoldable pub ofSecond : List ℕ → List ℕ → ℕ → Change
-ofSecond a b j = cond (ltb j (length b)) (cond (has a (getD b j 0)) Same Second) Same
+ofSecond a b j = cond (ltb j (length b)) (cond (hasRecord a (getD b j 0)) Same Second) Same
 
 -- the indices of the first, and behind them those of the second
 unfoldable pub changeAt : List ℕ → List ℕ → ℕ → Change

@@ -28,11 +28,11 @@ frontRefusal s t room =
     ∷ [])
 
 -- 14 of one sheet
-unfoldable pub repeatRefusal : List ℕ → ℕ
-repeatRefusal t = first (14 when twoOf eqb (recordsOf t) ∷ [])
+unfoldable pub sheetRepeatRefusal : List ℕ → ℕ
+sheetRepeatRefusal t = first (14 when twoOf eqb (recordsOf t) ∷ [])
 
 -- a sheet to which 15 and 16 do not apply, and room for it
-pub record Fits (s : List ℕ) (room : ℕ) : Type 0 where
+pub record SheetFits (s : List ℕ) (room : ℕ) : Type 0 where
   pub fine : sheetRefusal s ≡ 0
   pub fits : countOf s ≤ room
 

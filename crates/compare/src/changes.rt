@@ -4,7 +4,7 @@ use records::Place;
 ghost use mathlib.Core.Path.{_≡_};
 ghost use Prim.Native.Nat.{_≤_, _<_};
 ghost use lib.ListN.{length};
-ghost use Rattle.comparison.specs.Compare.{has, hasAt};
+ghost use Rattle.comparison.specs.Compare.{hasRecord, hasAt};
 ghost use Rattle.compare.specs.Change.{changeAt, endSaid, firstEnd};
 
 // What is said of an index: nothing, or the word of its line.
@@ -25,7 +25,7 @@ fn stands_at(list: &[u64], place: Place, x: u64) -> bool
 
 // The list has the record.
 fn stands(list: &[u64], x: u64) -> bool
-    ensures { λ r. ⌜ r ≡ has (now (list .entry)) x ⌝ }
+    ensures { λ r. ⌜ r ≡ hasRecord (now (list .entry)) x ⌝ }
 {
     let found = find(list, x);
     found.number == 0

@@ -10,11 +10,11 @@ ghost use lib.Dec.{eqb};
 ghost use lib.ListN.{length};
 ghost use Rattle.lists.specs.Lists.{twoOf};
 ghost use Rattle.comparison.specs.Compare.{recordsOf, compared};
-ghost use Rattle.compare.specs.Refused.{repeatRefusal, Fits, Begun};
+ghost use Rattle.compare.specs.Refused.{sheetRepeatRefusal, SheetFits, Begun};
 
 // Where as many records of the first sheet are in the second as the second has, that one need not be looked through.
 fn twice_beyond(second: &[u8], m: usize, both: usize, work: &mut [u64]) -> bool
-    requires { ⌜ Fits (now second) (length (now work)) ⌝ }
+    requires { ⌜ SheetFits (now second) (length (now work)) ⌝ }
     ensures { λ r. ⌜ r ≡ (not (eqb both m) && twoOf eqb (recordsOf (now (second .entry)))) ⌝ }
 {
     if both == m {
@@ -26,7 +26,7 @@ fn twice_beyond(second: &[u8], m: usize, both: usize, work: &mut [u64]) -> bool
 // Of two sheets that are not refused, but for a location twice in the second.
 pub(crate) fn counted(first: &[u8], second: &[u8], work: &mut [u64]) -> Compared
     requires { ⌜ Begun (now first) (now second) (length (now work)) ⌝ }
-    ensures { λ r. ⌜ r ≡ compared (repeatRefusal (now (second .entry))) (recordsOf (now (first .entry)))
+    ensures { λ r. ⌜ r ≡ compared (sheetRepeatRefusal (now (second .entry))) (recordsOf (now (first .entry)))
         (recordsOf (now (second .entry))) ⌝ }
 {
     let n = count_in(first);

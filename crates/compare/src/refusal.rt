@@ -9,7 +9,7 @@ ghost use Rattle.lists.specs.Lists.{twoOf};
 ghost use Rattle.records.specs.Sheet.{countOf};
 ghost use Rattle.comparison.specs.Compare.{wellFormed, recordsOf, compareRefusal};
 ghost use Rattle.comparison.specs.Accepted.{sheetRefusal};
-ghost use Rattle.compare.specs.Refused.{sheetsRefusal, frontRefusal, Fits};
+ghost use Rattle.compare.specs.Refused.{sheetsRefusal, frontRefusal, SheetFits};
 
 // 15, 16 of one sheet, or 0.
 fn sheet_refusal(sheet: &[u8], work: &mut [u64]) -> u64
@@ -33,7 +33,7 @@ pub(crate) fn count_in(sheet: &[u8]) -> usize
 
 // The sheet has a location twice.
 pub(crate) fn location_twice(sheet: &[u8], work: &mut [u64]) -> bool
-    requires { ⌜ Fits (now sheet) (length (now work)) ⌝ }
+    requires { ⌜ SheetFits (now sheet) (length (now work)) ⌝ }
     ensures { λ r. ⌜ r ≡ twoOf eqb (recordsOf (now (sheet .entry))) ⌝ }
 {
     let said = unpack(sheet, work);

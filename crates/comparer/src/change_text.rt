@@ -7,7 +7,7 @@ ghost use Prim.Native.Nat.{_≤_};
 ghost use lib.ListN.{length};
 ghost use Rattle.io.specs.Counts.{Counts};
 ghost use Rattle.card.specs.Card.{recordLine};
-ghost use Rattle.card.specs.Written.{lineBytes, Spells, Writes};
+ghost use Rattle.card.specs.Written.{lineBytes, Spells, WritesOut};
 ghost use Rattle.comparer.specs.Output.{changeBytes, lineAt};
 
 // A word, and the line of a record behind it.
@@ -51,7 +51,7 @@ fn spell_at(first: &[u64], second: &[u64], n: usize, out: &mut [u8]) -> usize
 
 // That line goes to the start of the bytes lent; answers how many, 0 where they are too few or nothing is said.
 pub fn write_change(first: &[u64], second: &[u64], n: usize, out: &mut [u8]) -> usize
-    ensures { λ k. ⌜ Writes (lineAt (now (first .entry)) (now (second .entry)) n) (now (out .entry)) k (now (out .exit)) ⌝ }
+    ensures { λ k. ⌜ WritesOut (lineAt (now (first .entry)) (now (second .entry)) n) (now (out .entry)) k (now (out .exit)) ⌝ }
     ensures { λ k. ⌜ Counts k (now (out .exit)) ⌝ }
 {
     let mut space = [0u8; 128];

@@ -28,18 +28,18 @@ recordsOf s = heldIn seven (widthOf s) s
 unfoldable pub hasAt : List ℕ → ℕ → ℕ → Bool
 hasAt b i x = ltb i (length b) && eqb x (getD b i 0)
 
-unfoldable pub has : List ℕ → ℕ → Bool
-has b x = any (eqb x) b
+unfoldable pub hasRecord : List ℕ → ℕ → Bool
+hasRecord b x = any (eqb x) b
 
 -- what is said of the index i of a: b has its location there; b has it, but not there; b does not have it
 unfoldable pub sameAt : List ℕ → List ℕ → ℕ → Bool
 sameAt a b i = hasAt b i (getD a i 0)
 
 unfoldable pub movedAt : List ℕ → List ℕ → ℕ → Bool
-movedAt a b i = not (sameAt a b i) && has b (getD a i 0)
+movedAt a b i = not (sameAt a b i) && hasRecord b (getD a i 0)
 
 unfoldable pub onlyAt : List ℕ → List ℕ → ℕ → Bool
-onlyAt a b i = not (has b (getD a i 0))
+onlyAt a b i = not (hasRecord b (getD a i 0))
 
 -- over the indices of the first; and over those of the second
 abbrev pub same : List ℕ → List ℕ → ℕ
@@ -91,12 +91,12 @@ pub record Compares (s t before : List ℕ) (answer : Compared) (after : List �
 abbrev pub recordPlace : ℕ → List ℕ → ℕ
 recordPlace n s = 4 + (widthOf s) .bytes * n
 
-unfoldable pub behind : ℕ → List ℕ → List ℕ
-behind n s = drop (recordPlace n s) s
+unfoldable pub behindRecords : ℕ → List ℕ → List ℕ
+behindRecords n s = drop (recordPlace n s) s
 
 -- of the sheet with more records, those that the other has no place for; of equal counts nothing, of the first
-unfoldable pub partOf : List ℕ → List ℕ → List ℕ
-partOf s t = cond (ltb (countOf s) (countOf t)) (behind (countOf s) t) (behind (countOf t) s)
+unfoldable pub tailOf : List ℕ → List ℕ → List ℕ
+tailOf s t = cond (ltb (countOf s) (countOf t)) (behindRecords (countOf s) t) (behindRecords (countOf t) s)
 
 -- which sheet that is, 0 or 1, where the part starts there, and how long it is
 unfoldable pub placed : (number : ℕ) → List ℕ → List ℕ → TailPlace
@@ -104,7 +104,7 @@ placed n s t = record {
   number = n;
   sheet = unless n (cond (ltb (countOf s) (countOf t)) 1 0) 0;
   start = unless n (cond (ltb (countOf s) (countOf t)) (recordPlace (countOf s) t) (recordPlace (countOf t) s)) 0;
-  length = unless n (length (partOf s t)) 0;
+  length = unless n (length (tailOf s t)) 0;
 }
 
 -- what `tail_place` promises
@@ -114,10 +114,10 @@ pub record TailPlaced (s t before : List ℕ) (answer : TailPlace) (after : List
 
 -- what `tail` promises
 pub record Tails (s t before part after : List ℕ) : Type 0 where
-  pub answers : part ≡ unless (compareRefusal s t (length before)) (partOf s t) []
+  pub answers : part ≡ unless (compareRefusal s t (length before)) (tailOf s t) []
   pub zero : after ≡ replicate (length before) 0
 
 -- opens every definition above
 unfoldable pub compareWords : Unit {0}
-unfolding countBelow hasAt has sameAt movedAt onlyAt compareRefusal compared behind partOf placed
+unfolding countBelow hasAt hasRecord sameAt movedAt onlyAt compareRefusal compared behindRecords tailOf placed
 compareWords = tt

@@ -12,7 +12,7 @@ use steps::Step;
 use steps::pieces::Front;
 ghost use mathlib.Core.Path.{_≡_};
 ghost use lib.ListN.{length, drop};
-ghost use Rattle.nodes.specs.Children.{kid-at, first, next};
+ghost use Rattle.nodes.specs.Children.{kid-at, firstChild, next};
 ghost use Rattle.nodes.specs.Root.{root};
 
 // The child behind the comments, the characters and the CDATA at `at`, if there is one.
@@ -54,7 +54,7 @@ pub fn kid_from(text: &[u8], at: usize) -> Kid
 
 // The first child of the element at `at`.
 pub fn first_child(text: &[u8], at: usize) -> Kid
-    ensures { λ r. ⌜ r ≡ first (now (text .entry)) at ⌝ }
+    ensures { λ r. ⌜ r ≡ firstChild (now (text .entry)) at ⌝ }
 {
     match tag_end(text, at) {
         Tag::Open(i) => kid_from(text, i),

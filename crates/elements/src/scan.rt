@@ -15,7 +15,7 @@ ghost use Rattle.grammar.specs.Parser.{closing};
 ghost use Rattle.steps.specs.Step.{stepped};
 ghost use Rattle.steps.specs.Blocks.{Through, other};
 ghost use Rattle.nodes.specs.Scan.{to-tag, past-tag, finish, tag-from, tag-at, scan, leave-at, skip-at};
-ghost use Rattle.nodes.specs.ScanSteps.{tagged, signed, sign};
+ghost use Rattle.nodes.specs.ScanSteps.{tagTold, signTold, sign};
 ghost use Rattle.elements.specs.Tags.{turns, Turning, Nearby};
 
 // A place up to which the byte does not stand, reached by blocks.
@@ -79,7 +79,7 @@ fn turns_tag(b: u8) -> bool
 // Behind a tag that ends with the byte at `at`.
 fn finish_at(text: &[u8], at: usize) -> Tag
     requires { ⌜ at < length (now text) ⌝ }
-    ensures { λ r. ⌜ r ≡ tagged (length (now (text .entry)))
+    ensures { λ r. ⌜ r ≡ tagTold (length (now (text .entry)))
         (finish (getD (now (text .entry)) at 0) (drop (at + 1) (now (text .entry)))) ⌝ }
 {
     if text[at] == b'>' {
@@ -194,7 +194,7 @@ fn to_quote(text: &[u8], at: usize, q: u8) -> usize
 
 // The start tag that goes on at `at`, outside of quotes: signs and values by turns.
 pub fn tag_rest(text: &[u8], at: usize) -> Tag
-    ensures { λ r. ⌜ r ≡ tagged (length (now (text .entry))) (tag-from 0 (drop at (now (text .entry)))) ⌝ }
+    ensures { λ r. ⌜ r ≡ tagTold (length (now (text .entry))) (tag-from 0 (drop at (now (text .entry)))) ⌝ }
 {
     let mut i = at;
     loop {
@@ -216,7 +216,7 @@ pub fn tag_rest(text: &[u8], at: usize) -> Tag
 
 // The same, quick where the tag ends at `at`.
 pub fn tag_left(text: &[u8], at: usize) -> Tag
-    ensures { λ r. ⌜ r ≡ tagged (length (now (text .entry))) (tag-from 0 (drop at (now (text .entry)))) ⌝ }
+    ensures { λ r. ⌜ r ≡ tagTold (length (now (text .entry))) (tag-from 0 (drop at (now (text .entry)))) ⌝ }
 {
     if at < text.len() {
         if ends_tag(text[at]) {
@@ -228,7 +228,7 @@ pub fn tag_left(text: &[u8], at: usize) -> Tag
 
 // The start tag at `at`.
 pub fn tag_end(text: &[u8], at: usize) -> Tag
-    ensures { λ r. ⌜ r ≡ tagged (length (now (text .entry))) (tag-at (drop at (now (text .entry)))) ⌝ }
+    ensures { λ r. ⌜ r ≡ tagTold (length (now (text .entry))) (tag-at (drop at (now (text .entry)))) ⌝ }
 {
     if text.len() <= at {
         return Tag::No;
@@ -238,7 +238,7 @@ pub fn tag_end(text: &[u8], at: usize) -> Tag
 
 // What stands at a place where contents go on with a tag.
 fn sign_at(text: &[u8], at: usize) -> Sign
-    ensures { λ r. ⌜ r ≡ signed (length (now (text .entry))) (sign (drop at (now (text .entry)))) ⌝ }
+    ensures { λ r. ⌜ r ≡ signTold (length (now (text .entry))) (sign (drop at (now (text .entry)))) ⌝ }
 {
     match front_at(text, at) {
         Front::Close => close_sign(text, at),

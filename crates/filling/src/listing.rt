@@ -12,11 +12,11 @@ ghost use mathlib.Core.Path.{_≡_};
 ghost use mathlib.Core.Bool.{true, false};
 ghost use Rattle.records.specs.Fill.{wrote};
 ghost use Rattle.models.specs.Numbers.{valuesAt};
-ghost use Rattle.table.specs.Listing.{Writable, recordsListed};
+ghost use Rattle.table.specs.Listing.{ListWritable, recordsListed};
 
 // The vertices that are listed from `start` on.
 pub(crate) fn fill_vertices(text: &[u8], start: usize, structure: u64, out: &mut [u64], at: Place)
-    requires { ⌜ Writable false structure (now text) start (at .0) (now out) ⌝ }
+    requires { ⌜ ListWritable false structure (now text) start (at .0) (now out) ⌝ }
     ensures { λ _. ⌜ now (out .exit) ≡ wrote (at .0) (recordsListed false structure (valuesAt (now (text .entry)) start))
         (now (out .entry)) ⌝ }
 {
@@ -48,7 +48,7 @@ pub(crate) fn fill_vertices(text: &[u8], start: usize, structure: u64, out: &mut
 
 // The voxels that are listed from `start` on.
 pub(crate) fn fill_voxels(text: &[u8], start: usize, structure: u64, out: &mut [u64], at: Place)
-    requires { ⌜ Writable true structure (now text) start (at .0) (now out) ⌝ }
+    requires { ⌜ ListWritable true structure (now text) start (at .0) (now out) ⌝ }
     ensures { λ _. ⌜ now (out .exit) ≡ wrote (at .0) (recordsListed true structure (valuesAt (now (text .entry)) start))
         (now (out .entry)) ⌝ }
 {

@@ -8,7 +8,7 @@ use numbers::Whole;
 ghost use mathlib.Core.Path.{_≡_};
 ghost use Rattle.nodes.specs.Texts.{text-of, saysAt};
 ghost use Rattle.nodes.specs.Values.{value-there};
-ghost use Rattle.forms.specs.Passed.{Passed};
+ghost use Rattle.forms.specs.Passed.{NumbersPassed};
 ghost use Rattle.numbers.specs.Numbers.{whole, volumeDimensions, dimensionList, exponent, decimal, wholes, sixteen};
 
 pub fn is_whole(text: &[u8], v: usize, least: u64, most: u64) -> bool
@@ -58,7 +58,7 @@ pub fn are_lengths(text: &[u8], v: usize, width: u64, depth: u64, height: u64) -
 
 // The place behind the plain numbers up to `most` that are next.
 fn plain_wholes(text: &[u8], at: usize, most: u64) -> usize
-    ensures { λ r. ⌜ Passed (now (text .entry)) at most r ⌝ }
+    ensures { λ r. ⌜ NumbersPassed (now (text .entry)) at most r ⌝ }
 {
     let mut i = at;
     loop {

@@ -8,7 +8,7 @@ ghost use lib.ListN.{length};
 ghost use Rattle.lists.specs.Lists.{allBelow};
 ghost use Rattle.nifti.specs.File.{orderOf, sizeStands, magicAt, offsetStands, frontStands, oneAt, lengthStands, dimsStand};
 ghost use Rattle.nifti.specs.File.{lengthCount, lengthAt};
-ghost use Rattle.nifti.specs.Header.{Told, Asked, Counted, Looked};
+ghost use Rattle.nifti.specs.Header.{OrderKnown, LengthAsked, FewLengths, Looked};
 
 const MAGIC: [u8; 8] = [b'n', b'+', b'2', 0, b'\r', b'\n', 26, b'\n'];
 
@@ -35,7 +35,7 @@ pub(crate) fn order_of(file: &[u8]) -> Order
 }
 
 fn size_stands(file: &[u8], order: Order) -> bool
-    requires { ⌜ Told (now file) order ⌝ }
+    requires { ⌜ OrderKnown (now file) order ⌝ }
     ensures { λ r. ⌜ r ≡ sizeStands (now (file .entry)) ⌝ }
 {
     four(file, 0, order) == 540
@@ -56,7 +56,7 @@ fn magic_stands(file: &[u8]) -> bool
 }
 
 fn offset_stands(file: &[u8], order: Order) -> bool
-    requires { ⌜ Told (now file) order ⌝ }
+    requires { ⌜ OrderKnown (now file) order ⌝ }
     ensures { λ r. ⌜ r ≡ offsetStands (now (file .entry)) ⌝ }
 {
     let end = eight(file, OFFSET, order);
@@ -64,7 +64,7 @@ fn offset_stands(file: &[u8], order: Order) -> bool
 }
 
 pub(crate) fn front_stands(file: &[u8], order: Order) -> bool
-    requires { ⌜ Told (now file) order ⌝ }
+    requires { ⌜ OrderKnown (now file) order ⌝ }
     ensures { λ r. ⌜ r ≡ frontStands (now (file .entry)) ⌝ }
 {
     if size_stands(file, order) {
@@ -77,7 +77,7 @@ pub(crate) fn front_stands(file: &[u8], order: Order) -> bool
 
 // As many as dim[0] says; 0 where it says another number.
 pub(crate) fn length_count(file: &[u8], order: Order) -> usize
-    requires { ⌜ Told (now file) order ⌝ }
+    requires { ⌜ OrderKnown (now file) order ⌝ }
     ensures { λ r. ⌜ r ≡ lengthCount (now (file .entry)) ⌝ }
 {
     let many = eight(file, DIMS, order);
@@ -89,7 +89,7 @@ pub(crate) fn length_count(file: &[u8], order: Order) -> usize
 
 // dim[1] to dim[4].
 fn ones_stand(file: &[u8], order: Order) -> bool
-    requires { ⌜ Told (now file) order ⌝ }
+    requires { ⌜ OrderKnown (now file) order ⌝ }
     ensures { λ r. ⌜ r ≡ allBelow 4 (oneAt (now (file .entry))) ⌝ }
 {
     let mut i = 4;
@@ -103,7 +103,7 @@ fn ones_stand(file: &[u8], order: Order) -> bool
 }
 
 fn length_stands(file: &[u8], order: Order, i: usize) -> bool
-    requires { ⌜ Asked (now file) order i ⌝ }
+    requires { ⌜ LengthAsked (now file) order i ⌝ }
     ensures { λ r. ⌜ r ≡ lengthStands (now (file .entry)) i ⌝ }
 {
     let n = eight(file, DIMS + 8 * (5 + i), order);
@@ -111,7 +111,7 @@ fn length_stands(file: &[u8], order: Order, i: usize) -> bool
 }
 
 fn lengths_stand(file: &[u8], order: Order, count: usize) -> bool
-    requires { ⌜ Counted (now file) order count ⌝ }
+    requires { ⌜ FewLengths (now file) order count ⌝ }
     ensures { λ r. ⌜ r ≡ allBelow count (lengthStands (now (file .entry))) ⌝ }
 {
     let mut i = count;
@@ -125,7 +125,7 @@ fn lengths_stand(file: &[u8], order: Order, count: usize) -> bool
 }
 
 pub(crate) fn dims_stand(file: &[u8], order: Order) -> bool
-    requires { ⌜ Told (now file) order ⌝ }
+    requires { ⌜ OrderKnown (now file) order ⌝ }
     ensures { λ r. ⌜ r ≡ dimsStand (now (file .entry)) ⌝ }
 {
     let count = length_count(file, order);

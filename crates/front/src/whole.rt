@@ -10,7 +10,7 @@ use nifti::Front;
 use nifti::Order;
 ghost use mathlib.Core.Path.{_≡_};
 ghost use Rattle.nifti.specs.File.{Fronts, FrontPart, refusedFront};
-ghost use Rattle.nifti.specs.Header.{acceptedWith};
+ghost use Rattle.nifti.specs.Header.{frontAccepted};
 ghost use Rattle.nifti.specs.Front.{Bodied};
 
 fn refused(number: u64) -> Front
@@ -27,7 +27,7 @@ fn refused(number: u64) -> Front
 
 fn accepted(file: &[u8], order: Order, start: usize, size: usize) -> Front
     requires { ⌜ Bodied (now file) order start size ⌝ }
-    ensures { λ r. ⌜ r ≡ acceptedWith (now (file .entry)) start size ⌝ }
+    ensures { λ r. ⌜ r ≡ frontAccepted (now (file .entry)) start size ⌝ }
 {
     let count = length_count(file, order);
     let mut lengths = [0u64; 3];

@@ -13,7 +13,7 @@ use Rattle.grammar.specs.Document.{Element}
 use Rattle.grammar.specs.Look.{is, nameOf, has}
 use Rattle.numbers.specs.Numbers.{sameKey}
 use Rattle.schema.specs.Schema.{everywhere, shaped, numbered}
-use Rattle.cifti.specs.LabelTable.{keyTwice}
+use Rattle.cifti.specs.LabelTable.{keyTwiceIn}
 use Rattle.cifti.specs.Conditions.{textTooLong, noDocument}
 use Rattle.gifti.specs.Rows.{gifti, giftiRows}
 use Rattle.gifti.specs.Arrays.{arraysOf, arraysSaid, fillsDim0, labelTables, knownKeys, keysOfArrays}
@@ -48,7 +48,7 @@ arraysWrong e = not (eqb (length (arraysOf e)) (arraysSaid e))
 
 -- 24: a key twice in the table
 unfoldable pub labelTwice : Element → Bool
-labelTwice e = any keyTwice (labelTables e)
+labelTwice e = any keyTwiceIn (labelTables e)
 
 -- 18: no such array
 unfoldable pub noArray : (array : ℕ) → Element → Bool

@@ -41,7 +41,7 @@ dataAt text at = orStart (childNamed (ascii "Data") 0 text at)
 unfoldable pub spareOf : Element → ℕ
 spareOf a = cond (isCoded a) (codedBytes (dataOf a) % 4) 0
 
-pub record Noted (text : List ℕ) (a : Element) (n : ArrayNote) : Type 0 where
+pub record ArrayNoted (text : List ℕ) (a : Element) (n : ArrayNote) : Type 0 where
   pub keys-are : keysAhead (n .encoding) text (keysStart text (n .from)) ≡ arrayKeys a
   pub spare-is : spareBytes (n .encoding) text (keysStart text (n .from)) ≡ spareOf a
   pub count-is : n .count ≡ dim0 a
@@ -58,7 +58,7 @@ pub record ToldArray (text : List ℕ) (a : Element) (codes : List ℕ) (r : Arr
 unfoldable pub keysOfAll : List Element → List ℤ
 keysOfAll l = eachIn arrayKeys l
 
-pub record ToldAll (e : Element) (codes : List ℕ) (r : Told) : Type 0 where
+pub record ArraysTold (e : Element) (codes : List ℕ) (r : Told) : Type 0 where
   pub many : r .arrays ≡ length (arraysOf e)
   pub fitting : r .fit ≡ all fillsDim0 (arraysOf e)
   pub counted : r .keys ≡ length (keysOfAll (arraysOf e))

@@ -8,7 +8,7 @@ use nodes::Found;
 ghost use mathlib.Core.Path.{_≡_};
 ghost use Rattle.nodes.specs.Places.{Stands, the};
 ghost use Rattle.gifti_arrays.specs.Ready.{ArrayHere, ArrayAsked};
-ghost use Rattle.gifti_arrays.specs.Arrays.{encodingOf, dataAt, Noted, ToldArray};
+ghost use Rattle.gifti_arrays.specs.Arrays.{encodingOf, dataAt, ArrayNoted, ToldArray};
 
 // Where the Data of an array stands, how it writes the keys, and how many they are to be.
 pub struct ArrayNote {
@@ -50,7 +50,7 @@ fn data_of(text: &[u8], at: usize) -> usize
 
 pub fn noted(text: &[u8], at: usize) -> ArrayNote
     requires { ⌜ ArrayHere (now text) at ⌝ }
-    ensures { λ r. ⌜ Noted (now (text .entry)) (the (now (text .entry)) at) r ⌝ }
+    ensures { λ r. ⌜ ArrayNoted (now (text .entry)) (the (now (text .entry)) at) r ⌝ }
 {
     ArrayNote {
         from: data_of(text, at),

@@ -6,7 +6,7 @@ use inside::names::name_is;
 use nodes::Kid;
 ghost use Rattle.nodes.specs.Places.{the};
 ghost use Rattle.gifti_arrays.specs.Ready.{ArraysAsked};
-ghost use Rattle.gifti_arrays.specs.Arrays.{ToldAll};
+ghost use Rattle.gifti_arrays.specs.Arrays.{ArraysTold};
 
 // How many arrays there are, whether each has as many keys as it is to have; how many keys, and how many of them stand in the part of the
 // table.
@@ -19,7 +19,7 @@ pub struct Told {
 
 pub fn arrays_told(text: &[u8], root: usize, codes: &[u32]) -> Told
     requires { ⌜ ArraysAsked (now text) root (now codes) ⌝ }
-    ensures { λ r. ⌜ ToldAll (the (now (text .entry)) root) (now (codes .entry)) r ⌝ }
+    ensures { λ r. ⌜ ArraysTold (the (now (text .entry)) root) (now (codes .entry)) r ⌝ }
 {
     let mut arrays = 0;
     let mut fit = true;

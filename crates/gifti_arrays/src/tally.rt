@@ -7,7 +7,7 @@ use known_keys::known_among;
 ghost use mathlib.Core.Path.{_≡_};
 ghost use mathlib.Core.Bool.{true};
 ghost use Rattle.array_keys.specs.Ahead.{keysAhead, keysStart};
-ghost use Rattle.label_table.specs.Labels.{filledWith};
+ghost use Rattle.label_table.specs.Labels.{keysWritten};
 ghost use Rattle.known_keys.specs.Order.{inOrder};
 ghost use Rattle.gifti_arrays.specs.Tally.{RowRoom, Tallied};
 
@@ -55,7 +55,7 @@ pub(crate) fn count_keys(text: &[u8], from: usize, encoding: Encoding, codes: &[
 // Writes the keys from the start of the slice, as many as it has room for.
 pub fn fill(text: &[u8], from: usize, encoding: Encoding, keys: &mut [i32])
     ensures { λ _. ⌜ now (keys .exit)
-        ≡ filledWith (keysAhead encoding (now (text .entry)) (keysStart (now (text .entry)) from)) (now (keys .entry)) ⌝ }
+        ≡ keysWritten (keysAhead encoding (now (text .entry)) (keysStart (now (text .entry)) from)) (now (keys .entry)) ⌝ }
 {
     let values = letter_values();
     let start = keys_start(text, from);

@@ -8,6 +8,6 @@ use Rattle.gifti_opening.specs.Passed.{FileHere}
 use Rattle.gifti_reader.specs.Number.{rowsOfArrays}
 
 -- none of them applies
-pub record Passed (text : List ℕ) (root array : ℕ) : Type 0 where
+pub record ArraysPassed (text : List ℕ) (root array : ℕ) : Type 0 where
   pub file : FileHere text root
   pub none : 0 ≡ first (rowsOfArrays array (the text root))

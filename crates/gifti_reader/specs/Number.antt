@@ -6,7 +6,7 @@ use Prim.Native.Nat.{ℕ}
 use Rattle.lists.specs.Refusals.{Refusal, _when_, first}
 use Rattle.grammar.specs.Document.{Element}
 use Rattle.nodes.specs.Places.{the}
-use Rattle.label_table.specs.Labels.{keysAt, twiceAt}
+use Rattle.label_table.specs.Labels.{tableKeysAt, twiceAt}
 use Rattle.gifti.specs.Arrays.{knownKeys}
 use Rattle.gifti.specs.Conditions.{arraysWrong, labelTwice, noArray, lengthWrong, keyUnknown}
 use Rattle.gifti_opening.specs.Passed.{FileHere}
@@ -29,7 +29,7 @@ numberOnce i e = first (9 when arraysWrong e ∷ 18 when noArray i e ∷ 30 when
 
 -- the place of the table of labels
 pub record TableAt (text : List ℕ) (e : Element) (t : ℕ) : Type 0 where
-  pub keys-are : keysAt text t ≡ knownKeys e
+  pub keys-are : tableKeysAt text t ≡ knownKeys e
   pub twice-is : twiceAt text t ≡ labelTwice e
 
 pub record TableOnce (text : List ℕ) (root table : ℕ) : Type 0 where

@@ -12,7 +12,7 @@ ghost use Rattle.gifti.specs.Keys.{KeysOf};
 ghost use Rattle.gifti_opening.specs.Passed.{FileHere};
 ghost use Rattle.gifti_arrays.specs.Ready.{ArrayFull};
 ghost use Rattle.label_table.specs.Labels.{Wrote};
-ghost use Rattle.gifti_reader.specs.Keys.{Passed};
+ghost use Rattle.gifti_reader.specs.Keys.{ArraysPassed};
 
 // The keys of the array at `at`, where there is room for them.
 fn keys_at(text: &[u8], at: usize, keys: &mut [i32]) -> Filled
@@ -36,7 +36,7 @@ fn keys_at(text: &[u8], at: usize, keys: &mut [i32]) -> Filled
 
 // Behind all conditions but 17.
 fn keys_passed(text: &[u8], root: usize, array: u64, keys: &mut [i32]) -> Filled
-    requires { ⌜ Passed (now text) root array ⌝ }
+    requires { ⌜ ArraysPassed (now text) root array ⌝ }
     ensures { λ r. ⌜ KeysOf (now (text .entry)) array (now (keys .entry)) (r .number) (r .count) (now (keys .exit)) ⌝ }
 {
     match child_named(text, root, b"DataArray", array) {

@@ -8,8 +8,8 @@ use Prim.Native.Nat.{ℕ, suc, _≤_}
 use mathlib.Core.Bool.{Bool, true, false}
 use lib.Dec.{eqb}
 use lib.ListN.{length}
-use Rattle.grammar.specs.Bytes.{_⊹_, ascii, blank, nameStart, nameByte, quote, special, Each, Sequence, Row, begins, parted, closed}
-use Rattle.grammar.specs.Bytes.{skipped}
+use Rattle.grammar.specs.Bytes.{_⊹_, ascii, blank, nameStart, nameByte, quote, special, Each, Sequence, SequenceUnless, begins}
+use Rattle.grammar.specs.Bytes.{parted, closed, skipped}
 use Rattle.grammar.specs.Characters.{Character}
 use Rattle.grammar.specs.Document.{Attribute, attribute, Element, element, Contents, nothing, child, run, merged, together}
 
@@ -54,7 +54,7 @@ pub data ValueCharacter (q : ℕ) : List ℕ → List ℕ → Type 0 where
 
 -- A value in quotes.
 pub data Value : List ℕ → List ℕ → Type 0 where
-  value : (q : ℕ) {bs : List (List ℕ)} {w : List ℕ} → quote q ≡ true → Row (ValueCharacter q) parted bs w
+  value : (q : ℕ) {bs : List (List ℕ)} {w : List ℕ} → quote q ≡ true → SequenceUnless (ValueCharacter q) parted bs w
       → Value (together bs) ((q ∷ []) ⊹ w ⊹ (q ∷ []))
 
 -- An attribute, with the blanks before it.
@@ -91,7 +91,8 @@ pub data DataCharacter : List ℕ → List ℕ → Type 0 where
 
 -- CDATA: what it reads as, and how it is written. `]]>` stands nowhere among its characters.
 pub data CData : List ℕ → List ℕ → Type 0 where
-  cdata : {bs : List (List ℕ)} {w : List ℕ} → Row DataCharacter closed bs w → CData (together bs) (ascii "<![CDATA[" ⊹ w ⊹ ascii "]]>")
+  cdata : {bs : List (List ℕ)} {w : List ℕ} → SequenceUnless DataCharacter closed bs w
+      → CData (together bs) (ascii "<![CDATA[" ⊹ w ⊹ ascii "]]>")
 
 mutual
   -- An element that holds elements at most so deep, itself counted.

@@ -5,7 +5,7 @@ use mathlib.Core.Option
 use mathlib.Core.Bool.{Bool, true, false, _&&_, _||_, not, cond}
 use Prim.Native.Nat.{ℕ}
 use Prim.Native.String.{String}
-use Rattle.grammar.specs.Bytes.{ascii, same}
+use Rattle.grammar.specs.Bytes.{ascii, sameBytes}
 use Rattle.grammar.specs.Document.{Attribute, attribute, Element, element, Contents, nothing, child, run}
 use Rattle.lists.specs.Lists.{those, any}
 
@@ -15,7 +15,7 @@ Word = List ℕ
 
 -- the bytes are this word
 unfoldable pub is : String → Word → Bool
-is s w = same w (ascii s)
+is s w = sameBytes w (ascii s)
 
 unfoldable pub nameOf : Element → Word
 nameOf (element n l c k) = n
@@ -67,5 +67,5 @@ unfoldable pub textOf : Element → Word
 textOf e = characters (contentsOf e)
 
 unfoldable pub looks : Unit {0}
-unfolding same is nameOf attributesOf contentsOf withinOf valueIn orEmpty attr has elements characters children textOf
+unfolding sameBytes is nameOf attributesOf contentsOf withinOf valueIn orEmpty attr has elements characters children textOf
 looks = tt

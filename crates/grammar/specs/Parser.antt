@@ -9,7 +9,7 @@ use mathlib.Core.Bool.{Bool, true, false, _&&_, _||_, not}
 use lib.Dec.{eqb, leb}
 use lib.ListN.{length}
 use Rattle.grammar.specs.Bytes.{ascii, blank, nameStart, nameByte, quote, special, begins, letter, skipped}
-unfoldable pub use Rattle.grammar.specs.Bytes.{same}
+unfoldable pub use Rattle.grammar.specs.Bytes.{sameBytes}
 use Rattle.grammar.specs.Characters.{lead1, lead2, lead3, lead4, continues, noncharacter}
 use Rattle.grammar.specs.Document.{Attribute, attribute, Element, element, Contents, nothing, child, merged, together}
 use Rattle.grammar.specs.Read.{Read, fail, got, Reader, bind, _>>=_, _>>_, pure, test, mark, byte, span, seen, before, alt, all-of}
@@ -151,7 +151,7 @@ closing a = eqb a 62 || eqb a 47
 
 unfoldable pub absent : List ℕ → List Attribute → Bool
 absent n [] = true
-absent n (attribute m v ∷ l) = not (same n m) && absent n l
+absent n (attribute m v ∷ l) = not (sameBytes n m) && absent n l
 
 unfoldable pub distinct : List Attribute → Bool
 distinct [] = true
@@ -368,10 +368,9 @@ parse s = answer (document-at (length s) s)
 -- the parser with all that it calls open: `unfolding computing` lets a proof compute `parse` at a text that is given
 unfoldable pub computing : List ℕ → Option Element
 unfolding name-at gap-at equals-at width-by width rest-by rest-at literal-at standsFor reference-at feed-if feed-at line-end-at text-byte
-    text-at spacing space-at value-byte value-character-at value-at attribute-at ends closing same absent distinct attributes-at no-dash
-    plain-at dashed-at remark-at comment-at data-byte data-character-at data-at look-third look₃ look-by look₂ look-if look empty-at
+    text-at spacing space-at value-byte value-character-at value-at attribute-at ends closing sameBytes absent distinct attributes-at
+    no-dash plain-at dashed-at remark-at comment-at data-byte data-character-at data-at look-third look₃ look-by look₂ look-if look empty-at
     full-at element-at contents-by contents-at setting-at asking encoding-if declaration-if declaration-at blank-at remarked-at aside-at
-    no-aside skipped-at doctype-at doctype-if prologue-at end-at document-at answer parse bind test mark byte span stops alt many-step
-    many all-of seen before blank letter nameStart nameByte quote special begins skipped lead1 continues lead2 lead3 lead4 noncharacter
-    merged
+    no-aside skipped-at doctype-at doctype-if prologue-at end-at document-at answer parse bind test mark byte span stops alt many-step many
+    all-of seen before blank letter nameStart nameByte quote special begins skipped lead1 continues lead2 lead3 lead4 noncharacter merged
 computing s = parse s

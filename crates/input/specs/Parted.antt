@@ -30,8 +30,8 @@ pub record Ran (w : Word) (at : ℕ) (r : Run) : Type 0 where
   pub valued : r .value ≡ value read
   pub stops : r .count < 7 → digitFirst (drop (r .next) w) ≡ 10
 
-pub data Parted (w : Word) (at : ℕ) : Part → Type 0 where
+pub data LineParted (w : Word) (at : ℕ) : Part → Type 0 where
   part-comma : (x : Word) {j : ℕ} → digits 1 7 x ≡ true → parts comma (drop at w) ≡ x ∷ parts comma (drop j w)
-      → Parted w at (Comma (value x) j)
-  part-last : (x : Word) → digits 1 7 x ≡ true → parts comma (drop at w) ≡ x ∷ [] → Parted w at (Last (value x))
-  part-no : (x : Word) (l : List Word) → digits 1 7 x ≡ false → parts comma (drop at w) ≡ x ∷ l → Parted w at No
+      → LineParted w at (Comma (value x) j)
+  part-last : (x : Word) → digits 1 7 x ≡ true → parts comma (drop at w) ≡ x ∷ [] → LineParted w at (Last (value x))
+  part-no : (x : Word) (l : List Word) → digits 1 7 x ≡ false → parts comma (drop at w) ≡ x ∷ l → LineParted w at No

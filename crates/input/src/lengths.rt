@@ -2,7 +2,7 @@
 ghost use mathlib.Core.Path.{_≡_};
 ghost use Rattle.numbers.specs.Numbers.{parts, comma};
 ghost use Rattle.input.specs.Lengths.{wholesOf, lengthsIn, firstBy};
-ghost use Rattle.input.specs.Parted.{FirstDigit, Ran, Parted};
+ghost use Rattle.input.specs.Parted.{FirstDigit, Ran, LineParted};
 
 pub enum FirstLine {
     Two(u64, u64),
@@ -71,7 +71,7 @@ fn digits_at(word: &[u8], at: usize) -> Run
 
 // The number at `at` up to a comma or the end.
 fn part_at(word: &[u8], at: usize) -> Part
-    ensures { λ r. ⌜ Parted (now (word .entry)) at r ⌝ }
+    ensures { λ r. ⌜ LineParted (now (word .entry)) at r ⌝ }
 {
     let run = digits_at(word, at);
     let j = run.next;

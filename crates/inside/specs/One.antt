@@ -5,7 +5,7 @@ use Prim.Native.Nat.{ℕ, _+_, _-_, _≤_, _<_}
 use lib.ListN.{length, take, drop}
 use Rattle.grammar.specs.Bytes.{_⊹_}
 use Rattle.nodes.specs.Scan.{tag-at}
-use Rattle.nodes.specs.ScanSteps.{tagged}
+use Rattle.nodes.specs.ScanSteps.{tagTold}
 use Rattle.nodes.specs.Inside.{between-tags}
 use Rattle.nodes.specs.declared.Found.the-variants.{At}
 use Rattle.nodes.specs.declared.scan.Tag.{Tag}
@@ -20,7 +20,7 @@ behindTag (Bare i) = i
 behindTag No = 0
 
 unfoldable pub tagEnd : List ℕ → ℕ → ℕ
-tagEnd text k = behindTag (tagged (length text) (tag-at (drop k text)))
+tagEnd text k = behindTag (tagTold (length text) (tag-at (drop k text)))
 
 -- the place of the way, by places: the walk finds an element there, its start tag ends where the part starts, and the part is
 -- within it
@@ -31,6 +31,6 @@ pub record Met (way : List Step) (part text : List ℕ) (start : ℕ) : Type 0 w
   pub within-is : part ≡ between-tags text at
 
 -- the part stands at its start
-pub record Cut (text : List ℕ) (start : ℕ) (part : List ℕ) : Type 0 where
+pub record PartStands (text : List ℕ) (start : ℕ) (part : List ℕ) : Type 0 where
   pub inside : start + length part ≤ length text
   pub is : take (length part) (drop start text) ≡ part

@@ -7,7 +7,7 @@ use Prim.Native.Nat.{ℕ, zero, suc, _<_}
 use lib.ListN.{length}
 use Rattle.lists.specs.Lists.{those}
 use Rattle.nodes.specs.Places.{the}
-use Rattle.nodes.specs.Children.{first, next}
+use Rattle.nodes.specs.Children.{firstChild, next}
 use Rattle.nodes.specs.Root.{root}
 use Rattle.nodes.specs.declared.Kid.{Kid}
 use Rattle.nodes.specs.declared.Kid.the-variants.{Child, Done}
@@ -33,7 +33,7 @@ nthPlace (suc n) (k ∷ l) = nthPlace n l
 
 -- the n-th child that passes, by places: any bytes
 unfoldable pub childAt : (test : ℕ → Bool) (n : ℕ) (text : List ℕ) (at : ℕ) → Found
-childAt t n text at = nthPlace n (those t (placesFrom text (first text at)))
+childAt t n text at = nthPlace n (those t (placesFrom text (firstChild text at)))
 
 unfoldable pub thence : (ℕ → Found) → Found → Found
 thence f Nothing = Nothing

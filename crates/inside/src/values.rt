@@ -8,7 +8,7 @@ use nodes::Found;
 use steps::characters::Reference;
 ghost use mathlib.Core.Path.{_≡_};
 ghost use lib.ListN.{drop, getD};
-ghost use Rattle.grammar.specs.Parser.{same};
+ghost use Rattle.grammar.specs.Parser.{sameBytes};
 ghost use Rattle.nodes.specs.Values.{decoded-at, value-there, tells};
 ghost use Rattle.nodes.specs.Fronts.{behind-quote, begins-at};
 ghost use Rattle.nodes.specs.Found.{value-at-name};
@@ -62,7 +62,7 @@ pub fn decoded(text: &[u8], at: usize, quote: u8) -> Char
 
 // The decoded bytes from `at` up to the quote are the word.
 pub fn rest_is(text: &[u8], at: usize, quote: u8, word: &[u8]) -> bool
-    ensures { λ r. ⌜ r ≡ same (tells quote (drop at (now (text .entry)))) (now (word .entry)) ⌝ }
+    ensures { λ r. ⌜ r ≡ sameBytes (tells quote (drop at (now (text .entry)))) (now (word .entry)) ⌝ }
 {
     let mut k = 0;
     let mut i = at;
@@ -134,14 +134,14 @@ pub fn begins(text: &[u8], v: usize, front: &[u8]) -> Found
 
 // The value that begins at `v`, with its quote, is the word.
 pub fn value_is(text: &[u8], v: usize, word: &[u8]) -> bool
-    ensures { λ r. ⌜ r ≡ same (value-there (now (text .entry)) v) (now (word .entry)) ⌝ }
+    ensures { λ r. ⌜ r ≡ sameBytes (value-there (now (text .entry)) v) (now (word .entry)) ⌝ }
 {
     rest_is(text, behind_quote(text, v), quote_at(text, v), word)
 }
 
 // The value of the attribute with the name, nothing where it is missing, is the word.
 pub fn attribute_is(text: &[u8], at: usize, name: &[u8], word: &[u8]) -> bool
-    ensures { λ r. ⌜ r ≡ same (value-at-name (now (text .entry)) at (now (name .entry))) (now (word .entry)) ⌝ }
+    ensures { λ r. ⌜ r ≡ sameBytes (value-at-name (now (text .entry)) at (now (name .entry))) (now (word .entry)) ⌝ }
 {
     match attribute(text, at, name) {
         Found::At(v) => value_is(text, v, word),

@@ -9,11 +9,11 @@ use models::gather::Models;
 use nodes::Kid;
 ghost use mathlib.Core.Path.{_≡_};
 ghost use Rattle.models.specs.Brain.{BrainAt};
-ghost use Rattle.models.specs.Gathered.{Room, withModel, Gathers, offsetSeen, lengthSeen};
+ghost use Rattle.models.specs.Gathered.{ModelRoom, withModel, Gathers, offsetSeen, lengthSeen};
 
 // With the model at `at`, which is of this kind, behind those that are there.
 fn with_model(text: &[u8], at: usize, kind: u64, models: Models) -> Models
-    requires { ⌜ Room (now text) at models ⌝ }
+    requires { ⌜ ModelRoom (now text) at models ⌝ }
     ensures { λ r. ⌜ r ≡ withModel models at (offsetSeen (now (text .entry)) at) (lengthSeen (now (text .entry)) at) kind ⌝ }
 {
     let n = models.count;

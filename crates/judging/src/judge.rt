@@ -11,13 +11,13 @@ use models::judge::Ruling;
 use models::judge::no_models;
 ghost use mathlib.Core.Path.{_≡_};
 ghost use Prim.Native.Nat.{_<_};
-ghost use Rattle.lists.specs.Refusals.{sooner};
+ghost use Rattle.lists.specs.Refusals.{soonerRefusal};
 ghost use Rattle.maps.specs.Survey.{Noted};
 ghost use Rattle.maps.specs.Ready.{Ready};
 ghost use Rattle.models.specs.Judged.{RulesIn, JudgesIn, withRuling};
 
 fn first_of(a: u64, b: u64) -> u64
-    ensures { λ r. ⌜ r ≡ sooner a b ⌝ }
+    ensures { λ r. ⌜ r ≡ soonerRefusal a b ⌝ }
 {
     if a == 0 {
         return b;

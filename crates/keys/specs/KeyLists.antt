@@ -12,7 +12,7 @@ use Rattle.keys.specs.declared.key_lists.ListedKey.{ListedKey}
 use Rattle.keys.specs.declared.key_lists.ListedKey.the-variants.{Key, End, Bad}
 
 -- The first of the words writes the key z; the others are ahead of the place j, and fewer bytes than `most` are.
-pub record First (text : List ℕ) (ahead : List Word) (most : ℕ) (z : ℤ) (j : ℕ) : Type 0 where
+pub record FirstKey (text : List ℕ) (ahead : List Word) (most : ℕ) (z : ℤ) (j : ℕ) : Type 0 where
   pub word : Word
   pub in-form : key word ≡ true
   pub valued : z ≡ keyValue word
@@ -26,14 +26,14 @@ pub record NoKey (ahead : List Word) : Type 0 where
   pub out-of-form : key word ≡ false
   pub splits : ahead ≡ word ∷ others
 
-pub record Told (text : List ℕ) (ahead : List Word) (most : ℕ) (r : ListedKey) : Type 0 where
-  pub on-key : {z : ℤ} {j : ℕ} → r ≡ Key z j → First text ahead most z j
+pub record KeyRead (text : List ℕ) (ahead : List Word) (most : ℕ) (r : ListedKey) : Type 0 where
+  pub on-key : {z : ℤ} {j : ℕ} → r ≡ Key z j → FirstKey text ahead most z j
   pub on-end : r ≡ End → ahead ≡ []
   pub on-bad : r ≡ Bad → NoKey ahead
 
 -- what `next_key` promises: the first of the words from a place on
-abbrev pub KeyTold : List ℕ → ℕ → ListedKey → Type 0
-KeyTold text i r = Told text (words (saysAt text i)) (left text i) r
+abbrev pub ListedKeyTold : List ℕ → ℕ → ListedKey → Type 0
+ListedKeyTold text i r = KeyRead text (words (saysAt text i)) (left text i) r
 
 -- a word with the sign that was read
 unfoldable pub spelled : Bool → Word → Word

@@ -12,7 +12,7 @@ use numbers::Source;
 ghost use mathlib.Core.Path.{_≡_};
 ghost use Rattle.nodes.specs.Texts.{saysAt, left, text-of};
 ghost use Rattle.numbers.specs.Numbers.{words, keyList};
-ghost use Rattle.keys.specs.KeyLists.{SignRead, spelled, Told, KeyTold};
+ghost use Rattle.keys.specs.KeyLists.{SignRead, spelled, KeyRead, ListedKeyTold};
 
 // The key that stands next in a list, and the place behind it.
 pub enum ListedKey {
@@ -24,7 +24,8 @@ pub enum ListedKey {
 // The key whose digits begin at `at`, its sign being read.
 fn key_from(text: &[u8], at: usize, negative: bool) -> ListedKey
     requires { ⌜ SignRead (now text) at negative ⌝ }
-    ensures { λ r. ⌜ Told (now (text .entry)) (words (spelled negative (saysAt (now (text .entry)) at))) (left (now (text .entry)) at) r ⌝ }
+    ensures { λ r. ⌜ KeyRead (now (text .entry)) (words (spelled negative (saysAt (now (text .entry)) at)))
+        (left (now (text .entry)) at) r ⌝ }
 {
     let run = digits(text, at, Source::Contents, 10, 0);
     if run.count == 0 {
@@ -41,7 +42,7 @@ fn key_from(text: &[u8], at: usize, negative: bool) -> ListedKey
 
 // The next key, whatever stands before it or in it.
 fn any_key(text: &[u8], at: usize) -> ListedKey
-    ensures { λ r. ⌜ KeyTold (now (text .entry)) at r ⌝ }
+    ensures { λ r. ⌜ ListedKeyTold (now (text .entry)) at r ⌝ }
 {
     let i = blanks(text, at);
     match letter(text, i) {
@@ -57,7 +58,7 @@ fn any_key(text: &[u8], at: usize) -> ListedKey
 
 // The next key of the list in a text, from `at` on: where plain bytes write it, most keys, it is read as a plain number.
 pub fn next_key(text: &[u8], at: usize) -> ListedKey
-    ensures { λ r. ⌜ KeyTold (now (text .entry)) at r ⌝ }
+    ensures { λ r. ⌜ ListedKeyTold (now (text .entry)) at r ⌝ }
 {
     let quick = quick_number(text, at);
     if quick == 0 {

@@ -43,7 +43,7 @@ pub record Placed (keys : List ℕ) (code at : ℕ) : Type 0 where
 -- ---- A turn: the codes from a Label on, as many as there is room for, and the Label behind.
 
 -- the first n places hold them
-pub record Gathered (text : List ℕ) (from : Kid) (work : List ℕ) (n : ℕ) (next : Kid) : Type 0 where
+pub record KeysGathered (text : List ℕ) (from : Kid) (work : List ℕ) (n : ℕ) (next : Kid) : Type 0 where
   pub inside : n ≤ length work
   pub parts : take n work ++ toCome text next ≡ toCome text from
   pub moves : {k : ℕ} → from ≡ Child k → 0 < length work → 0 < n

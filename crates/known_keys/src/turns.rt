@@ -3,7 +3,7 @@ use super::order::arrange;
 use label_table::codes::code_at;
 use label_table::labels::next_label;
 use nodes::Kid;
-ghost use Rattle.known_keys.specs.Known.{Gathered, Taken};
+ghost use Rattle.known_keys.specs.Known.{KeysGathered, Taken};
 
 // So many keys, and the Label behind theirs.
 pub struct Turn {
@@ -13,7 +13,7 @@ pub struct Turn {
 
 // The codes of the keys from a Label on are written from the start, as many as there is room for.
 fn gather(text: &[u8], from: Kid, work: &mut [u32]) -> Turn
-    ensures { λ r. ⌜ Gathered (now (text .entry)) from (now (work .exit)) (r .n) (r .next) ⌝ }
+    ensures { λ r. ⌜ KeysGathered (now (text .entry)) from (now (work .exit)) (r .n) (r .next) ⌝ }
 {
     let mut n = 0;
     let mut kid = from;

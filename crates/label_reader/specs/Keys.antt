@@ -4,9 +4,9 @@ use mathlib.Core.List.{List, [], _∷_, _++_}
 use mathlib.Core.Option
 use Prim.Native.Nat.{ℕ, _≤_, _<_}
 use lib.IntN.{ℤ}
-use Rattle.label_table.specs.Labels.{keysAt, Wrote}
+use Rattle.label_table.specs.Labels.{tableKeysAt, Wrote}
 
 -- ---- On any bytes: 17 where there is less room than keys, and the list as it was; else all of them.
 
 abbrev pub WrittenTo : (text : List ℕ) (at : ℕ) (before : List ℤ) (number count : ℕ) (after : List ℤ) → Type 0
-WrittenTo text at before number count after = Wrote (keysAt text at) before number count after
+WrittenTo text at before number count after = Wrote (tableKeysAt text at) before number count after

@@ -9,7 +9,7 @@ use lib.ListN.{length, getD}
 use Rattle.lists.specs.Lists.{each}
 use Rattle.grammar.specs.Document.{Element}
 use Rattle.grammar.specs.Look.{withinOf}
-use Rattle.cifti.specs.LabelTable.{labelsOf, keyOf, labelsWith}
+use Rattle.cifti.specs.LabelTable.{labelsOf, labelKey, labelsWith}
 use Rattle.inside.specs.Way.{reached}
 use Rattle.label_reader.specs.Way.{tableWay}
 
@@ -18,7 +18,7 @@ pub record KeysTold (dimension index : ℕ) (e : Element) (count : ℕ) (after :
   pub table : Element
   pub reached-so : reached (tableWay dimension index) e ≡ some table
   pub many : count ≡ length (labelsOf table)
-  pub each-is : (n : ℕ) → n < count → getD after n (pos 0) ≡ getD (each keyOf (labelsOf table)) n (pos 0)
+  pub each-is : (n : ℕ) → n < count → getD after n (pos 0) ≡ getD (each labelKey (labelsOf table)) n (pos 0)
 
 -- the part is what stands between the tags of the only Label that has the key
 pub record LabelTold (dimension index : ℕ) (key : ℤ) (e : Element) (part : List ℕ) : Type 0 where

@@ -7,7 +7,7 @@ use lib.IntN.{ℤ}
 use Rattle.grammar.specs.Document.{Element}
 use Rattle.grammar.specs.Look.{is, nameOf}
 use Rattle.numbers.specs.Numbers.{sameKey}
-use Rattle.cifti.specs.LabelTable.{keyOf}
+use Rattle.cifti.specs.LabelTable.{labelKey}
 use Rattle.inside.specs.Way.{Step, step}
 use Rattle.map_names.specs.Way.{wayInMap}
 
@@ -15,7 +15,7 @@ unfoldable pub tableWay : (dimension index : ℕ) → List Step
 tableWay d i = wayInMap "LabelTable" d i
 
 unfoldable pub labelOf : (key : ℤ) → Element → Bool
-labelOf k e = is "Label" (nameOf e) && sameKey k (keyOf e)
+labelOf k e = is "Label" (nameOf e) && sameKey k (labelKey e)
 
 unfoldable pub toLabel : (key : ℤ) → List Step
 toLabel k = step (labelOf k) 0 ∷ []

@@ -6,7 +6,7 @@ use nodes::Found;
 use nodes::Kid;
 ghost use mathlib.Core.Path.{_≡_};
 ghost use lib.ListN.{length};
-ghost use Rattle.label_table.specs.Labels.{keysAt, filledWith, labelWith};
+ghost use Rattle.label_table.specs.Labels.{tableKeysAt, keysWritten, labelWith};
 
 // What those answer that write keys into a lent slice: the number of the refusal, or 0, and then how many keys were written.
 pub struct Filled {
@@ -16,7 +16,7 @@ pub struct Filled {
 
 // How many keys the table has.
 pub fn key_count(text: &[u8], at: usize) -> usize
-    ensures { λ r. ⌜ r ≡ length (keysAt (now (text .entry)) at) ⌝ }
+    ensures { λ r. ⌜ r ≡ length (tableKeysAt (now (text .entry)) at) ⌝ }
 {
     let mut n = 0;
     let mut kid = first_label(text, at);
@@ -35,7 +35,7 @@ pub fn key_count(text: &[u8], at: usize) -> usize
 
 // Writes the keys from the start of the slice, as many as it has room for.
 pub fn fill_keys(text: &[u8], at: usize, keys: &mut [i32])
-    ensures { λ _. ⌜ now (keys .exit) ≡ filledWith (keysAt (now (text .entry)) at) (now (keys .entry)) ⌝ }
+    ensures { λ _. ⌜ now (keys .exit) ≡ keysWritten (tableKeysAt (now (text .entry)) at) (now (keys .entry)) ⌝ }
 {
     let mut n = 0;
     let mut kid = first_label(text, at);

@@ -7,7 +7,7 @@ use Prim.Native.Nat.{ℕ, _+_, _≤_, _<_}
 use Rattle.lists.specs.Lists.{any, those, twoOf}
 use Rattle.grammar.specs.Bytes.{ascii}
 use Rattle.numbers.specs.Numbers.{sameKey}
-use Rattle.nodes.specs.Children.{first}
+use Rattle.nodes.specs.Children.{firstChild}
 use Rattle.nodes.specs.declared.Kid.{Kid}
 use Rattle.inside.specs.Walked.{placesFrom}
 use Rattle.inside.specs.Treads.{called}
@@ -21,7 +21,7 @@ unfoldable pub childrenFrom : (text word : List ℕ) → Kid → List ℕ
 childrenFrom text w kid = those (called text w) (placesFrom text kid)
 
 unfoldable pub someChild : (text word : List ℕ) → (ℕ → Bool) → ℕ → Bool
-someChild text w p at = any p (childrenFrom text w (first text at))
+someChild text w p at = any p (childrenFrom text w (firstChild text at))
 
 -- ---- The two loops.
 

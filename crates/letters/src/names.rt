@@ -6,7 +6,7 @@ ghost use mathlib.Core.Path.{_≡_};
 ghost use lib.ListN.{length, drop};
 ghost use Rattle.grammar.specs.Bytes.{nameByte};
 ghost use Rattle.grammar.specs.Read.{span};
-ghost use Rattle.grammar.specs.Parser.{name-at, same};
+ghost use Rattle.grammar.specs.Parser.{name-at, sameBytes};
 ghost use Rattle.steps.specs.Step.{stepped};
 
 // Where the bytes of a name at `at` end.
@@ -42,7 +42,7 @@ pub fn name_end(text: &[u8], at: usize) -> Step
 
 // Two words are the same.
 pub fn equal(s: &[u8], t: &[u8]) -> bool
-    ensures { λ r. ⌜ r ≡ same (now (s .entry)) (now (t .entry)) ⌝ }
+    ensures { λ r. ⌜ r ≡ sameBytes (now (s .entry)) (now (t .entry)) ⌝ }
 {
     if s.len() != t.len() {
         return false;

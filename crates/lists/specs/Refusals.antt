@@ -47,9 +47,9 @@ pub data EitherOf : (l k either : List Refusal) → Type 0 where
   row : {n : ℕ} {a b : Bool} {l k j : List Refusal} → EitherOf l k j → EitherOf (n when a ∷ l) (n when b ∷ k) (n when (a || b) ∷ j)
 
 -- the smaller of two numbers of refusal; 0 is none
-unfoldable pub sooner : ℕ → ℕ → ℕ
-sooner a b = cond (eqb a 0) b (cond (eqb b 0) a (min a b))
+unfoldable pub soonerRefusal : ℕ → ℕ → ℕ
+soonerRefusal a b = cond (eqb a 0) b (cond (eqb b 0) a (min a b))
 
 unfoldable pub refusals : Unit {0}
-unfolding first positive rising sooner
+unfolding first positive rising soonerRefusal
 refusals = tt

@@ -12,7 +12,7 @@ ghost use Rattle.nodes.specs.Places.{Stands, the};
 ghost use Rattle.nodes.specs.Values.{value-there};
 ghost use Rattle.schema.specs.Table.{casesFrom, choiceCell, orderAt, whichAt};
 ghost use Rattle.schema.specs.Lines.{KindFor, kindOrNone, elseBy, inTurn, chosenAt, kindNext};
-ghost use Rattle.schema.specs.Asked.{Known, Lined, Turning};
+ghost use Rattle.schema.specs.Asked.{Known, Lined, TurnAsked};
 
 // The name of the element at `at`.
 pub fn name<'t>(text: &'t [u8], at: usize) -> &'t [u8]
@@ -94,7 +94,7 @@ fn line_kind(text: &[u8], at: usize, table: &[u32], letters: &[u8], line: usize)
 
 // The line comes before the last one, in a kind whose children come in order.
 fn out_of_turn(table: &[u32], kind: usize, from: usize, line: usize, last: usize) -> bool
-    requires { ⌜ Turning kind from line ⌝ }
+    requires { ⌜ TurnAsked kind from line ⌝ }
     ensures { λ r. ⌜ r ≡ not (inTurn (orderAt (now (table .entry)) kind) last (line - from)) ⌝ }
 {
     if table::kind_cell(table, kind, 5) == 0 {

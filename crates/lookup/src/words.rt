@@ -10,7 +10,7 @@ ghost use lib.ListN.{drop};
 ghost use Rattle.nodes.specs.Values.{value-there, tells};
 ghost use Rattle.schema.specs.Words.{numberIn};
 ghost use Rattle.schema.specs.Table.{wordsFrom, restsFrom, wordsAt};
-ghost use Rattle.schema.specs.Asked.{Listed};
+ghost use Rattle.schema.specs.Asked.{WordsNamed};
 
 // The first of the words from `from` up to `to` that the decoded bytes from `at` up to the quote are, or `to`.
 fn rest_place(
@@ -46,7 +46,7 @@ pub fn word_place(
     from: usize,
     to: usize,
 ) -> usize
-    requires { ⌜ Listed to front ⌝ }
+    requires { ⌜ WordsNamed to front ⌝ }
     ensures { λ r. ⌜ r ≡ from + numberIn (wordsFrom (now (table .entry)) (now (letters .entry)) front from to)
         (value-there (now (text .entry)) v) ⌝ }
 {

@@ -30,8 +30,8 @@ listsBy text d Nothing = false
 unfoldable pub listsAt : List ℕ → ℕ → ℕ → Bool
 listsAt text d at = listsBy text d (place text at (ascii "AppliesToMatrixDimension"))
 
-unfoldable pub mapAt : List ℕ → ℕ → ℕ → Bool
-mapAt text d at = called text (ascii "MatrixIndicesMap") at && listsAt text d at
+unfoldable pub mapListsAt : List ℕ → ℕ → ℕ → Bool
+mapListsAt text d at = called text (ascii "MatrixIndicesMap") at && listsAt text d at
 
 -- ---- The treads.
 
@@ -39,10 +39,10 @@ unfoldable pub inMapTreads : (text word : List ℕ) → ℕ → List Tread
 inMapTreads text w i = tread (called text (ascii "NamedMap")) i ∷ tread (called text w) 0 ∷ []
 
 unfoldable pub nameTreads : (text word : List ℕ) → ℕ → ℕ → List Tread
-nameTreads text w d i = tread (called text (ascii "Matrix")) 0 ∷ tread (mapAt text d) 0 ∷ inMapTreads text w i
+nameTreads text w d i = tread (called text (ascii "Matrix")) 0 ∷ tread (mapListsAt text d) 0 ∷ inMapTreads text w i
 
 unfoldable pub mapTreads : List ℕ → ℕ → List Tread
-mapTreads text d = tread (called text (ascii "Matrix")) 0 ∷ tread (mapAt text d) 0 ∷ []
+mapTreads text d = tread (called text (ascii "Matrix")) 0 ∷ tread (mapListsAt text d) 0 ∷ []
 
 -- where the map that lists the dimension stands, and where the child of that name stands; any bytes
 unfoldable pub mapThere : (text : List ℕ) (dimension : ℕ) → Found

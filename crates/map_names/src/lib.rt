@@ -15,7 +15,7 @@ use records::Index;
 ghost use mathlib.Core.Path.{_≡_};
 ghost use Rattle.inside.specs.Walked.{childAt};
 ghost use Rattle.inside.specs.Treads.{trod};
-ghost use Rattle.map_names.specs.Treads.{listsAt, mapAt, inMapTreads, mapThere, namedAt};
+ghost use Rattle.map_names.specs.Treads.{listsAt, mapListsAt, inMapTreads, mapThere, namedAt};
 ghost use Rattle.map_names.specs.Answered.{Answered};
 
 // The number of the refusal, or 0, and then where the name starts in the text, and its length.
@@ -39,7 +39,7 @@ fn lists(text: &[u8], at: usize, dimension: u64) -> bool
 }
 
 fn map_lists(text: &[u8], at: usize, dimension: u64) -> bool
-    ensures { λ r. ⌜ r ≡ mapAt (now (text .entry)) dimension at ⌝ }
+    ensures { λ r. ⌜ r ≡ mapListsAt (now (text .entry)) dimension at ⌝ }
 {
     if name_is(text, at, b"MatrixIndicesMap") {
         return lists(text, at, dimension);
@@ -49,7 +49,7 @@ fn map_lists(text: &[u8], at: usize, dimension: u64) -> bool
 
 // The first map that lists the dimension, in the Matrix at `at`.
 fn map_on(text: &[u8], at: usize, dimension: u64) -> Found
-    ensures { λ r. ⌜ r ≡ childAt (mapAt (now (text .entry)) dimension) 0 (now (text .entry)) at ⌝ }
+    ensures { λ r. ⌜ r ≡ childAt (mapListsAt (now (text .entry)) dimension) 0 (now (text .entry)) at ⌝ }
 {
     let mut kid = first_child(text, at);
     loop {

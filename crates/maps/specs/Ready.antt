@@ -20,8 +20,8 @@ matrixMaps e = each mapOf (children "MatrixIndicesMap" e)
 
 -- ---- The places.
 
-unfoldable pub places : Maps → List ℕ
-places r = each (λ n. n .at) (take (r .count) (r .each))
+unfoldable pub mapPlaces : Maps → List ℕ
+mapPlaces r = each (λ n. n .at) (take (r .count) (r .each))
 
 -- at most three maps, each noted
 pub record Ready (text : List ℕ) (r : Maps) : Type 0 where
@@ -30,7 +30,7 @@ pub record Ready (text : List ℕ) (r : Maps) : Type 0 where
   pub noted : (z : MapNote) (i : ℕ) → i < r .count → Noted text (getD (r .each) i z)
 
 unfoldable pub mapsAt : List ℕ → Maps → List Map
-mapsAt text r = each (λ p. mapOf (the text p)) (places r)
+mapsAt text r = each (λ p. mapOf (the text p)) (mapPlaces r)
 
 -- a place to stand in for one that is not there
 abbrev pub no-note : MapNote

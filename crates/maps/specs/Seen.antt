@@ -9,10 +9,10 @@ use Rattle.grammar.specs.Look.{Word}
 use Rattle.maps.specs.declared.dims.Dims.{Dims}
 
 -- ten counts, each of a digit in the bytes, told up to twice
-pub record Lists (w : Word) (r : Dims) : Type 0 where
+pub record CountsDigits (w : Word) (r : Dims) : Type 0 where
   pub ten : length (r .has) ≡ 10
   pub each-is : (d : ℕ) → d < 10 → getD (r .has) d 0 ≡ min 2 (count (eqb (d + 48)) w)
 
 -- whatever bytes the counts are of, with one more behind them
 abbrev pub Grown : ℕ → Dims → Dims → Type 0
-Grown b before after = (w : Word) → Lists w before → Lists (w ++ (b ∷ [])) after
+Grown b before after = (w : Word) → CountsDigits w before → CountsDigits (w ++ (b ∷ [])) after

@@ -13,7 +13,7 @@ use Rattle.cifti.specs.Maps.{mapOf, lengthOf, isBrain, kindOfMap, dimensionsOf}
 use Rattle.maps.specs.Good.{Good}
 use Rattle.nodes.specs.ElementEnd.{Behind}
 use Rattle.maps.specs.Sums.{MapAt, VolumeLeft}
-use Rattle.maps.specs.Digits.{Tells}
+use Rattle.maps.specs.Digits.{CountsNumbers}
 use Rattle.maps.specs.declared.survey.MapNote.{MapNote}
 use Rattle.maps.specs.declared.survey.Maps.{Maps}
 
@@ -22,7 +22,7 @@ pub record Noted (text : List ℕ) (n : MapNote) : Type 0 where
   pub map : MapAt text (n .at)
   pub ends : Behind text (n .at) (n .behind)
   pub kind-is : n .kind ≡ kindOfMap (the text (n .at))
-  pub lists : Tells (dimensionsOf (the text (n .at))) (n .lists)
+  pub lists : CountsNumbers (dimensionsOf (the text (n .at))) (n .lists)
   pub long : n .length ≡ lengthOf (mapOf (the text (n .at)))
   pub most : n .length ≤ 17592186044416
   pub volume : isBrain (n .kind) ≡ true → VolumeLeft text (elements (contentsOf (the text (n .at)))) [] (n .volume)
@@ -36,7 +36,7 @@ pub record NotedIf (wanted : Bool) (text : List ℕ) (k : ℕ) (n : MapNote) : T
 -- ---- Of the first three.
 
 -- the maps at the places l, as far as they are kept
-pub record Holds (text l : List ℕ) (r : Maps) : Type 0 where
+pub record MapsKept (text l : List ℕ) (r : Maps) : Type 0 where
   pub many : r .count ≡ min 4 (length l)
   pub three : length (r .each) ≡ 3
   pub place : (z : MapNote) (i : ℕ) → i < 3 → i < length l → (getD (r .each) i z) .at ≡ getD l i 0
@@ -44,8 +44,8 @@ pub record Holds (text l : List ℕ) (r : Maps) : Type 0 where
 
 -- with this one more, whatever maps are kept
 abbrev pub NotedWith : MapNote → Maps → Maps → Type 0
-NotedWith n before after = (text l : List ℕ) → (before .count < 3 → Noted text n) → Holds text l before
-    → Holds text (l ++ (n .at ∷ [])) after
+NotedWith n before after = (text l : List ℕ) → (before .count < 3 → Noted text n) → MapsKept text l before
+    → MapsKept text (l ++ (n .at ∷ [])) after
 
 -- ---- The walk over the children.
 
@@ -62,7 +62,7 @@ pub record MatrixAt (text : List ℕ) (at : ℕ) : Type 0 where
 
 pub record MapsAre (text : List ℕ) (matrix : ℕ) (r : Maps) : Type 0 where
   pub met : List ℕ
-  pub holds : Holds text met r
+  pub holds : MapsKept text met r
   pub stand : AllStand text met
   pub are : children "MatrixIndicesMap" (the text matrix) ≡ each (the text) met
 

@@ -7,5 +7,5 @@ use Rattle.records.specs.Record.{recordOf}
 use Rattle.cifti.specs.Maps.{Model, locations}
 
 -- the records of a model, in the order of its list
-unfoldable pub recordsOf : Model → List ℕ
-recordsOf m = each recordOf (locations m)
+unfoldable pub modelRecords : Model → List ℕ
+modelRecords m = each recordOf (locations m)

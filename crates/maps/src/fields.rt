@@ -3,13 +3,13 @@ use nodes::Found;
 use numbers::Whole;
 ghost use mathlib.Core.Path.{_≡_};
 ghost use Rattle.nodes.specs.Places.{Stands, the};
-ghost use Rattle.grammar.specs.Parser.{same};
+ghost use Rattle.grammar.specs.Parser.{sameBytes};
 ghost use Rattle.maps.specs.Fields.{attributeWord, numberSeen};
 
 // The attribute's value is the word; a missing one is empty.
 pub fn attribute_is(text: &[u8], at: usize, name: &[u8], word: &[u8]) -> bool
     ensures { λ r. ⌜ (Stands (now (text .entry)) at
-        → r ≡ same (attributeWord (now (name .entry)) (the (now (text .entry)) at)) (now (word .entry))) ⌝ }
+        → r ≡ sameBytes (attributeWord (now (name .entry)) (the (now (text .entry)) at)) (now (word .entry))) ⌝ }
 {
     inside::values::attribute_is(text, at, name, word)
 }

@@ -18,7 +18,7 @@ ghost use mathlib.Core.Path.{_≡_};
 ghost use Rattle.nodes.specs.Places.{the};
 ghost use Rattle.cifti.specs.Maps.{voxel, modelOf};
 ghost use Rattle.cifti.specs.Conditions.{outside};
-ghost use Rattle.models.specs.Listings.{Known};
+ghost use Rattle.models.specs.Listings.{ModelKnown};
 ghost use Rattle.models.specs.Numbers.{InForm, valuesAt};
 ghost use Rattle.models.specs.Verdicts.{verdictBy, volumeFrom};
 ghost use Rattle.marked_lists.specs.Told.{VerticesTold, VoxelsTold, ModelTold};
@@ -150,7 +150,7 @@ pub(crate) fn marked_list(
     first: u64,
     work: &mut [u64],
 ) -> Verdict
-    requires { ⌜ Known (now text) at length kind ⌝ }
+    requires { ⌜ ModelKnown (now text) at length kind ⌝ }
     ensures { λ r. ⌜ ModelTold (volumeFrom sizes) grid (modelOf (the (now (text .entry)) at)) (now (work .entry)) r (now (work .exit)) ⌝ }
 {
     match list_start(text, at) {

@@ -7,19 +7,19 @@ use lib.Dec.{eqb}
 use lib.ListN.{length, getD, take}
 use Rattle.lists.specs.Lists.{count, twoOf}
 use Rattle.records.specs.Sheet.{countOf}
-use Rattle.comparison.specs.Compare.{recordsOf, wellFormed, has}
+use Rattle.comparison.specs.Compare.{recordsOf, wellFormed, hasRecord}
 use Rattle.comparison.specs.Matched.{matched}
 use Rattle.comparison.specs.Tagged.{placeIn}
 use Rattle.matching.specs.declared.walking.Step.{Step}
 use Rattle.matching.specs.declared.walking.Step.the-variants.{Pair, First, Second}
 
 -- a sheet in good form that has a record of the index
-pub record Within (s : List ℕ) (i : ℕ) : Type 0 where
+pub record HasIndex (s : List ℕ) (i : ℕ) : Type 0 where
   pub formed : wellFormed s ≡ true
   pub inside : i < countOf s
 
 -- a sheet in good form, its count, and a step along it
-pub record Turning (s : List ℕ) (n j : ℕ) : Type 0 where
+pub record StepAlong (s : List ℕ) (n j : ℕ) : Type 0 where
   pub formed : wellFormed s ≡ true
   pub counts : n ≡ countOf s
   pub inside : j < n
@@ -51,6 +51,6 @@ pub record Walkable (s t : List ℕ) (n m room : ℕ) : Type 0 where
   pub single : twoOf eqb (recordsOf s) ≡ false
 
 -- how many pairs were taken away, and how many numbers set aside: what they share is the pairs and those that match
-pub record Apart (s t after : List ℕ) (pairs aside : ℕ) : Type 0 where
+pub record SetAside (s t after : List ℕ) (pairs aside : ℕ) : Type 0 where
   pub inside : aside ≤ length after
-  pub sum : pairs + matched (take aside after) ≡ count (has (recordsOf t)) (recordsOf s)
+  pub sum : pairs + matched (take aside after) ≡ count (hasRecord (recordsOf t)) (recordsOf s)

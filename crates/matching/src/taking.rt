@@ -6,7 +6,7 @@ ghost use Prim.Native.Nat.{_<_};
 ghost use lib.ListN.{getD};
 ghost use Rattle.comparison.specs.Compare.{recordsOf};
 ghost use Rattle.comparison.specs.Tagged.{placeIn};
-ghost use Rattle.matching.specs.Side.{Within};
+ghost use Rattle.matching.specs.Side.{HasIndex};
 
 // A byte as a number.
 fn byte(b: u8) -> usize
@@ -16,7 +16,7 @@ fn byte(b: u8) -> usize
 }
 
 pub(crate) fn record_in(sheet: &[u8], place: Place) -> u64
-    requires { ⌜ Within (now sheet) (place .0) ⌝ }
+    requires { ⌜ HasIndex (now sheet) (place .0) ⌝ }
     ensures { λ r. ⌜ (r ≡ getD (recordsOf (now (sheet .entry))) (place .0) 0) × (r < 18014398509481984) ⌝ }
 {
     record_at(sheet, byte(sheet[0]), place)

@@ -7,9 +7,9 @@ ghost use mathlib.Core.Path.{_≡_};
 ghost use Prim.Native.Nat.{_+_, _≤_, _<_};
 ghost use lib.ListN.{length, getD};
 ghost use Rattle.lists.specs.Lists.{count};
-ghost use Rattle.comparison.specs.Compare.{recordsOf, has};
+ghost use Rattle.comparison.specs.Compare.{recordsOf, hasRecord};
 ghost use Rattle.comparison.specs.Tagged.{placeIn};
-ghost use Rattle.matching.specs.Side.{Beside, Turning, Underway, Chosen, Walkable, Apart};
+ghost use Rattle.matching.specs.Side.{Beside, StepAlong, Underway, Chosen, Walkable, SetAside};
 
 // The counts; whether the second is walked turned round; and whether records go down along the walk.
 pub(crate) struct Way {
@@ -49,7 +49,7 @@ fn way_of(first: &[u8], second: &[u8], n: usize, m: usize) -> Way
 
 // The second's record of the j-th step.
 fn second_at(second: &[u8], way: Way, j: usize) -> u64
-    requires { ⌜ Turning (now second) (way .m) j ⌝ }
+    requires { ⌜ StepAlong (now second) (way .m) j ⌝ }
     ensures { λ r. ⌜ (r ≡ getD (recordsOf (now (second .entry))) (placeIn (way .turned) (way .m) j) 0) × (r < 18014398509481984) ⌝ }
 {
     record_in(second, place_in(way.turned, way.m, j))
@@ -97,7 +97,7 @@ fn next_step(first: &[u8], second: &[u8], way: Way, i: usize, j: usize) -> Step
 
 fn set_aside(first: &[u8], second: &[u8], way: Way, work: &mut [u64]) -> Left
     requires { ⌜ Walkable (now first) (now second) (way .n) (way .m) (length (now work)) ⌝ }
-    ensures { λ r. ⌜ Apart (now (first .entry)) (now (second .entry)) (now (work .exit)) (r .pairs) (r .aside) ⌝ }
+    ensures { λ r. ⌜ SetAside (now (first .entry)) (now (second .entry)) (now (work .exit)) (r .pairs) (r .aside) ⌝ }
 {
     let mut i = 0;
     let mut j = 0;
@@ -128,7 +128,7 @@ fn set_aside(first: &[u8], second: &[u8], way: Way, work: &mut [u64]) -> Left
 // Of the records of the first sheet those that the second has too; n and m are the counts.
 pub fn both_in(first: &[u8], second: &[u8], n: usize, m: usize, work: &mut [u64]) -> usize
     requires { ⌜ Walkable (now first) (now second) n m (length (now work)) ⌝ }
-    ensures { λ r. ⌜ r ≡ count (has (recordsOf (now (second .entry)))) (recordsOf (now (first .entry))) ⌝ }
+    ensures { λ r. ⌜ r ≡ count (hasRecord (recordsOf (now (second .entry)))) (recordsOf (now (first .entry))) ⌝ }
 {
     let way = way_of(first, second, n, m);
     let left = set_aside(first, second, way, work);

@@ -49,7 +49,7 @@ pub record Gathers (text : List ℕ) (map : ℕ) (m : Models) : Type 0 where
   pub holding : m .shared ≡ false → Gathered text map m
 
 -- one model more
-pub record Room (text : List ℕ) (at : ℕ) (m : Models) : Type 0 where
+pub record ModelRoom (text : List ℕ) (at : ℕ) (m : Models) : Type 0 where
   pub model : ModelAt text at
   pub sized : Sized m
   pub left : m .count < 64

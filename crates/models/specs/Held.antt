@@ -21,8 +21,8 @@ pub record BrainHeld (text : List ℕ) (map : ℕ) (m : Models) : Type 0 where
   pub held : Gathered text map m
 
 -- the i-th model, and all of them
-unfoldable pub modelAt : List ℕ → Models → ℕ → Model
-modelAt text m i = modelOf (the text (getD (m .at) i 0))
+unfoldable pub heldModel : List ℕ → Models → ℕ → Model
+heldModel text m i = modelOf (the text (getD (m .at) i 0))
 
 unfoldable pub modelsAt : List ℕ → Models → List Model
-modelsAt text m = table (m .count) (modelAt text m)
+modelsAt text m = table (m .count) (heldModel text m)

@@ -5,7 +5,7 @@ use mathlib.Core.Bool.{Bool, true, false, _&&_}
 use Prim.Native.Nat.{ℕ, _<_}
 use lib.ListN.{length, getD, set, replicate}
 use Rattle.lists.specs.Lists.{any, twoOf}
-use Rattle.lists.specs.Refusals.{Refusal, sooner}
+use Rattle.lists.specs.Refusals.{Refusal, soonerRefusal}
 use Rattle.nodes.specs.Places.{the}
 use Rattle.cifti.specs.Maps.{Map, mapOf, isBrain}
 use Rattle.cifti.specs.Conditions as C
@@ -92,4 +92,5 @@ pub record RulesIn (text : List ℕ) (n : MapNote) (before : List ℕ) (r : Ruli
 
 -- with the i-th map's
 abbrev pub withRuling : Judged → ℕ → Ruling → Judged
-withRuling j i r = record { number = sooner (j .number) (r .number); apart = j .apart && r .apart; each = set (j .each) i (r .models) }
+withRuling j i r =
+    record { number = soonerRefusal (j .number) (r .number); apart = j .apart && r .apart; each = set (j .each) i (r .models) }

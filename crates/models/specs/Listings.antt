@@ -14,22 +14,22 @@ use Rattle.cifti.specs.Maps.{Listed, vertices, voxels, modelOf, listedBy}
 use Rattle.models.specs.Kind.{ModelAt, typeAndStructure}
 
 -- the numbers that are listed
-unfoldable pub numbersOf : Listed → List ℕ
-numbersOf (vertices n l) = l
-numbersOf (voxels l) = l
+unfoldable pub listedNumbers : Listed → List ℕ
+listedNumbers (vertices n l) = l
+listedNumbers (voxels l) = l
 
 -- its only child, and what that says
 pub record OnlyText (e : Element) : Type 0 where
   pub one : Element
   pub alone : elements (contentsOf e) ≡ one ∷ []
   pub form : all (digits 1 7) (words (textOf one)) ≡ true
-  pub numbers : numbersOf (listedBy e) ≡ values (textOf one)
+  pub numbers : listedNumbers (listedBy e) ≡ values (textOf one)
 
 -- ---- Where it begins.
 
 pub record ListAt (text : List ℕ) (at : ℕ) (f : Found) : Type 0 where
   pub form : all (digits 1 7) (words (text-from text f)) ≡ true
-  pub numbers : values (text-from text f) ≡ numbersOf ((modelOf (the text at)) .listed)
+  pub numbers : values (text-from text f) ≡ listedNumbers ((modelOf (the text at)) .listed)
 
 -- what is answered where a model stands
 pub record StartOf (text : List ℕ) (at : ℕ) (f : Found) : Type 0 where
@@ -37,7 +37,7 @@ pub record StartOf (text : List ℕ) (at : ℕ) (f : Found) : Type 0 where
 
 -- ---- What is said of it.
 
-pub record Known (text : List ℕ) (at size kind : ℕ) : Type 0 where
+pub record ModelKnown (text : List ℕ) (at size kind : ℕ) : Type 0 where
   pub model : ModelAt text at
   pub length-is : size ≡ (modelOf (the text at)) .count
   pub kind-is : kind ≡ typeAndStructure (modelOf (the text at))

@@ -23,16 +23,17 @@ unfoldable pub written : Order → Extension → List ℕ
 written o e = field o 4 (sizeOf e) ++ (field o 4 (e .code) ++ e .body)
 
 -- a good one: the size is a multiple of 16, from 16 to 2^31 - 1; the code has four bytes
-pub record Good (e : Extension) : Type 0 where
+pub record GoodExtension (e : Extension) : Type 0 where
   pub whole : sizeOf e % 16 ≡ 0
   pub low : 16 ≤ sizeOf e
   pub high : sizeOf e < 2 ^ 31
   pub coded : e .code < 2 ^ 32
 
 -- a list of good extensions, and its bytes: theirs, one after another
-pub data Listed (o : Order) : List Extension → List ℕ → Type 0 where
-  nothing : Listed o [] []
-  next : {e : Extension} {es : List Extension} {s : List ℕ} → Good e → Listed o es s → Listed o (e ∷ es) (written o e ++ s)
+pub data ExtensionList (o : Order) : List Extension → List ℕ → Type 0 where
+  nothing : ExtensionList o [] []
+  next : {e : Extension} {es : List Extension} {s : List ℕ} → GoodExtension e → ExtensionList o es s
+      → ExtensionList o (e ∷ es) (written o e ++ s)
 
 -- ---- The first of code 32, in a list whose bytes begin at a place: where its body begins, and the body.
 

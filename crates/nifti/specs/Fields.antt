@@ -27,13 +27,13 @@ numberAt o w at s = numberWritten (ordered o (take w (drop at s)))
 unfoldable pub signed : (w n : ℕ) → ℤ
 signed w n = cond (ltb n (2 ^ (8 * w - 1))) (pos n) (negsuc (2 ^ (8 * w) - (n + 1)))
 
-unfoldable pub isNumber : ℕ → ℤ → Bool
-isNumber b (pos n) = eqb n b
-isNumber b (negsuc n) = false
+unfoldable pub fieldIs : ℕ → ℤ → Bool
+fieldIs b (pos n) = eqb n b
+fieldIs b (negsuc n) = false
 
-unfoldable pub atLeast : ℕ → ℤ → Bool
-atLeast b (pos n) = leb b n
-atLeast b (negsuc n) = false
+unfoldable pub fieldAtLeast : ℕ → ℤ → Bool
+fieldAtLeast b (pos n) = leb b n
+fieldAtLeast b (negsuc n) = false
 
 -- a number that is not negative
 unfoldable pub natural : ℤ → ℕ
@@ -41,5 +41,5 @@ natural (pos n) = n
 natural (negsuc n) = 0
 
 unfoldable pub fieldWords : Unit {0}
-unfolding ordered field numberAt signed isNumber atLeast natural
+unfolding ordered field numberAt signed fieldIs fieldAtLeast natural
 fieldWords = tt

@@ -11,8 +11,8 @@ use lib.ListN.{length, getD, take, drop}
 use lib.Seq.{slice}
 use Rattle.lists.specs.Lists.{all, allBelow, table, isSome}
 use Rattle.lists.specs.Refusals.{Refusal, _when_, first}
-use Rattle.nifti.specs.Fields.{numberAt, signed, isNumber, atLeast, natural}
-use Rattle.nifti.specs.Extensions.{Extension, Listed, Body, firstText, withoutZeros}
+use Rattle.nifti.specs.Fields.{numberAt, signed, fieldIs, fieldAtLeast, natural}
+use Rattle.nifti.specs.Extensions.{Extension, ExtensionList, Body, firstText, withoutZeros}
 use Rattle.nifti.specs.declared.Order.{Order}
 use Rattle.nifti.specs.declared.Order.the-variants.{MostFirst, LeastFirst}
 use Rattle.nifti.specs.declared.Front.{Front}
@@ -46,7 +46,7 @@ listStart = 544
 pub data HasList (file : List ℕ) : List Extension → Type 0 where
   empty : extender file ≡ 0 → HasList file []
   listed : {end : ℕ} {es : List Extension} → (extender file ≡ 0 → ⊥) → offset file ≡ pos end → end ≤ length file
-      → Listed (orderOf file) es (slice listStart end file) → HasList file es
+      → ExtensionList (orderOf file) es (slice listStart end file) → HasList file es
 
 pub data ListOf (file : List ℕ) : Option (List Extension) → Type 0 where
   list : {es : List Extension} → HasList file es → ListOf file (some es)
@@ -62,7 +62,7 @@ unfoldable pub magicAt : List ℕ → ℕ → Bool
 magicAt file i = eqb (getD file (4 + i) 0) (getD magic i 0)
 
 unfoldable pub offsetStands : List ℕ → Bool
-offsetStands file = atLeast listStart (offset file)
+offsetStands file = fieldAtLeast listStart (offset file)
 
 unfoldable pub frontStands : List ℕ → Bool
 frontStands file = sizeStands file && (allBelow 8 (magicAt file) && offsetStands file)
@@ -72,25 +72,25 @@ noFront file = ltb (length file) listStart || not (frontStands file)
 
 -- 21: the dims are not those of a matrix. There are as many lengths, from dim[5] on, as dim[0] says.
 unfoldable pub lengthCount : List ℕ → ℕ
-lengthCount file = cond (isNumber 6 (dim file 0)) 2 (cond (isNumber 7 (dim file 0)) 3 0)
+lengthCount file = cond (fieldIs 6 (dim file 0)) 2 (cond (fieldIs 7 (dim file 0)) 3 0)
 
 unfoldable pub oneAt : List ℕ → ℕ → Bool
-oneAt file i = isNumber 1 (dim file (1 + i))
+oneAt file i = fieldIs 1 (dim file (1 + i))
 
 unfoldable pub lengthStands : List ℕ → ℕ → Bool
-lengthStands file i = atLeast 1 (dim file (5 + i))
+lengthStands file i = fieldAtLeast 1 (dim file (5 + i))
 
 unfoldable pub dimsStand : List ℕ → Bool
 dimsStand file = ltb 0 (lengthCount file) && (allBelow 4 (oneAt file) && allBelow (lengthCount file) (lengthStands file))
 
 -- 23: no extension of code 32
-unfoldable pub textOf : Option (List Extension) → Option Body
-textOf Option.none = Option.none
-textOf (some es) = firstText listStart es
+unfoldable pub textBody : Option (List Extension) → Option Body
+textBody Option.none = Option.none
+textBody (some es) = firstText listStart es
 
-unfoldable pub conditionsOfFile : List ℕ → Option (List Extension) → List Refusal
-conditionsOfFile file l =
-    20 when noFront file ∷ 21 when not (dimsStand file) ∷ 22 when not (isSome l) ∷ 23 when not (isSome (textOf l)) ∷ []
+unfoldable pub conditionsOfFront : List ℕ → Option (List Extension) → List Refusal
+conditionsOfFront file l =
+    20 when noFront file ∷ 21 when not (dimsStand file) ∷ 22 when not (isSome l) ∷ 23 when not (isSome (textBody l)) ∷ []
 
 -- ---- The answer. A refused one is zero but for its number.
 
@@ -116,7 +116,7 @@ frontBy zero file b = acceptedFront file b
 frontBy (suc n) file b = refusedFront (suc n)
 
 unfoldable pub frontTo : List ℕ → Option (List Extension) → Front
-frontTo file l = frontBy (first (conditionsOfFile file l)) file (textOf l)
+frontTo file l = frontBy (first (conditionsOfFront file l)) file (textBody l)
 
 -- ---- THE PROMISE: the list of the file, or that there is none, and the answer that comes of it.
 
@@ -126,8 +126,8 @@ pub record Fronts (file : List ℕ) (front : Front) : Type 0 where
   pub answered : front ≡ frontTo file extensions
 
 -- the lengths as the read takes them, and the part
-unfoldable pub lengthsOf : Front → List ℕ
-lengthsOf f = take (f .count) (f .lengths)
+unfoldable pub frontLengths : Front → List ℕ
+frontLengths f = take (f .count) (f .lengths)
 
 unfoldable pub partOf : List ℕ → Front → List ℕ
 partOf file f = take (f .length) (drop (f .start) file)
@@ -139,5 +139,5 @@ pub record FrontPart (file part : List ℕ) : Type 0 where
 
 unfoldable pub fileWords : Unit {0}
 unfolding orderOf dim offset extender sizeStands magicAt offsetStands frontStands noFront lengthCount oneAt lengthStands dimsStand
-    textOf conditionsOfFile lengthAt acceptedFront frontBy frontTo lengthsOf partOf
+    textBody conditionsOfFront lengthAt acceptedFront frontBy frontTo frontLengths partOf
 fileWords = tt

@@ -6,17 +6,17 @@ use mathlib.Core.Bool.{true, _&&_, _||_}
 use Prim.Native.Nat.{ℕ, _+_, _-_, _≤_, _<_}
 use lib.ListN.{length}
 use Rattle.nifti.specs.File.{frontStands}
-use Rattle.nifti.specs.Header.{Told}
+use Rattle.nifti.specs.Header.{OrderKnown}
 use Rattle.nifti.specs.declared.Order.{Order}
 
 -- ---- What code asks for.
 
 -- a file whose header stands, and its order
 pub record Standing (file : List ℕ) (o : Order) : Type 0 where
-  pub told : Told file o
+  pub told : OrderKnown file o
   pub stands : frontStands file ≡ true
 
 -- and a part inside it
 pub record Bodied (file : List ℕ) (o : Order) (start size : ℕ) : Type 0 where
-  pub told : Told file o
+  pub told : OrderKnown file o
   pub inside : start + size ≤ length file

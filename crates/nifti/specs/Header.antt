@@ -11,26 +11,26 @@ use Rattle.nifti.specs.declared.Order.{Order}
 use Rattle.nifti.specs.declared.Front.{Front}
 
 -- a file that is long enough, and its order
-pub record Told (file : List ℕ) (o : Order) : Type 0 where
+pub record OrderKnown (file : List ℕ) (o : Order) : Type 0 where
   pub long : 544 ≤ length file
   pub is : o ≡ orderOf file
 
 -- and a place among the lengths; a number of lengths; a place, and how many lengths there are
-pub record Asked (file : List ℕ) (o : Order) (i : ℕ) : Type 0 where
-  pub told : Told file o
+pub record LengthAsked (file : List ℕ) (o : Order) (i : ℕ) : Type 0 where
+  pub told : OrderKnown file o
   pub small : i < 3
 
-pub record Counted (file : List ℕ) (o : Order) (count : ℕ) : Type 0 where
-  pub told : Told file o
+pub record FewLengths (file : List ℕ) (o : Order) (count : ℕ) : Type 0 where
+  pub told : OrderKnown file o
   pub few : count ≤ 3
 
 pub record Looked (file : List ℕ) (o : Order) (count i : ℕ) : Type 0 where
-  pub told : Told file o
+  pub told : OrderKnown file o
   pub counted : count ≡ lengthCount file
   pub small : i < 3
 
 -- the answer of a file that is not refused, by the place of the body
-unfoldable pub acceptedWith : List ℕ → (start size : ℕ) → Front
-acceptedWith file start size =
+unfoldable pub frontAccepted : List ℕ → (start size : ℕ) → Front
+frontAccepted file start size =
     frontWith 0 (lengthCount file) (lengthAt file 0) (lengthAt file 1) (lengthAt file 2) start
     (length (withoutZeros (take size (drop start file))))

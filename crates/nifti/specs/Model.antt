@@ -24,16 +24,16 @@ unfoldable pub extensionIn : Order → List ℕ → Extension
 extensionIn o s = record { code = numberAt o 4 4 s; body = take (numberAt o 4 0 s - 8) (drop 8 s) }
 
 -- one more in front, where it is good
-unfoldable pub onward : Bool → Extension → Option (List Extension) → Option (List Extension)
-onward false e l = Option.none
-onward true e Option.none = Option.none
-onward true e (some es) = some (e ∷ es)
+unfoldable pub oneMoreIf : Bool → Extension → Option (List Extension) → Option (List Extension)
+oneMoreIf false e l = Option.none
+oneMoreIf true e Option.none = Option.none
+oneMoreIf true e (some es) = some (e ∷ es)
 
 unfoldable pub cutBy : (fuel : ℕ) → Order → List ℕ → Option (List Extension)
 cutBy zero o s = cond (eqb (length s) 0) (some []) Option.none
 cutBy (suc n) o s =
     cond (eqb (length s) 0) (some [])
-    (onward (goodSize (numberAt o 4 0 s) (length s)) (extensionIn o s) (cutBy n o (drop (numberAt o 4 0 s) s)))
+    (oneMoreIf (goodSize (numberAt o 4 0 s) (length s)) (extensionIn o s) (cutBy n o (drop (numberAt o 4 0 s) s)))
 
 unfoldable pub cut : Order → List ℕ → Option (List Extension)
 cut o s = cutBy (length s) o s
@@ -67,5 +67,5 @@ takenBy start size place Option.none = notListed
 takenBy start size place (some es) = taken start size place es
 
 unfoldable pub modelWords : Unit {0}
-unfolding goodSize extensionIn onward cutBy cut cutTo listIn frontOf taken takenBy
+unfolding goodSize extensionIn oneMoreIf cutBy cut cutTo listIn frontOf taken takenBy
 modelWords = tt

@@ -51,14 +51,14 @@ unfoldable pub ahead-at : Bool → ℕ → List ℕ → Ahead
 ahead-at words n s = ahead-within (suc (length s)) words n s
 
 -- from the start of the contents of the element at a position; an empty tag ends it
-unfoldable pub first-by : Bool → ℕ → Read Bool → Ahead
-first-by words n fail = Stray
-first-by words n (got true r) = ahead-at words n r
-first-by words n (got false r) = End (n - length r)
+unfoldable pub first-ahead-by : Bool → ℕ → Read Bool → Ahead
+first-ahead-by words n fail = Stray
+first-ahead-by words n (got true r) = ahead-at words n r
+first-ahead-by words n (got false r) = End (n - length r)
 
 unfoldable pub first-ahead : Bool → List ℕ → ℕ → Ahead
-first-ahead words text at = first-by words (length text) (tag-at (drop at text))
+first-ahead words text at = first-ahead-by words (length text) (tag-at (drop at text))
 
 -- the same from a place in its start tag
 unfoldable pub ahead-in-tag : Bool → List ℕ → ℕ → Ahead
-ahead-in-tag words text i = first-by words (length text) (tag-from 0 (drop i text))
+ahead-in-tag words text i = first-ahead-by words (length text) (tag-from 0 (drop i text))

@@ -8,7 +8,7 @@ use mathlib.Core.Bool.{cond}
 use lib.ListN.{length, drop}
 use Rattle.grammar.specs.Document.{Attribute, attribute}
 use Rattle.grammar.specs.Read.{Read, fail, got, Reader, _>>=_, _>>_, pure, all-of}
-use Rattle.grammar.specs.Parser.{name-at, gap-at, equals-at, value-at, attribute-at, ends, closing, same}
+use Rattle.grammar.specs.Parser.{name-at, gap-at, equals-at, value-at, attribute-at, ends, closing, sameBytes}
 use Rattle.nodes.specs.Places.{pick}
 use Rattle.nodes.specs.declared.Found.{Found}
 use Rattle.nodes.specs.declared.Found.the-variants.{At, Nothing}
@@ -52,7 +52,7 @@ keys text at = keys-in (length text) (name-at (drop (at + 1) text))
 -- where the value of the first one with the name begins
 unfoldable pub place-in : List ℕ → List Key → Found
 place-in w [] = Nothing
-place-in w (key n v ∷ l) = pick (same n w) (At v) (place-in w l)
+place-in w (key n v ∷ l) = pick (sameBytes n w) (At v) (place-in w l)
 
 unfoldable pub place : List ℕ → ℕ → List ℕ → Found
 place text at w = place-in w (keys text at)
@@ -82,4 +82,4 @@ pub record First (s : List ℕ) (l : List Attribute) : Type 0 where
 -- one by its name: the value of the first attribute with the name
 unfoldable pub lookup : List ℕ → List Attribute → Option (List ℕ)
 lookup w [] = Option.none
-lookup w (attribute n v ∷ l) = cond (same n w) (some v) (lookup w l)
+lookup w (attribute n v ∷ l) = cond (sameBytes n w) (some v) (lookup w l)

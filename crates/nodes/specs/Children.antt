@@ -35,8 +35,8 @@ first-by n fail = Done
 first-by n (got true r) = kid-at n r
 first-by n (got false r) = Done
 
-unfoldable pub first : List ℕ → ℕ → Kid
-first text at = first-by (length text) (tag-at (drop at text))
+unfoldable pub firstChild : List ℕ → ℕ → Kid
+firstChild text at = first-by (length text) (tag-at (drop at text))
 
 -- the next child behind the element at a position: any bytes
 unfoldable pub next : List ℕ → ℕ → Kid

@@ -6,13 +6,13 @@ use mathlib.Core.Bool.{Bool, false}
 use lib.Dec.{eqb}
 use lib.ListN.{drop}
 use Rattle.grammar.specs.Read.{Read, fail, got}
-use Rattle.grammar.specs.Parser.{name-at, same}
+use Rattle.grammar.specs.Parser.{name-at, sameBytes}
 use Rattle.nodes.specs.Places.{pick}
 
 -- ON BYTES: whether the element at a position has the name
 unfoldable pub named-in : List ℕ → Read (List ℕ) → Bool
 named-in w fail = false
-named-in w (got n r) = same n w
+named-in w (got n r) = sameBytes n w
 
 unfoldable pub named-by : List ℕ → List ℕ → Bool
 named-by w [] = false

@@ -12,10 +12,10 @@ use Rattle.nodes.specs.declared.scan.Tag.the-variants as tag-is
 use Rattle.nodes.specs.declared.scan.Sign.{Sign}
 use Rattle.nodes.specs.declared.scan.Sign.the-variants as sign-is
 
-unfoldable pub tagged : ℕ → Read Bool → Tag
-tagged n fail = tag-is.No
-tagged n (got true r) = tag-is.Open (n - length r)
-tagged n (got false r) = tag-is.Bare (n - length r)
+unfoldable pub tagTold : ℕ → Read Bool → Tag
+tagTold n fail = tag-is.No
+tagTold n (got true r) = tag-is.Open (n - length r)
+tagTold n (got false r) = tag-is.Bare (n - length r)
 
 -- what stands where contents go on with a tag, and what is left
 pub data Mark : Type 0 where
@@ -43,8 +43,8 @@ sign-by at-text s = none
 unfoldable pub sign : List ℕ → Mark
 sign s = sign-by (look s) s
 
-unfoldable pub signed : ℕ → Mark → Sign
-signed n (closes s) = sign-is.Close (n - length s)
-signed n (opens r) = sign-is.Open (n - length r)
-signed n (flat r) = sign-is.Flat (n - length r)
-signed n none = sign-is.No
+unfoldable pub signTold : ℕ → Mark → Sign
+signTold n (closes s) = sign-is.Close (n - length s)
+signTold n (opens r) = sign-is.Open (n - length r)
+signTold n (flat r) = sign-is.Flat (n - length r)
+signTold n none = sign-is.No

@@ -24,12 +24,12 @@ unfoldable pub inside : List ℕ → ℕ → Found
 inside text at = inside-by (length text) (tag-at (drop at text))
 
 -- A PLACE in contents. Up to the length n of the text it is a byte of it, outside of CDATA; n + 1 + i is byte i, within CDATA.
-unfoldable pub rest-by : Bool → List ℕ → ℕ → Rest
-rest-by true text i = outside (drop i text)
-rest-by false text i = within (drop (i - suc (length text)) text)
+unfoldable pub rest-from-by : Bool → List ℕ → ℕ → Rest
+rest-from-by true text i = outside (drop i text)
+rest-from-by false text i = within (drop (i - suc (length text)) text)
 
-unfoldable pub rest-at : List ℕ → ℕ → Rest
-rest-at text i = rest-by (leb i (length text)) text i
+unfoldable pub rest-from : List ℕ → ℕ → Rest
+rest-from text i = rest-from-by (leb i (length text)) text i
 
 unfoldable pub place-of : ℕ → Rest → ℕ
 place-of n (outside r) = n - length r
@@ -37,10 +37,10 @@ place-of n (within r) = n + 1 + (n - length r)
 
 -- what is said from a place on, and how many bytes are ahead of it
 unfoldable pub saysAt : List ℕ → ℕ → List ℕ
-saysAt text i = saysFrom (rest-at text i)
+saysAt text i = saysFrom (rest-from text i)
 
 unfoldable pub left : List ℕ → ℕ → ℕ
-left text i = length (bytes (rest-at text i))
+left text i = length (bytes (rest-from text i))
 
 -- the text from where contents begin
 unfoldable pub text-from : List ℕ → Found → List ℕ
@@ -57,4 +57,4 @@ as-text n (skip r) = Skip (place-of n r)
 as-text n (char b r) = Letter b (place-of n r)
 
 unfoldable pub text-step : List ℕ → ℕ → Text
-text-step text i = as-text (length text) (step (rest-at text i))
+text-step text i = as-text (length text) (step (rest-from text i))

@@ -6,8 +6,8 @@ ghost use Rattle.nodes.specs.Places.{the};
 ghost use Rattle.nodes.specs.Values.{value-there};
 ghost use Rattle.cifti.specs.Maps.{dimensionsOf};
 ghost use Rattle.maps.specs.Sums.{MapAt};
-ghost use Rattle.maps.specs.Digits.{Tells};
-ghost use Rattle.maps.specs.Seen.{Grown, Lists};
+ghost use Rattle.maps.specs.Digits.{CountsNumbers};
+ghost use Rattle.maps.specs.Seen.{Grown, CountsDigits};
 
 fn one_more(dims: Dims, b: u8) -> Dims
     ensures { λ r. ⌜ Grown b dims r ⌝ }
@@ -27,7 +27,7 @@ fn one_more(dims: Dims, b: u8) -> Dims
 }
 
 fn digits_at(text: &[u8], v: usize) -> Dims
-    ensures { λ r. ⌜ Lists (value-there (now (text .entry)) v) r ⌝ }
+    ensures { λ r. ⌜ CountsDigits (value-there (now (text .entry)) v) r ⌝ }
 {
     let mut dims = Dims { has: [0; 10] };
     if text.len() <= v {
@@ -51,7 +51,7 @@ fn digits_at(text: &[u8], v: usize) -> Dims
 // How often the map at `at` lists each dimension, told up to twice.
 pub(crate) fn dimensions_of(text: &[u8], at: usize) -> Dims
     requires { ⌜ MapAt (now text) at ⌝ }
-    ensures { λ r. ⌜ Tells (dimensionsOf (the (now (text .entry)) at)) r ⌝ }
+    ensures { λ r. ⌜ CountsNumbers (dimensionsOf (the (now (text .entry)) at)) r ⌝ }
 {
     match inside::attributes::attribute(text, at, b"AppliesToMatrixDimension") {
         Found::At(v) => digits_at(text, v),

@@ -13,7 +13,7 @@ ghost use mathlib.Core.Path.{_≡_};
 ghost use Prim.Native.Nat.{_-_, _<_, _≤_};
 ghost use lib.ListN.{length, getD};
 ghost use Rattle.grammar.specs.Bytes.{blank};
-ghost use Rattle.numbers.specs.Stream.{digitsAt, Few, Stops, Begun, EightLeft, runOf};
+ghost use Rattle.numbers.specs.Stream.{digitsAt, Few, Stops, DigitsBegun, EightLeft, runOf};
 ghost use Rattle.numbers.specs.declared.Source.the-variants.{Contents};
 ghost use Rattle.numbers.specs.Answers.{nextNumber};
 ghost use Rattle.number_lists.specs.Within.{Digits};
@@ -102,7 +102,7 @@ fn all_digits(text: &[u8], run: Run) -> Run
 
 // The number at `at`, whose digits up to `next` write `value`, whatever stands between those behind them.
 fn number_from(text: &[u8], at: usize, value: u64, next: usize) -> Next
-    requires { ⌜ Begun (now text) at value next ⌝ }
+    requires { ⌜ DigitsBegun (now text) at value next ⌝ }
     ensures { λ r. ⌜ r ≡ nextNumber (now (text .entry)) at ⌝ }
 {
     let run = all_digits(text, run_of(value, at, next));

@@ -12,14 +12,14 @@ use numbers::Spelling;
 ghost use mathlib.Core.Path.{_≡_};
 ghost use Prim.Native.Nat.{_<_, _≤_};
 ghost use lib.IntN.{pos, _-ℤ_};
-ghost use Rattle.numbers.specs.Numbers.{mark, withSign};
+ghost use Rattle.numbers.specs.Numbers.{powerMark, withSign};
 ghost use Rattle.numbers.specs.Answers.{signIf, powerIn};
-ghost use Rattle.numbers.specs.Spelled.{Leads, Raised, Powered};
+ghost use Rattle.numbers.specs.Spelled.{SignLeads, Raised, Powered};
 ghost use Rattle.numbers.specs.Stream.{charAt};
 
 // The sign at `at`, if there is one.
 pub(crate) fn sign_at(text: &[u8], at: usize, source: Source) -> Lead
-    ensures { λ r. ⌜ Leads source (now (text .entry)) at r ⌝ }
+    ensures { λ r. ⌜ SignLeads source (now (text .entry)) at r ⌝ }
 {
     match char_at(text, at, source) {
         Char::Byte(b, j) => {
@@ -103,7 +103,7 @@ fn power_digits(
 }
 
 fn is_mark(b: u8) -> bool
-    ensures { λ r. ⌜ r ≡ mark b ⌝ }
+    ensures { λ r. ⌜ r ≡ powerMark b ⌝ }
 {
     (b == b'E') | (b == b'e')
 }

@@ -38,8 +38,8 @@ pub record ChecksBy (faultIn : Element → ℕ) (text : List ℕ) (r : Checked) 
   pub unwritten : parse text ≡ Option.none → (r .number ≡ 3) × (r .root ≡ 0)
   pub written : (e : Element) → parse text ≡ some e → JudgedBy faultIn text (r .root) (r .number)
 
-abbrev pub Judged : (text : List ℕ) (at fault : ℕ) → Type 0
-Judged text at n = JudgedBy rootFault text at n
+abbrev pub JudgedCifti : (text : List ℕ) (at fault : ℕ) → Type 0
+JudgedCifti text at n = JudgedBy rootFault text at n
 
 abbrev pub ChecksCifti : (text : List ℕ) (r : Checked) → Type 0
 ChecksCifti text r = ChecksBy rootFault text r
@@ -51,6 +51,6 @@ abbrev pub ChecksGifti : (text : List ℕ) (r : Checked) → Type 0
 ChecksGifti text r = ChecksBy giftiFault text r
 
 -- the answer to what is asked: conditions 3, 6 and 7 of a root of a kind, or the number of the value at v among the words of a form
-pub record Answers (text : List ℕ) (conditions : Bool) (kind v form : ℕ) (checked : Checked) (number : ℕ) : Type 0 where
+pub record TableAnswers (text : List ℕ) (conditions : Bool) (kind v form : ℕ) (checked : Checked) (number : ℕ) : Type 0 where
   pub checked-so : conditions ≡ true → Checks table letters kind text checked
   pub number-is : conditions ≡ false → number ≡ numberIn (wordsAt table letters form) (value-there text v)

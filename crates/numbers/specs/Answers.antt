@@ -83,12 +83,12 @@ unfoldable pub placesIn : ℤ → Whole
 placesIn z = cond (leb (up z) 0 && leb (down z) 18) (Is (down z)) No
 
 -- The next of a list of whole numbers, from a place in the text on: the first word that is ahead, and the place behind it.
-unfoldable pub nextOf : (ℕ → ℕ) → List Word → Next
-nextOf place [] = End
-nextOf place (w ∷ l) = cond (digits 1 7 w) (Number (value w) (place (length w))) Bad
+unfoldable pub nextInWords : (ℕ → ℕ) → List Word → Next
+nextInWords place [] = End
+nextInWords place (w ∷ l) = cond (digits 1 7 w) (Number (value w) (place (length w))) Bad
 
 unfoldable pub nextNumber : List ℕ → ℕ → Next
-nextNumber text i = let w = saysAt text i in nextOf (λ n. behind Contents text (leading blank w + n) i) (words w)
+nextNumber text i = let w = saysAt text i in nextInWords (λ n. behind Contents text (leading blank w + n) i) (words w)
 
 -- the sign that a program keeps as a test
 unfoldable pub signIf : Bool → Sign

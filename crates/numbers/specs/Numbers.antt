@@ -125,8 +125,8 @@ sameKey (negsuc m) (negsuc n) = eqb m n
 -- Decimals: optional `+` or `-`; 1 to 15 digits, at most one point with a digit on each side; then optionally `e` or `E`, an optional
 -- sign, one or two digits. Read as a whole number and one power of ten: the digits without the point, and the written power less the
 -- places. Nothing is shortened: `7.2E-1` is 72 with power -2, `2.0` is 20 with power -1.
-unfoldable pub mark : ℕ → Bool
-mark a = eqb a 69 || eqb a 101
+unfoldable pub powerMark : ℕ → Bool
+powerMark a = eqb a 69 || eqb a 101
 
 unfoldable pub decimalParts : List Word → Bool
 decimalParts [] = false
@@ -171,10 +171,10 @@ scaledValue s [] = noDecimal
 scaledValue s (m ∷ l) = record { amount = withSign s (value (together (parts point m))); power = power m l }
 
 unfoldable pub decimal : Word → Bool
-decimal w = scaled (parts mark ((unsigned true w) .rest))
+decimal w = scaled (parts powerMark ((unsigned true w) .rest))
 
 unfoldable pub decimalValue : Word → Decimal
-decimalValue w = let u = unsigned true w in scaledValue (u .sign) (parts mark (u .rest))
+decimalValue w = let u = unsigned true w in scaledValue (u .sign) (parts powerMark (u .rest))
 
 -- A decimal beside the whole number n, in value: both are brought to one power of ten, 0 or the decimal's where that is less.
 unfoldable pub up : ℤ → ℕ
@@ -234,7 +234,7 @@ sixteen w = let l = words w in all decimal l && lastRow (drop 12 l)
 
 unfoldable pub numbers : Unit {0}
 unfolding blank digit digits number value onFirst parts comma point filled words whole three volumeDimensions dimensionList commaValues
-    unsigned withSign exponent exponentValue keyValue inKeys key keyList listedKeys sameKey mark decimalParts mantissa places powerParts
-    writtenPower power inPower scaled scaledValue decimal decimalValue up down inValue isWhole noMore noLess equalTo atMost atLeast colour
-    wholes values lastRow sixteen
+    unsigned withSign exponent exponentValue keyValue inKeys key keyList listedKeys sameKey powerMark decimalParts mantissa places
+    powerParts writtenPower power inPower scaled scaledValue decimal decimalValue up down inValue isWhole noMore noLess equalTo atMost
+    atLeast colour wholes values lastRow sixteen
 numbers = tt

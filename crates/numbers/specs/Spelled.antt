@@ -9,7 +9,7 @@ use Rattle.grammar.specs.Bytes.{blank}
 use Rattle.grammar.specs.Document.{together}
 use Rattle.grammar.specs.Look.{Word}
 use Rattle.lists.specs.Lists.{all}
-use Rattle.numbers.specs.Numbers.{digit, digits, value, parts, point, mark, Sign, unsigned, withSign, mantissa, places}
+use Rattle.numbers.specs.Numbers.{digit, digits, value, parts, point, powerMark, Sign, unsigned, withSign, mantissa, places}
 use Rattle.numbers.specs.Numbers.{inPower, scaled, scaledValue, decimal, decimalValue}
 use Rattle.numbers.specs.Cuts.{Uncut}
 use Rattle.numbers.specs.Stream.{stream, wordEnds}
@@ -33,39 +33,39 @@ pub record Spelled (source : Source) (text : List ℕ) (at : ℕ) (r : Spelling)
   pub reading : Reading source text at decimal decimalValue r
 
 -- without its sign
-unfoldable pub pure : Word → Bool
-pure x = scaled (parts mark x)
+unfoldable pub pureDecimal : Word → Bool
+pureDecimal x = scaled (parts powerMark x)
 
 unfoldable pub pureValue : Sign → Word → Decimal
-pureValue s x = scaledValue s (parts mark x)
+pureValue s x = scaledValue s (parts powerMark x)
 
 pub record Pure (source : Source) (text : List ℕ) (at : ℕ) (s : Sign) (r : Spelling) : Type 0 where
-  pub reading : Reading source text at pure (pureValue s) r
+  pub reading : Reading source text at pureDecimal (pureValue s) r
 
 -- behind the point, where `count` digits stand in front of it, which write `before`
 unfoldable pub pointed : Word → Word → Word
 pointed u x = u ++ (46 ∷ x)
 
-pub record Front (u : Word) (before count : ℕ) : Type 0 where
+pub record DigitsInFront (u : Word) (before count : ℕ) : Type 0 where
   pub all-digits : all digit u ≡ true
   pub some : 1 ≤ length u
   pub counted : length u ≡ count
   pub valued : value u ≡ before
 
 pub record Pointed (source : Source) (text : List ℕ) (at before count : ℕ) (s : Sign) (r : Spelling) : Type 0 where
-  pub reading : {u : Word} → Front u before count
-      → Reading source text at (λ x. pure (pointed u x)) (λ x. pureValue s (pointed u x)) r
+  pub reading : {u : Word} → DigitsInFront u before count
+      → Reading source text at (λ x. pureDecimal (pointed u x)) (λ x. pureValue s (pointed u x)) r
 
 -- behind a mantissa that goes on no further
 pub record Mantissa (source : Source) (text : List ℕ) (at : ℕ) (s : Sign) (a : ℤ) (n : ℕ) (m : Word) : Type 0 where
   pub right : mantissa m ≡ true
   pub amounts : withSign s (value (together (parts point m))) ≡ a
   pub placed : places m ≡ n
-  pub stopped : (b : ℕ) (x : Word) → stream source text at ≡ b ∷ x → mark b ≡ false → (y : Word) → mantissa (m ++ (b ∷ y)) ≡ false
+  pub stopped : (b : ℕ) (x : Word) → stream source text at ≡ b ∷ x → powerMark b ≡ false → (y : Word) → mantissa (m ++ (b ∷ y)) ≡ false
 
 pub record Powered (source : Source) (text : List ℕ) (at : ℕ) (a : ℤ) (n : ℕ) (r : Spelling) : Type 0 where
   pub reading : {s : Sign} {m : Word} → Mantissa source text at s a n m
-      → Reading source text at (λ y. pure (m ++ y)) (λ y. pureValue s (m ++ y)) r
+      → Reading source text at (λ y. pureDecimal (m ++ y)) (λ y. pureValue s (m ++ y)) r
 
 -- the digits of a power, behind its sign
 unfoldable pub powerDigits : Sign → ℕ → Word → Bool
@@ -78,10 +78,10 @@ pub record Raised (source : Source) (text : List ℕ) (at : ℕ) (s : Sign) (a :
   pub reading : Reading source text at (powerDigits s n) (powerValue s a n) r
 
 -- A sign in front, if there is one, and the place behind it: what is ahead of that is the rest.
-pub record Leads (source : Source) (text : List ℕ) (at : ℕ) (r : Lead) : Type 0 where
+pub record SignLeads (source : Source) (text : List ℕ) (at : ℕ) (r : Lead) : Type 0 where
   pub front : Word
   pub no-blank : Uncut blank front
-  pub no-mark : Uncut mark front
+  pub no-mark : Uncut powerMark front
   pub splits : stream source text at ≡ front ++ stream source text (r .next)
   pub signs : (x y : Word) → stream source text (r .next) ≡ x ++ y
       → unsigned true (front ++ x) ≡ record { sign = signIf (r .negative); rest = x }

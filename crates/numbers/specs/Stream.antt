@@ -104,6 +104,6 @@ pub record Plain (text : List ℕ) (at stop : ℕ) (run : Run) : Type 0 where
   pub same : digitsAt Contents text 7 0 0 at ≡ digitsAt Contents text (7 - run .count) (run .value) (run .count) (run .next)
 
 -- no blank stands there; what was read up to `next` are plain digits, if any
-pub record Begun (text : List ℕ) (at value next : ℕ) : Type 0 where
+pub record DigitsBegun (text : List ℕ) (at value next : ℕ) : Type 0 where
   pub plain : Plain text at next (runOf value at next)
   pub starts : leading blank (stream Contents text at) ≡ 0

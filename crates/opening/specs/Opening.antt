@@ -10,7 +10,7 @@ use Rattle.grammar.specs.Document.{Element}
 use Rattle.grammar.specs.Look.{children}
 use Rattle.grammar.specs.Parser.{parse}
 use Rattle.nodes.specs.Places.{Stands, the}
-use Rattle.nodes.specs.Children.{first}
+use Rattle.nodes.specs.Children.{firstChild}
 use Rattle.nodes.specs.Root.{root}
 use Rattle.nodes.specs.declared.Kid.{Kid}
 use Rattle.nodes.specs.declared.Kid.the-variants.{Child, Done}
@@ -47,7 +47,7 @@ kidPlace Done = 0
 
 -- where the first child of the root begins
 unfoldable pub matrixPlace : List ℕ → ℕ
-matrixPlace text = kidPlace (first text (kidPlace (root text)))
+matrixPlace text = kidPlace (firstChild text (kidPlace (root text)))
 
 -- the number is that of the first of 1 to 7 that applies; where none does, the matrix is the root's only child
 pub record Opens (text lengths : List ℕ) (r : Opening) : Type 0 where
@@ -64,10 +64,10 @@ rootNumber e n = cond (rootWrong e) 4 (cond (kindNotRead e) 5 (cond (shapeWrong 
 -- ---- The root.
 
 -- what is found in the document, whose root stands at r
-pub record Found (text : List ℕ) (r : ℕ) (o : Opening) : Type 0 where
+pub record RootFound (text : List ℕ) (r : ℕ) (o : Opening) : Type 0 where
   pub among : o .number ≤ 7
   pub nowhere : (o .number ≡ 0 → ⊥) → o .matrix ≡ 0
-  pub there-it-is : o .number ≡ 0 → o .matrix ≡ kidPlace (first text r)
+  pub there-it-is : o .number ≡ 0 → o .matrix ≡ kidPlace (firstChild text r)
   pub refused : (o .number ≡ 0 → ⊥) → (n : ℕ) → rootNumber (the text r) n ≡ o .number
   pub right-root : o .number ≡ 0 → rootWrong (the text r) ≡ false
   pub read-kinds : o .number ≡ 0 → kindNotRead (the text r) ≡ false

@@ -7,8 +7,8 @@ use maps::limits::MOST_RECORDS;
 use nodes::Kid;
 ghost use mathlib.Core.Path.{_≡_};
 ghost use Rattle.cifti.specs.Conditions.{lengthsWrong};
-ghost use Rattle.numbered_rows.specs.Checks.{Judged};
-ghost use Rattle.opening.specs.Opening.{Opens, Found};
+ghost use Rattle.numbered_rows.specs.Checks.{JudgedCifti};
+ghost use Rattle.opening.specs.Opening.{Opens, RootFound};
 
 // The number of the first that applies; where it is 0, the matrix begins at `matrix`.
 pub struct Opening {
@@ -41,8 +41,8 @@ fn lengths_wrong(lengths: &[u64]) -> bool
 
 // Conditions 4 to 7, at the root, whose fault by 6 and 7 is known: where they do not apply, neither does 5.
 fn of_root(text: &[u8], root: usize, fault: u8) -> Opening
-    requires { ⌜ Judged (now text) root fault ⌝ }
-    ensures { λ r. ⌜ Found (now (text .entry)) root r ⌝ }
+    requires { ⌜ JudgedCifti (now text) root fault ⌝ }
+    ensures { λ r. ⌜ RootFound (now (text .entry)) root r ⌝ }
 {
     if root_wrong(text, root) {
         return Opening {

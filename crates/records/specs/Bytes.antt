@@ -2,11 +2,11 @@
 use mathlib.Core.List.{List, [], _∷_, _++_}
 use Prim.Native.Nat.{ℕ, zero, suc, _<_}
 use lib.ListN.{length, getD, take, drop, replicate}
-use Rattle.records.specs.Fields.{bits, joined, parted}
+use Rattle.records.specs.Fields.{bits, joined, partsOf}
 
 -- the last w bytes of a number
 unfoldable pub bytesOf : ℕ → ℕ → List ℕ
-bytesOf w n = parted (replicate w 8) n
+bytesOf w n = partsOf (replicate w 8) n
 
 -- the number that bytes write
 unfoldable pub numberWritten : List ℕ → ℕ
@@ -28,5 +28,5 @@ Below b s = (k : ℕ) → getD s k 0 < b
 
 -- opens every definition above
 unfoldable pub byteWords : Unit {0}
-unfolding bits joined parted bytesOf numberWritten body numbersIn
+unfolding bits joined partsOf bytesOf numberWritten body numbersIn
 byteWords = tt

@@ -13,9 +13,9 @@ joined (w ∷ ws) [] = 0
 joined (w ∷ ws) (p ∷ ps) = p * 2 ^ bits ws + joined ws ps
 
 -- the parts of a number
-unfoldable pub parted : List ℕ → ℕ → List ℕ
-parted [] r = []
-parted (w ∷ ws) r = r / 2 ^ bits ws % 2 ^ w ∷ parted ws r
+unfoldable pub partsOf : List ℕ → ℕ → List ℕ
+partsOf [] r = []
+partsOf (w ∷ ws) r = r / 2 ^ bits ws % 2 ^ w ∷ partsOf ws r
 
 -- a part for each width, and none too large for it
 pub data Fit : List ℕ → List ℕ → Type 0 where

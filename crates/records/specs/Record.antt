@@ -5,7 +5,7 @@ use Prim.Native.Nat.{ℕ, _%_, _^_, _<_}
 use lib.Dec.{eqb, leb, ltb}
 use lib.ListN.{getD}
 use Rattle.records.specs.Limits.{mostVertex}
-use Rattle.records.specs.Fields.{bits, joined, parted}
+use Rattle.records.specs.Fields.{bits, joined, partsOf}
 use Rattle.records.specs.Width.{Width, five, seven, surfaceBits, voxelBits, recordBits}
 
 pub data Location : Type 0 where
@@ -28,22 +28,22 @@ withinIn w (inVolume s i j k) = inVolume (s % 2 ^ (w .structure)) (i % 2 ^ (w .i
 
 -- the parts of a record
 unfoldable pub isVoxelIn : Width → ℕ → Bool
-isVoxelIn w r = eqb (getD (parted (surfaceBits w) r) 0 0) 1
+isVoxelIn w r = eqb (getD (partsOf (surfaceBits w) r) 0 0) 1
 
 unfoldable pub structureIn : Width → ℕ → ℕ
-structureIn w r = getD (parted (surfaceBits w) r) 1 0
+structureIn w r = getD (partsOf (surfaceBits w) r) 1 0
 
 unfoldable pub payloadIn : Width → ℕ → ℕ
-payloadIn w r = getD (parted (surfaceBits w) r) 2 0
+payloadIn w r = getD (partsOf (surfaceBits w) r) 2 0
 
 unfoldable pub iIn : Width → ℕ → ℕ
-iIn w r = getD (parted (voxelBits w) r) 2 0
+iIn w r = getD (partsOf (voxelBits w) r) 2 0
 
 unfoldable pub jIn : Width → ℕ → ℕ
-jIn w r = getD (parted (voxelBits w) r) 3 0
+jIn w r = getD (partsOf (voxelBits w) r) 3 0
 
 unfoldable pub kIn : Width → ℕ → ℕ
-kIn w r = getD (parted (voxelBits w) r) 4 0
+kIn w r = getD (partsOf (voxelBits w) r) 4 0
 
 unfoldable pub locationIn : Width → ℕ → Location
 locationIn w r =
@@ -66,8 +66,8 @@ unstructured (onSurface s v) = onSurface s v
 unstructured (inVolume s i j k) = inVolume 0 i j k
 
 -- a number that records share exactly where they name the same place
-unfoldable pub keyIn : Width → ℕ → ℕ
-keyIn w r = recordIn w (unstructured (locationIn w r))
+unfoldable pub recordKeyIn : Width → ℕ → ℕ
+recordKeyIn w r = recordIn w (unstructured (locationIn w r))
 
 -- the record in v of the location that a record in w names
 abbrev pub carried : (v w : Width) → ℕ → ℕ
@@ -110,7 +110,7 @@ abbrev pub legalRecord : ℕ → Bool
 legalRecord r = legalIn seven r
 
 abbrev pub keyOf : ℕ → ℕ
-keyOf r = keyIn seven r
+keyOf r = recordKeyIn seven r
 
 -- the record of the location that a record of a sheet of five names
 abbrev pub widened : ℕ → ℕ
@@ -118,5 +118,6 @@ widened r = carried seven five r
 
 -- opens every definition above
 unfoldable pub recordWords : Unit {0}
-unfolding bits joined parted recordIn withinIn isVoxelIn structureIn payloadIn iIn jIn kIn locationIn locationOf legalIn unstructured keyIn
+unfolding bits joined partsOf recordIn withinIn isVoxelIn structureIn payloadIn iIn jIn kIn locationIn locationOf legalIn unstructured
+    recordKeyIn
 recordWords = tt

@@ -21,7 +21,7 @@ pub record Known (text : List ℕ) (at n : ℕ) : Type 0 where
   pub known : n < 4294967304
 
 -- words up to one, behind a front part, such as a table can name
-pub record Listed (to front : ℕ) : Type 0 where
+pub record WordsNamed (to front : ℕ) : Type 0 where
   pub known-to : to < 4294967296
   pub known-front : front < 4294967296
 
@@ -40,7 +40,7 @@ pub record Lined (t l text : List ℕ) (at kind from line to : ℕ) : Type 0 whe
   pub line-is : line ≡ from + linePlace t l (nameOf (the text at)) from (to - from)
 
 -- whether the line is in turn can be asked
-pub record Turning (kind from line : ℕ) : Type 0 where
+pub record TurnAsked (kind from line : ℕ) : Type 0 where
   pub known : kind < 4294967304
   pub behind : from ≤ line
 
@@ -50,7 +50,7 @@ pub record Here (t l : List ℕ) (name : Word) (line i : ℕ) : Type 0 where
   pub known : i < 4294967304
 
 -- one more can be counted
-pub record Roomy (counts : List ℕ) : Type 0 where
+pub record CanCount (counts : List ℕ) : Type 0 where
   pub size : length counts ≡ 8
   pub room : (p : ℕ) → getD counts p 0 < 18446744073709551615
 
@@ -59,7 +59,7 @@ pub record Counting (t l : List ℕ) (name : Word) (from line to : ℕ) (counts 
   pub timed : Timed from to
   pub inside : line < to
   pub line-is : line ≡ from + linePlace t l name from (to - from)
-  pub roomy : Roomy counts
+  pub roomy : CanCount counts
 
 -- a child of a parent of this kind
 pub record Tallying (t text : List ℕ) (at kind from to : ℕ) (counts : List ℕ) : Type 0 where
@@ -68,4 +68,4 @@ pub record Tallying (t text : List ℕ) (at kind from to : ℕ) (counts : List �
   pub starts : from ≡ linesFrom t kind
   pub ends : to ≡ linesTo t kind
   pub timed : Timed from to
-  pub roomy : Roomy counts
+  pub roomy : CanCount counts

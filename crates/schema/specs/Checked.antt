@@ -23,7 +23,7 @@ use Rattle.schema.specs.Walked.{Walks}
 use Rattle.schema.specs.declared.Walked.{Walked}
 use Rattle.schema.specs.declared.Checked.{Checked}
 
-pub record Judges (t l : List ℕ) (k : ℕ) (text : List ℕ) (r : Checked) (e : Element) : Type 0 where
+pub record ChecksDocument (t l : List ℕ) (k : ℕ) (text : List ℕ) (r : Checked) (e : Element) : Type 0 where
   pub number-is : r .number ≡ faultOf t l k e
   pub placed : root text ≡ Child (r .root)
   pub stands : Stands text (r .root)
@@ -31,12 +31,12 @@ pub record Judges (t l : List ℕ) (k : ℕ) (text : List ℕ) (r : Checked) (e 
 
 pub record Checks (t l : List ℕ) (k : ℕ) (text : List ℕ) (r : Checked) : Type 0 where
   pub none : ((e : Element) → Writes e text → ⊥) → (r .number ≡ 3) × (r .root ≡ 0)
-  pub some-one : (e : Element) → Writes e text → Judges t l k text r e
+  pub some-one : (e : Element) → Writes e text → ChecksDocument t l k text r e
 
 pub record ChecksRoot (t l : List ℕ) (k : ℕ) (text : List ℕ) (r : Checked) : Type 0 where
-  pub judges : (e : Element) → Writes e text → Judges t l k text r e
+  pub judges : (e : Element) → Writes e text → ChecksDocument t l k text r e
 
-pub record Written (text : List ℕ) (k : ℕ) : Type 0 where
+pub record DocumentKnown (text : List ℕ) (k : ℕ) : Type 0 where
   pub document : Element
   pub writes : Writes document text
   pub known : k < 4294967296

@@ -34,8 +34,8 @@ unfoldable pub keyListed : List AttributeRow → Key → Bool
 keyListed r (key n v) = nameListed r n
 
 -- numbers by a form and its limits; those of labels, which have none
-unfoldable pub labelBy : (form : ℕ) → Word → Bool
-labelBy f w = cond (eqb f 7) (numbers.key w) (cond (eqb f 8) (colour w) true)
+unfoldable pub labelByForm : (form : ℕ) → Word → Bool
+labelByForm f w = cond (eqb f 7) (numbers.key w) (cond (eqb f 8) (colour w) true)
 
 unfoldable pub numberBy : (form low high third : ℕ) → Word → Bool
 numberBy f a b c w =
@@ -44,11 +44,11 @@ numberBy f a b c w =
     (cond (eqb f 4) (decimal w)
     (cond (eqb f 5) (exponent a w)
     (cond (eqb f 6) (volumeDimensions a b c w)
-    (labelBy f w)))))
+    (labelByForm f w)))))
 
 -- texts that list keys, by a form: as numbers, or as Base64
-unfoldable pub keysBy : (form : ℕ) → Word → Bool
-keysBy f w = cond (eqb f 3) (keyList w) (cond (eqb f 4) (coded w) true)
+unfoldable pub keysByForm : (form : ℕ) → Word → Bool
+keysByForm f w = cond (eqb f 3) (keyList w) (cond (eqb f 4) (coded w) true)
 
 -- the fault of the attributes in the rows
 unfoldable pub attributesFault : List AttributeRow → List Attribute → ℕ

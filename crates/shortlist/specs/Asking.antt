@@ -11,7 +11,7 @@ use Rattle.lists.specs.Refusals.{_when_, first}
 use Rattle.records.specs.Record.{recordOf, locationOf}
 use Rattle.records.specs.Find.{FirstPlace}
 use Rattle.records.specs.Outcome.{unless}
-use Rattle.shortlist.specs.Runs.{mostStructure, kindOf, kindIn, alike}
+use Rattle.shortlist.specs.Runs.{mostStructure, kindOf, kindIn, ofOneKind}
 use Rattle.shortlist.specs.declared.answer.Model.{Model}
 use Rattle.shortlist.specs.declared.answer.Told.{Told}
 use Rattle.shortlist.specs.declared.answer.Sought.{Sought}
@@ -34,7 +34,7 @@ runsOnFrom at [] = true
 runsOnFrom at (m ∷ l) = eqb (m .first .0) at && runsOnFrom (at + m .count) l
 
 unfoldable pub badList : List Model → Bool
-badList l = any empty l || (not (runsOnFrom 0 l) || (twoOf alike l || any noStructure l))
+badList l = any empty l || (not (runsOnFrom 0 l) || (twoOf ofOneKind l || any noStructure l))
 
 -- ---- The entry that is asked for.
 
@@ -48,12 +48,12 @@ abbrev pub noModel : Model
 noModel = record { first = record { 0 = 0 }; count = 0; voxels = false; structure = 0 }
 
 -- the first that passes; one of no indices where none does
-unfoldable pub the : (Model → Bool) → List Model → Model
-the p l = getD (those p l) 0 noModel
+unfoldable pub theModel : (Model → Bool) → List Model → Model
+theModel p l = getD (those p l) 0 noModel
 
 -- the records of its range
-unfoldable pub stretch : Model → List ℕ → List ℕ
-stretch m rs = take (m .count) (drop (m .first .0) rs)
+unfoldable pub recordsInRange : Model → List ℕ → List ℕ
+recordsInRange m rs = take (m .count) (drop (m .first .0) rs)
 
 -- a number of no more bits than a record has
 unfoldable pub isRecord : ℕ → Bool
@@ -61,7 +61,7 @@ isRecord x = eqb (recordOf (locationOf x)) x
 
 -- the records among which a record is looked for: those of its own type and structure
 unfoldable pub ownStretch : List Model → List ℕ → ℕ → List ℕ
-ownStretch l rs x = stretch (the (ofKind (kindOf x)) l) rs
+ownStretch l rs x = recordsInRange (theModel (ofKind (kindOf x)) l) rs
 
 -- ---- The type and structure at an index.
 
@@ -86,8 +86,8 @@ tellRefusal l n = first (26 when badList l ∷ 19 when not (any (holdsIndex n) l
 -- what `structure_at` promises
 pub record Tells (l : List Model) (n : ℕ) (answer : Told) : Type 0 where
   pub numbered : toldNumber answer ≡ tellRefusal l n
-  pub voxels : toldVoxels answer ≡ unless (toldNumber answer) ((the (holdsIndex n) l) .voxels) false
-  pub structure : toldStructure answer ≡ unless (toldNumber answer) ((the (holdsIndex n) l) .structure) 0
+  pub voxels : toldVoxels answer ≡ unless (toldNumber answer) ((theModel (holdsIndex n) l) .voxels) false
+  pub structure : toldStructure answer ≡ unless (toldNumber answer) ((theModel (holdsIndex n) l) .structure) 0
 
 -- ---- The index of a record.
 
@@ -112,7 +112,7 @@ seekRefusal l rs x =
 pub record StandsAt (l : List Model) (rs : List ℕ) (x n : ℕ) : Type 0 where
   pub place : ℕ
   pub first-place : FirstPlace (ownStretch l rs x) x place
-  pub index-is : n ≡ (the (ofKind (kindOf x)) l) .first .0 + place
+  pub index-is : n ≡ (theModel (ofKind (kindOf x)) l) .first .0 + place
 
 -- what `index_of` promises
 pub record Seeks (l : List Model) (rs : List ℕ) (x : ℕ) (answer : Sought) : Type 0 where
@@ -122,5 +122,5 @@ pub record Seeks (l : List Model) (rs : List ℕ) (x : ℕ) (answer : Sought) : 
 
 -- opens every definition above
 unfoldable pub askWords : Unit {0}
-unfolding empty noStructure pastEnd runsOnFrom badList holdsIndex ofKind the stretch isRecord ownStretch
+unfolding empty noStructure pastEnd runsOnFrom badList holdsIndex ofKind theModel recordsInRange isRecord ownStretch
 askWords = tt

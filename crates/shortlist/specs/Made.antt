@@ -23,9 +23,9 @@ modelAt made i = record {
 }
 
 -- the first n entries are those of f, the others as they were
-abbrev pub filled : ℕ → (ℕ → Model) → List Model → List Model
-filled zero f l = l
-filled (suc n) f l = set (filled n f l) n (f n)
+abbrev pub entriesFilled : ℕ → (ℕ → Model) → List Model → List Model
+entriesFilled zero f l = l
+entriesFilled (suc n) f l = set (entriesFilled n f l) n (f n)
 
 -- no runs, and a number of refusal
 abbrev pub refusedBy : ℕ → Made
@@ -41,7 +41,7 @@ withRun made at n k = record {
   kind = set (made .kind) (made .count) k;
 }
 
-pub record Sized (made : Made) : Type 0 where
+pub record MadeSized (made : Made) : Type 0 where
   pub first-64 : length (made .first) ≡ 64
   pub length-64 : length (made .length) ≡ 64
   pub kind-64 : length (made .kind) ≡ 64
@@ -70,7 +70,7 @@ pub record MadeOf (rs : List ℕ) (room : ℕ) (made : Made) : Type 0 where
   pub fit : made .count ≤ room
 
 -- the answer of its number and count
-unfoldable pub listedBy : (number count : ℕ) → Listed
-listedBy n c =
+unfoldable pub listAnswer : (number count : ℕ) → Listed
+listAnswer n c =
     cond (eqb n 15) Listed.BadCount
     (cond (eqb n 16) Listed.BadRecord (cond (eqb n 26) Listed.Parted (cond (eqb n 17) Listed.TooShort (Listed.Models c))))

@@ -14,18 +14,18 @@ abbrev pub mostStructure : ℕ
 mostStructure = 31
 
 -- type and structure as one number; `kind-parts` says that up to 31 no two have the same
-unfoldable pub kindNumber : (voxels : Bool) (structure : ℕ) → ℕ
-kindNumber v s = cond v 32 0 + s
+unfoldable pub structureKind : (voxels : Bool) (structure : ℕ) → ℕ
+structureKind v s = cond v 32 0 + s
 
 -- of a record, and of a model
 unfoldable pub kindOf : ℕ → ℕ
-kindOf r = kindNumber (isVoxel r) (structureOf r)
+kindOf r = structureKind (isVoxel r) (structureOf r)
 
 unfoldable pub kindIn : Model → ℕ
-kindIn m = kindNumber (m .voxels) (m .structure)
+kindIn m = structureKind (m .voxels) (m .structure)
 
-unfoldable pub alike : Model → Model → Bool
-alike m n = eqb (kindIn m) (kindIn n)
+unfoldable pub ofOneKind : Model → Model → Bool
+ofOneKind m n = eqb (kindIn m) (kindIn n)
 
 -- a run of one record, and a run with one record more
 abbrev pub alone : ℕ → ℕ → Model
@@ -50,7 +50,7 @@ runs rs = runsFrom 0 rs
 
 -- a type and structure comes back after another: two runs have the same
 unfoldable pub comesBack : List ℕ → Bool
-comesBack rs = twoOf alike (runs rs)
+comesBack rs = twoOf ofOneKind (runs rs)
 
 -- models laid over the start of a list, what lies past left as it was
 unfoldable pub laid : List Model → List Model → List Model
@@ -58,5 +58,5 @@ laid ms l = ms ++ drop (length ms) l
 
 -- opens every definition above
 unfoldable pub runWords : Unit {0}
-unfolding kindNumber kindOf kindIn alike runsOn runsFrom runs comesBack laid
+unfolding structureKind kindOf kindIn ofOneKind runsOn runsFrom runs comesBack laid
 runWords = tt

@@ -58,8 +58,8 @@ spoilt s = record {
 }
 
 -- with one entry more: in a list that is not bad, one entry at most holds the index, and one at most is of the kind
-unfoldable pub taken : Search → Model → Search
-taken s m = record {
+unfoldable pub withEntry : Search → Model → Search
+withEntry s m = record {
   index = s .index;
   kind = s .kind;
   most = s .most;
@@ -73,7 +73,7 @@ taken s m = record {
 }
 
 unfoldable pub nextOf : Search → Model → Search
-nextOf s m = cond (s .bad || badEntry s m) (spoilt s) (taken s m)
+nextOf s m = cond (s .bad || badEntry s m) (spoilt s) (withEntry s m)
 
 -- what is left of a state when the entries have been taken in turn
 abbrev pub folded : (Search → Model → Search) → Search → List Model → Search
@@ -90,12 +90,13 @@ toldOf s = cond (s .bad) Told.BadList (cond (ltb (s .tells) 64) (Told.Is (leb 32
 abbrev pub ownRecords : Search → List ℕ → List ℕ
 ownRecords s rs = take (s .size) (drop (s .from) rs)
 
-unfoldable pub outside : Search → (records : ℕ) → Bool
-outside s n = (s .bad || ltb (s .most) (s .first + s .count)) || ltb n (s .from + s .size)
+unfoldable pub listOutside : Search → (records : ℕ) → Bool
+listOutside s n = (s .bad || ltb (s .most) (s .first + s .count)) || ltb n (s .from + s .size)
 
 -- what `sought` promises
 pub record Finding (rs : List ℕ) (s : Search) (x : ℕ) (answer : Sought) : Type 0 where
-  pub numbered : soughtNumber answer ≡ first (26 when outside s (length rs) ∷ 19 when not (isRecord x && any (eqb x) (ownRecords s rs)) ∷
+  pub numbered : soughtNumber answer
+      ≡ first (26 when listOutside s (length rs) ∷ 19 when not (isRecord x && any (eqb x) (ownRecords s rs)) ∷
       [])
   pub place : ℕ
   pub found : soughtNumber answer ≡ 0 → FirstPlace (ownRecords s rs) x place

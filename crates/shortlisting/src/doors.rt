@@ -16,12 +16,12 @@ use shortlist::Told;
 ghost use mathlib.Core.Path.{_≡_};
 ghost use Rattle.shortlist.specs.Making.{Lists};
 ghost use Rattle.shortlist.specs.Asking.{Tells, Seeks};
-ghost use Rattle.shortlist.specs.Made.{listedBy};
+ghost use Rattle.shortlist.specs.Made.{listAnswer};
 ghost use Rattle.shortlist.specs.Search.{begun};
 
 // The answer of what was made.
 fn listed(made: Made) -> Listed
-    ensures { λ r. ⌜ r ≡ listedBy (made .number) (made .count) ⌝ }
+    ensures { λ r. ⌜ r ≡ listAnswer (made .number) (made .count) ⌝ }
 {
     if made.number == 15 {
         return Listed::BadCount;

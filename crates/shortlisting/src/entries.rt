@@ -7,7 +7,7 @@ use shortlist::Search;
 ghost use mathlib.Core.Path.{_≡_};
 ghost use Prim.Native.Nat.{_<_, _≤_};
 ghost use lib.ListN.{length};
-ghost use Rattle.shortlist.specs.Made.{modelAt, filled};
+ghost use Rattle.shortlist.specs.Made.{modelAt, entriesFilled};
 ghost use Rattle.shortlist.specs.Search.{nextOf, folded};
 
 // The i-th run, as a model.
@@ -26,7 +26,7 @@ pub(crate) fn model_at(made: Made, i: usize) -> Model
 // The list, filled entry by entry with the first n runs.
 pub(crate) fn fill(models: &mut [Model], made: Made, n: usize)
     requires { ⌜ (n ≤ length (now models)) × (n ≤ 64) ⌝ }
-    ensures { λ _. ⌜ now (models .exit) ≡ filled n (modelAt made) (now (models .entry)) ⌝ }
+    ensures { λ _. ⌜ now (models .exit) ≡ entriesFilled n (modelAt made) (now (models .entry)) ⌝ }
 {
     let mut i = 0;
     while i < n {

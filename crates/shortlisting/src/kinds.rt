@@ -10,7 +10,7 @@ use record_fields::voxel_record;
 ghost use mathlib.Core.Path.{_≡_};
 ghost use Prim.Native.Nat.{_<_};
 ghost use Rattle.records.specs.Record.{recordOf, locationOf};
-ghost use Rattle.shortlist.specs.Runs.{kindNumber, kindOf};
+ghost use Rattle.shortlist.specs.Runs.{structureKind, kindOf};
 ghost use Rattle.shortlist.specs.Asking.{isRecord};
 
 // Type and structure as one number, of a record: 32 for voxels, and the structure.

@@ -127,7 +127,7 @@ fn choose(test: bool, first: u64, second: u64) -> u64
 // With one entry more.
 fn with_entry(seen: Search, model: Model) -> Search
     requires { ⌜ search.badEntry seen model ≡ false ⌝ }
-    ensures { λ r. ⌜ r ≡ search.taken seen model ⌝ }
+    ensures { λ r. ⌜ r ≡ search.withEntry seen model ⌝ }
 {
     let from = model.first;
     let first = from.0;
@@ -175,7 +175,7 @@ pub fn told(seen: Search) -> Told
 
 // The list is bad, or names more records than there are, or the stretch of the record's own kind does not lie among so many.
 fn is_outside(seen: Search, most: usize) -> bool
-    ensures { λ r. ⌜ r ≡ search.outside seen most ⌝ }
+    ensures { λ r. ⌜ r ≡ search.listOutside seen most ⌝ }
 {
     seen.bad
         | is_past(seen.most, seen.first, seen.count)

@@ -4,7 +4,7 @@ use mathlib.Core.List.{List, [], _∷_, _++_}
 use Prim.Native.Nat.{ℕ, zero, suc, _-_, _≤_, _<_}
 use mathlib.Core.Bool.{Bool, false, _||_}
 use lib.ListN.{length, getD, take, drop}
-use Rattle.grammar.specs.Parser.{same}
+use Rattle.grammar.specs.Parser.{sameBytes}
 
 -- the bytes from a place up to another
 abbrev pub part : ℕ → ℕ → List ℕ → List ℕ
@@ -13,7 +13,7 @@ part a b text = take (b - a) (drop a text)
 -- a word is among others
 unfoldable pub among : List ℕ → List (List ℕ) → Bool
 among w [] = false
-among w (m ∷ l) = same m w || among w l
+among w (m ∷ l) = sameBytes m w || among w l
 
 -- the words at the first n places
 unfoldable pub noted : List ℕ → List ℕ → List ℕ → ℕ → List (List ℕ)

@@ -30,17 +30,17 @@ unfoldable pub noLater : Model → Model → Bool
 noLater m n = leb (m .offset) (n .offset)
 
 -- a model in its place among models by offset, and all models in theirs
-unfoldable pub placed : Model → List Model → List Model
-placed m [] = m ∷ []
-placed m (n ∷ l) = cond (noLater m n) (m ∷ n ∷ l) (n ∷ placed m l)
+unfoldable pub placedByOffset : Model → List Model → List Model
+placedByOffset m [] = m ∷ []
+placedByOffset m (n ∷ l) = cond (noLater m n) (m ∷ n ∷ l) (n ∷ placedByOffset m l)
 
 unfoldable pub byOffset : List Model → List Model
 byOffset [] = []
-byOffset (m ∷ l) = placed m (byOffset l)
+byOffset (m ∷ l) = placedByOffset m (byOffset l)
 
 -- the records of the stretch that the answer tells of a dimension
-abbrev pub stretchOf : Dimension → (records : List ℕ) → List ℕ
-stretchOf told records = take (told .length) (drop (told .start .0) records)
+abbrev pub toldStretch : Dimension → (records : List ℕ) → List ℕ
+toldStretch told records = take (told .length) (drop (told .start .0) records)
 
 -- the one map that lists the dimension: the runs of its stretch are its models by offset, and a list of them is refused, by 17, only where
 -- it has fewer places than there are models
@@ -49,8 +49,8 @@ pub record ListsModels (text records : List ℕ) (dimension : ℕ) (told : Dimen
   pub written : Writes document text
   pub map : Map
   pub one-map : those (mapLists dimension) (mapsOf document) ≡ map ∷ []
-  pub listed : runs (stretchOf told records) ≡ each entryOf (byOffset (map .models))
-  pub made : (room : ℕ) → listRefusal (stretchOf told records) room ≡ first (17 when ltb room (length (map .models)) ∷ [])
+  pub listed : runs (toldStretch told records) ≡ each entryOf (byOffset (map .models))
+  pub made : (room : ℕ) → listRefusal (toldStretch told records) room ≡ first (17 when ltb room (length (map .models)) ∷ [])
 
 -- the stretch of a dimension that the answer tells lists the models of the map
 pub record MapListed (text records : List ℕ) (answer : Answer) (m : Map) : Type 0 where

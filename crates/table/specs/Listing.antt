@@ -23,7 +23,7 @@ pub data AllFit : List Location → Type 0 where
   one-fits : {a : Location} {l : List Location} → Fits a → AllFit l → AllFit (a ∷ l)
 
 -- the list from a place of the text on can be written from `at` on
-pub record Writable (inVoxels : Bool) (structure : ℕ) (text : List ℕ) (start at : ℕ) (out : List ℕ) : Type 0 where
+pub record ListWritable (inVoxels : Bool) (structure : ℕ) (text : List ℕ) (start at : ℕ) (out : List ℕ) : Type 0 where
   pub form : InForm text start
   pub fits : AllFit (located inVoxels structure (valuesAt text start))
   pub room : at + length (recordsListed inVoxels structure (valuesAt text start)) ≤ length out

@@ -7,7 +7,7 @@ use Rattle.lists.specs.Lists.{total}
 use Rattle.nodes.specs.Places.{the}
 use Rattle.cifti.specs.Maps.{Model, modelOf, locations}
 use Rattle.maps.specs.Laws.Fill.{filled}
-use Rattle.maps.specs.Table.{recordsOf}
+use Rattle.maps.specs.Table.{modelRecords}
 use Rattle.models.specs.Held.{Holding, modelsAt}
 use Rattle.models.specs.declared.gather.Models.{Models}
 use Rattle.table.specs.Listing.{AllFit}
@@ -20,10 +20,10 @@ nthModel text m i = modelOf (the text (getD (m .at) i 0))
 pub record Placing (text : List ℕ) (m : Models) (room start : ℕ) : Type 0 where
   pub holding : Holding text m
   pub fits : (i : ℕ) → i < m .count → AllFit (locations (nthModel text m i))
-  pub place : (i : ℕ) → i < m .count → start + (nthModel text m i) .offset + length (recordsOf (nthModel text m i)) ≤ room
+  pub place : (i : ℕ) → i < m .count → start + (nthModel text m i) .offset + length (modelRecords (nthModel text m i)) ≤ room
   pub sum : total (λ b. b .count) (modelsAt text m) ≤ room
 
 -- all are written: so many indices
-pub record Placed (text : List ℕ) (m : Models) (before : List ℕ) (start n : ℕ) (after : List ℕ) : Type 0 where
-  pub written : after ≡ filled recordsOf start (modelsAt text m) before
+pub record ModelsPlaced (text : List ℕ) (m : Models) (before : List ℕ) (start n : ℕ) (after : List ℕ) : Type 0 where
+  pub written : after ≡ filled modelRecords start (modelsAt text m) before
   pub counted : n ≡ total (λ b. b .count) (modelsAt text m)

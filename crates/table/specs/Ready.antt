@@ -16,7 +16,7 @@ abbrev pub mapAt : List ℕ → ℕ → Map
 mapAt text map = mapOf (the text map)
 
 -- the map passes conditions 10, 11 and 12, its models are gathered, and it has room from `start` on
-pub record Ready (text : List ℕ) (map : ℕ) (m : Models) (room start : ℕ) : Type 0 where
+pub record MapReady (text : List ℕ) (map : ℕ) (m : Models) (room start : ℕ) : Type 0 where
   pub brain : BrainAt text map
   pub gathered : Gathered text map m
   pub apart : twoOf alike ((mapAt text map) .models) ≡ false

@@ -17,7 +17,7 @@ use Rattle.maps.specs.declared.survey.Maps.{Maps}
 use Rattle.models.specs.Fine.{Fine}
 use Rattle.models.specs.Judged.{HeldAll}
 use Rattle.models.specs.declared.judge.Judged.{Judged}
-use Rattle.table.specs.Ready.{Ready}
+use Rattle.table.specs.Ready.{MapReady}
 
 -- ---- A key twice.
 

@@ -25,23 +25,23 @@ pub data Over (text name : List ℕ) (from : ℕ) : ℕ → Type 0 where
       → tag-from 0 (drop from text) ≡ tag-from 0 (drop to text) → Over text name from to
 
 -- the attributes of the tag of the element at `at` go on at a place
-pub record Within (text : List ℕ) (at i : ℕ) : Type 0 where
+pub record TagGoesOn (text : List ℕ) (at i : ℕ) : Type 0 where
   pub stands : Stands text at
   pub before : List Key
   pub parts : keys text at ≡ before ++ keysFrom text i
 
 -- where the attribute with the name stands, and a place to which the attributes were passed
-pub record Placed (text : List ℕ) (at i : ℕ) (name : List ℕ) (found : Found) (to : ℕ) : Type 0 where
+pub record AttributePlaced (text : List ℕ) (at i : ℕ) (name : List ℕ) (found : Found) (to : ℕ) : Type 0 where
   pub there : found ≡ place text at name
   pub passed : Over text name i to
 
 -- an attribute of a row is asked for at a place
-pub record Asking (text : List ℕ) (at a i : ℕ) : Type 0 where
+pub record AskingAttribute (text : List ℕ) (at a i : ℕ) : Type 0 where
   pub known : Known text at a
-  pub within : Within text at i
+  pub within : TagGoesOn text at i
 
 -- its fault, and a place to which the attributes were passed
-pub record Asked (t l text : List ℕ) (at a i fault to : ℕ) : Type 0 where
+pub record AttributeAsked (t l text : List ℕ) (at a i fault to : ℕ) : Type 0 where
   pub right : fault ≡ attributeFault t l a (the text at)
   pub passed : Over text (ascii (wordAt t l (attributeCell t a 0))) i to
 
@@ -51,7 +51,7 @@ pub record Begins (text : List ℕ) (at i : ℕ) : Type 0 where
   pub inside : Stands text at → InTag text at i
 
 -- the fault of all attributes of a kind's row, and a place in the tag; those of the tag are all of the row if those from the place on are
-pub record Walked (t l text : List ℕ) (at kind fault i : ℕ) : Type 0 where
+pub record AttributesWalked (t l text : List ℕ) (at kind fault i : ℕ) : Type 0 where
   pub right : fault ≡ attributesFault (attributesOfKind t l kind) (attributesOf (the text at))
   pub named : all (keyListed (attributesOfKind t l kind)) (keys text at) ≡ all (keyListed (attributesOfKind t l kind)) (keysFrom text i)
   pub inside : InTag text at i

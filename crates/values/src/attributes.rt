@@ -16,7 +16,7 @@ ghost use Rattle.schema.specs.Table.{attributesBetween};
 ghost use Rattle.schema.specs.Parts.{nameListed};
 ghost use Rattle.schema.specs.Asked.{Known};
 ghost use Rattle.schema.specs.Walked.{AllListed};
-ghost use Rattle.values.specs.InTurn.{Within, Placed, Asking, Asked, Begins, Walked};
+ghost use Rattle.values.specs.InTurn.{TagGoesOn, AttributePlaced, AskingAttribute, AttributeAsked, Begins, AttributesWalked};
 
 // Where an attribute stands, and a place in the tag.
 struct Sought {
@@ -26,8 +26,8 @@ struct Sought {
 
 // The attribute with the name: it is met at `i`, and passed; or it is searched in the whole tag.
 fn seek(text: &[u8], at: usize, i: usize, name: &[u8]) -> Sought
-    requires { ⌜ Within (now text) at i ⌝ }
-    ensures { λ r. ⌜ Placed (now (text .entry)) at i (now (name .entry)) (r .place) (r .at) ⌝ }
+    requires { ⌜ TagGoesOn (now text) at i ⌝ }
+    ensures { λ r. ⌜ AttributePlaced (now (text .entry)) at i (now (name .entry)) (r .place) (r .at) ⌝ }
 {
     match key_at(text, i) {
         Key::Is { from, to, end } => {
@@ -66,8 +66,8 @@ fn attribute_fault(
     a: usize,
     i: usize,
 ) -> Walk
-    requires { ⌜ Asking (now text) at a i ⌝ }
-    ensures { λ r. ⌜ Asked (now (table .entry)) (now (letters .entry)) (now (text .entry)) at a i (r .fault) (r .at) ⌝ }
+    requires { ⌜ AskingAttribute (now text) at a i ⌝ }
+    ensures { λ r. ⌜ AttributeAsked (now (table .entry)) (now (letters .entry)) (now (text .entry)) at a i (r .fault) (r .at) ⌝ }
 {
     let w = table::attribute_cell(table, a, 0);
     let here = seek(text, at, i, table::word(table, letters, w));
@@ -117,7 +117,7 @@ pub(crate) fn attributes_fault(
     kind: usize,
 ) -> Walk
     requires { ⌜ Known (now text) at kind ⌝ }
-    ensures { λ r. ⌜ Walked (now (table .entry)) (now (letters .entry)) (now (text .entry)) at kind (r .fault) (r .at) ⌝ }
+    ensures { λ r. ⌜ AttributesWalked (now (table .entry)) (now (letters .entry)) (now (text .entry)) at kind (r .fault) (r .at) ⌝ }
 {
     let to = table::kind_cell(table, kind, 1);
     let mut worst = 0;

@@ -4,12 +4,12 @@ ghost use mathlib.Core.Path.{_≡_};
 ghost use Rattle.grammar.specs.Look.{textOf};
 ghost use Rattle.nodes.specs.Places.{the};
 ghost use Rattle.nodes.specs.Texts.{text-of};
-ghost use Rattle.schema.specs.Parts.{keysBy, textNumbered, textFault};
+ghost use Rattle.schema.specs.Parts.{keysByForm, textNumbered, textFault};
 ghost use Rattle.schema.specs.Asked.{Known};
 
 // The text lists keys of a form: as numbers, or as Base64.
 fn keys_by(text: &[u8], at: usize, form: usize) -> bool
-    ensures { λ r. ⌜ r ≡ keysBy form (text-of (now (text .entry)) at) ⌝ }
+    ensures { λ r. ⌜ r ≡ keysByForm form (text-of (now (text .entry)) at) ⌝ }
 {
     if form == 3 {
         return keys::are_keys(text, at);

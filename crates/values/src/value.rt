@@ -6,7 +6,7 @@ ghost use Prim.Native.Nat.{_<_};
 ghost use Rattle.schema.specs.Schema.{isWord, isNumber};
 ghost use Rattle.nodes.specs.Values.{value-there};
 ghost use Rattle.schema.specs.Table.{formAt};
-ghost use Rattle.schema.specs.Parts.{valueFault, numberBy, labelBy};
+ghost use Rattle.schema.specs.Parts.{valueFault, numberBy, labelByForm};
 
 // The value is one of the named words, where its form is one of words.
 fn word_right(text: &[u8], v: usize, table: &[u32], letters: &[u8], form: usize) -> bool
@@ -24,7 +24,7 @@ fn word_right(text: &[u8], v: usize, table: &[u32], letters: &[u8], form: usize)
 
 // The value is a number of a label, of a form.
 fn label_by(text: &[u8], v: usize, form: usize) -> bool
-    ensures { λ r. ⌜ r ≡ labelBy form (value-there (now (text .entry)) v) ⌝ }
+    ensures { λ r. ⌜ r ≡ labelByForm form (value-there (now (text .entry)) v) ⌝ }
 {
     if form == 7 {
         return keys::is_key(text, v);

@@ -8,7 +8,7 @@ ghost use Rattle.cifti.specs.Words.{structures, units, numberIn};
 ghost use Rattle.cifti.specs.Maps.{wordsOfKinds};
 ghost use Rattle.schema.specs.Table.{wordsAt};
 ghost use Rattle.numbered_rows.specs.Table.{table, letters};
-ghost use Rattle.numbered_rows.specs.Checks.{ChecksCifti, ChecksGifti, Answers};
+ghost use Rattle.numbered_rows.specs.Checks.{ChecksCifti, ChecksGifti, TableAnswers};
 
 // The numbers and letters.
 mod table;
@@ -22,7 +22,7 @@ struct Answer {
 // Conditions 3, 6 and 7 of the text, whose root is of a kind, where they are asked for; else the place of the value at `v` among the
 // words of a form of the table, or their number. All are asked here, so that the table is laid out in one place of the compiled library.
 fn asked(text: &[u8], conditions: bool, kind: u32, v: usize, form: u32) -> Answer
-    ensures { λ r. ⌜ Answers (now (text .entry)) conditions kind v form (r .checked) (r .number) ⌝ }
+    ensures { λ r. ⌜ TableAnswers (now (text .entry)) conditions kind v form (r .checked) (r .number) ⌝ }
 {
     let table = table::numbers();
     let letters = table::letters();

@@ -2,7 +2,7 @@
 use elements::children::root_of;
 use markup::well_formed;
 use nodes::Kid;
-ghost use Rattle.schema.specs.Checked.{Checks, ChecksRoot, Written};
+ghost use Rattle.schema.specs.Checked.{Checks, ChecksRoot, DocumentKnown};
 ghost use Prim.Native.Nat.{_<_};
 
 // How often the lines of its children are met.
@@ -13,7 +13,7 @@ mod element;
 pub use schema::Checked;
 
 fn of_document(text: &[u8], table: &[u32], letters: &[u8], kind: usize) -> Checked
-    requires { ⌜ Written (now text) kind ⌝ }
+    requires { ⌜ DocumentKnown (now text) kind ⌝ }
     ensures { λ r. ⌜ ChecksRoot (now (table .entry)) (now (letters .entry)) kind (now (text .entry)) r ⌝ }
 {
     match root_of(text) {

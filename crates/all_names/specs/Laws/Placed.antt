@@ -48,7 +48,7 @@ use Rattle.map_names.specs.Laws.Placed.{placed-name, Fine, fine}
 use Rattle.map_names.specs.Laws.Reached.{NameOf, no-name, a-name, name-of, listed-once}
 use Rattle.survey.specs.Header.{Surveys}
 use Rattle.survey.specs.declared.header.Survey.{Survey}
-use Rattle.all_names.specs.Names.{nameCount, namesRefusal, namesAnswer, placeIn, MapNamesPlaced}
+use Rattle.all_names.specs.Names.{nameCount, namesRefusal, namesAnswer, namePlaceIn, MapNamesPlaced}
 use Rattle.all_names.specs.Walk.{namedIn, startBy, sizeBy, nameIn, pairOf, pairsAt, Counted, numberOn, NamesOn}
 use Rattle.all_names.specs.Laws.Walk.{pairs-at-long}
 use Rattle.all_names.specs.Laws.Maps.{MapOf, no-map, the-map, map-of, Unlisted, Lone, none-lists, names-many, name-below, names-long}
@@ -200,7 +200,7 @@ module _ (text lengths : List ℕ) (d : ℕ) (h : NoneApplies (conditionsOfHeade
 
     -- each pair that is written is the place of its name
     name-placed : (n : ℕ) → n < length (namedIn text k) → (before : List ℕ)
-        → NamePlaced text lengths d n (placeIn (wrote 0 (pairsAt text k) before) n)
+        → NamePlaced text lengths d n (namePlaceIn (wrote 0 (pairsAt text k) before) n)
     unfolding pairsAt startBy sizeBy thence
     name-placed n u before =
         let m = many in
@@ -216,7 +216,7 @@ module _ (text lengths : List ℕ) (d : ℕ) (h : NoneApplies (conditionsOfHeade
         let z : getD (wrote 0 (pairsAt text k) before) (2 * n + 1) 0 ≡ length (between-tags text j) =
         wrote-read (pairsAt text k) before (2 * n + 1) (omega arith) ∙ size-in text (namedIn text k) n u ∙ ap (sizeBy text) is-in in
         placed-name text lengths d n (sym (none-given h))
-        (answered-found text d n (placeIn (wrote 0 (pairsAt text k) before) n) refl refl f refl refl refl s z)
+        (answered-found text d n (namePlaceIn (wrote 0 (pairsAt text k) before) n) refl refl f refl refl refl s z)
 
     placed-found : {c : ℕ} → c ≡ getD lengths d 0 → {before after : List ℕ} {r : Outcome} → NamesOn text k c before r after
         → MapNamesPlaced text lengths d before r after

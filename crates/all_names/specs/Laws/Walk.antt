@@ -67,7 +67,8 @@ pub record Filling (text : List ℕ) (at : ℕ) (start : List ℕ) (n : ℕ) (pl
   pub rest : wrote n (eachIn (pairOf text) (namedFrom text kid)) places ≡ wrote 0 (pairsAt text at) start
 
 module _ {text : List ℕ} {at : ℕ} {start : List ℕ} where
-  pub fill-start : {kid : Kid} → kid ≡ Children.first text at → length (pairsAt text at) ≤ length start → Filling text at start 0 start kid
+  pub fill-start : {kid : Kid} → kid ≡ Children.firstChild text at → length (pairsAt text at) ≤ length start
+      → Filling text at start 0 start kid
   unfolding pairsAt namedIn namedFrom
   fill-start e h = rw e (record { room = omega arith; same-long = refl; rest = refl })
 

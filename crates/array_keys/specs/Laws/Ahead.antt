@@ -22,13 +22,13 @@ use Rattle.nodes.specs.Laws.TextSteps.{saysAt-outside, left-most, text-none, te
 use Rattle.nodes.specs.declared.Found.{Found}
 use Rattle.nodes.specs.declared.Found.the-variants.{At, Nothing}
 use Rattle.numbers.specs.Numbers.{words, key, keyValue, keyList, listedKeys}
-use Rattle.base64.specs.Base64.{unblanked, worth, sixes, three, threeMore, ending, fourValues, decode, bytesIn, coded}
+use Rattle.base64.specs.Base64.{unblanked, worth, sixes, threeBytes, threeMore, fourEnding, fourValues, decode, bytesIn, coded}
 use Rattle.base64.specs.Fours.{Endian, big, little, keysIn, bytesOr, codedKeys, codedBytes}
 use Rattle.base64_reader.specs.Groups.{lettersAt, lowBytes, fourRead, fourAhead, bytesAhead}
 use Rattle.keys.specs.KeyLists as lists
 use Rattle.keys.specs.declared.key_lists.ListedKey.{ListedKey}
 use Rattle.keys.specs.declared.key_lists.ListedKey.the-variants as listed
-use Rattle.array_keys.specs.Ahead.{keysBefore, heldBytes, bytesFrom, codedAhead, keysAhead, spareBytes, keysLeft, startIn}
+use Rattle.array_keys.specs.Ahead.{keysBefore, heldBytes, bytesFrom, codedAhead, keysAhead, spareBytes, keysLeft, keyStartIn}
 use Rattle.array_keys.specs.Ahead.{keysStart, KeyTold, told-key, told-end, encodingIf}
 use Rattle.array_keys.specs.declared.Encoding.{Encoding}
 use Rattle.array_keys.specs.declared.Encoding.the-variants.{Plain, Big, Little}
@@ -40,12 +40,12 @@ use Rattle.array_keys.specs.declared.NextKey.the-variants.{Key, End}
 
 module _ (text : List ℕ) (at : ℕ) {f : Found} (e : f ≡ inside text at) where
   pub start-there : {i : ℕ} → f ≡ At i → {p : KeyPlace} → p ≡ record { at = i; held = 0; bytes = 0 } → p ≡ keysStart text at
-  unfolding keysStart startIn
-  start-there h q = q ∙ sym (ap (startIn text) (sym e ∙ h))
+  unfolding keysStart keyStartIn
+  start-there h q = q ∙ sym (ap (keyStartIn text) (sym e ∙ h))
 
   pub start-nowhere : f ≡ Nothing → {p : KeyPlace} → p ≡ record { at = length text; held = 0; bytes = 0 } → p ≡ keysStart text at
-  unfolding keysStart startIn
-  start-nowhere h q = q ∙ sym (ap (startIn text) (sym e ∙ h))
+  unfolding keysStart keyStartIn
+  start-nowhere h q = q ∙ sym (ap (keyStartIn text) (sym e ∙ h))
 
 pub ruleset starting = (start-there, start-nowhere, needs)
 
@@ -57,18 +57,18 @@ nothing-at-end : (text : List ℕ) → saysAt text (length text) ≡ []
 nothing-at-end text = saysAt-outside text (length text) (omega arith) ∙ ap says (drop-length text) ∙ no-more
 
 start-says : (text : List ℕ) (at : ℕ) → saysAt text (keysStart text at .at) ≡ text-of text at
-unfolding keysStart startIn
+unfolding keysStart keyStartIn
 start-says text at = go (inside text at) refl
   where
-    go : (f : Found) → inside text at ≡ f → saysAt text (startIn text f .at) ≡ text-of text at
+    go : (f : Found) → inside text at ≡ f → saysAt text (keyStartIn text f .at) ≡ text-of text at
     go (At i) e = sym (text-some text at e)
     go Nothing e = nothing-at-end text ∙ sym (text-none text at e)
 
 start-held : (text : List ℕ) (at : ℕ) → heldBytes (keysStart text at) ≡ []
-unfolding keysStart startIn heldBytes lowBytes
+unfolding keysStart keyStartIn heldBytes lowBytes
 start-held text at = go (inside text at)
   where
-    go : (f : Found) → heldBytes (startIn text f) ≡ []
+    go : (f : Found) → heldBytes (keyStartIn text f) ≡ []
     go (At i) = refl
     go Nothing = refl
 
@@ -85,7 +85,7 @@ pub plain-keys : (text : List ℕ) (at : ℕ) → keyList (text-of text at) ≡ 
 unfolding keysAhead keyList listedKeys
 plain-keys text at h = ap (λ w. keysBefore (words w)) (start-says text at) ∙ all-keys (words (text-of text at)) h
 
-module _ {text : List ℕ} {from : KeyPlace} {r : ListedKey} (t : lists.KeyTold text (from .at) r) where
+module _ {text : List ℕ} {from : KeyPlace} {r : ListedKey} (t : lists.ListedKeyTold text (from .at) r) where
   pub plain-key : {z : ℤ} {j : ℕ} → r ≡ listed.Key z j → {p : KeyPlace} → p ≡ record { at = j; held = 0; bytes = 0 }
       → KeyTold Plain text from (Key z p)
   unfolding keysAhead keysBefore keysLeft spareBytes
@@ -106,10 +106,11 @@ pub ruleset plainly = (plain-key, plain-end, plain-bad, needs)
 
 -- ---- Base64.
 
-more-found : (n : ℕ) (m : Option (List ℕ)) (l w : List ℕ) → ((k : List ℕ) → m ≡ some k → l ≡ k) → threeMore n m ≡ some w → three n l ≡ w
+more-found : (n : ℕ) (m : Option (List ℕ)) (l w : List ℕ) → ((k : List ℕ) → m ≡ some k → l ≡ k) → threeMore n m ≡ some w
+    → threeBytes n l ≡ w
 unfolding threeMore
 more-found n Option.none l w ih e = never-some e
-more-found n (some k) l w ih e = let z : three n k ≡ w = cc in ap (three n) (ih k refl) ∙ z
+more-found n (some k) l w ih e = let z : threeBytes n k ≡ w = cc in ap (threeBytes n) (ih k refl) ∙ z
 
 some-or : (m : Option (List ℕ)) (l : List ℕ) → m ≡ some l → bytesOr m ≡ l
 unfolding bytesOr
@@ -120,9 +121,9 @@ four-all : (p q r s : ℕ) (w : Word) (m : Option (List ℕ)) (k l : List ℕ) �
 unfolding fourRead fourAhead
 four-all p q r s w m k l ih e = go (eqb s 65) (fourValues p q r s) e
   where
-    go : (t u : Bool) → cond t (ending p q r w) (cond u (threeMore (sixes p q r s) m) Option.none) ≡ some l
-        → cond t (bytesOr (ending p q r w)) (cond u (three (sixes p q r s) k) []) ≡ l
-    go true u x = some-or (ending p q r w) l x
+    go : (t u : Bool) → cond t (fourEnding p q r w) (cond u (threeMore (sixes p q r s) m) Option.none) ≡ some l
+        → cond t (bytesOr (fourEnding p q r w)) (cond u (threeBytes (sixes p q r s) k) []) ≡ l
+    go true u x = some-or (fourEnding p q r w) l x
     go false true x = more-found (sixes p q r s) m k l ih x
     go false false x = never-some x
 

@@ -16,12 +16,12 @@ use Rattle.nodes.specs.Texts.{left}
 use Rattle.base64.specs.Base64.{decode}
 use Rattle.base64.specs.Fours.{Endian, big, little, inEndian, bits32, twos, keysIn}
 use Rattle.base64.specs.Laws.Fours.{whole-back}
-use Rattle.base64_reader.specs.Groups.{lettersAt, lowBytes, bytesAhead, Taken, Told, GroupTold, Quick}
+use Rattle.base64_reader.specs.Groups.{lettersAt, lowBytes, bytesAhead, BytesTaken, GroupRead, GroupTold, QuickGroup}
 use Rattle.base64_reader.specs.declared.Group.{Group}
 use Rattle.base64_reader.specs.declared.Group.the-variants as groups
 use Rattle.array_keys.specs.Ahead.{heldBytes, bytesFrom, codedAhead, keysAhead, spareBytes, keysLeft, endianIf, encodingIf}
 use Rattle.array_keys.specs.Ahead.{KeyTold, told-key, told-end}
-use Rattle.array_keys.specs.Gathered.{keptBytes, BytesRead, Gathered, keyBy}
+use Rattle.array_keys.specs.Gathered.{keptBytes, BytesRead, BytesGathered, keyBy}
 use Rattle.array_keys.specs.Laws.Low.{low-behind, topOf, top-low}
 use Rattle.array_keys.specs.declared.Encoding.the-variants.{Big, Little}
 use Rattle.array_keys.specs.declared.KeyPlace.{KeyPlace}
@@ -101,7 +101,7 @@ module _ {text : List ℕ} {at₀ held₀ bytes₀ at held bytes : ℕ} (go : Ga
     unfolding bytesFrom
     began = rw (ea, eh, eb) (ap (λ l. l ++ bytesAhead (lettersAt text (from .at))) (kept-bytes from))
 
-    pub gather-done : 4 ≤ bytes → {p : KeyPlace} → p ≡ record { at = at; held = held; bytes = bytes } → Gathered text from p
+    pub gather-done : 4 ≤ bytes → {p : KeyPlace} → p ≡ record { at = at; held = held; bytes = bytes } → BytesGathered text from p
     gather-done h e =
         rw e (record {
           same = began ∙ go .same;
@@ -111,19 +111,19 @@ module _ {text : List ℕ} {at₀ held₀ bytes₀ at held bytes : ℕ} (go : Ga
         })
 
     none-ahead : bytes < 4 → bytesAhead (lettersAt text at) ≡ [] → {p : KeyPlace} → p ≡ record { at = at; held = held; bytes = bytes }
-        → Gathered text from p
+        → BytesGathered text from p
     none-ahead less n e =
         rw e (record { same = began ∙ go .same; few = go .few; ended = λ k. n; fallen = λ k. absurd (omega arith) })
 
     module _ (less : bytes < 4) {g : Group} (t : GroupTold text at g) where
-      pub gather-end : g ≡ groups.End → {p : KeyPlace} → p ≡ record { at = at; held = held; bytes = bytes } → Gathered text from p
+      pub gather-end : g ≡ groups.End → {p : KeyPlace} → p ≡ record { at = at; held = held; bytes = bytes } → BytesGathered text from p
       gather-end q e = none-ahead less (t .on-end q .1) e
 
-      pub gather-bad : g ≡ groups.Bad → {p : KeyPlace} → p ≡ record { at = at; held = held; bytes = bytes } → Gathered text from p
+      pub gather-bad : g ≡ groups.Bad → {p : KeyPlace} → p ≡ record { at = at; held = held; bytes = bytes } → BytesGathered text from p
       gather-bad q e = none-ahead less (t .on-bad q .1) e
 
   module _ (less : bytes < 4) {g : Group} (t : GroupTold text at g) {v n j : ℕ} (q : g ≡ groups.Bytes v n j) where
-    taken : Taken text (decode (lettersAt text at)) (bytesAhead (lettersAt text at)) (left text at) v n j
+    taken : BytesTaken text (decode (lettersAt text at)) (bytesAhead (lettersAt text at)) (left text at) v n j
     taken = t .on-bytes q
 
     pub gather-read : BytesRead v n
@@ -149,7 +149,7 @@ module _ {text : List ℕ} {at₀ held₀ bytes₀ at held bytes : ℕ} (go : Ga
           fallen = λ _. omega (arith, go .further, b .less);
         }
 
-  module _ (less : bytes < 4) {n : ℕ} (k : Quick text at n) (h : n < 16777216) where
+  module _ (less : bytes < 4) {n : ℕ} (k : QuickGroup text at n) (h : n < 16777216) where
     pub gather-quick-held : held % 16777216 * 16777216 + n < 2 ^ 64
     gather-quick-held = omega arith
 
@@ -274,7 +274,7 @@ unfolding lowBytes
 low-many zero h = refl
 low-many (suc n) h = let k = low-many n h in omega arith
 
-module _ {text : List ℕ} {from found : KeyPlace} (g : Gathered text from found) where
+module _ {text : List ℕ} {from found : KeyPlace} (g : BytesGathered text from found) where
   module _ (h : found .bytes < 4) where
     none : bytesFrom text from ≡ lowBytes (found .bytes) (found .held)
     none =

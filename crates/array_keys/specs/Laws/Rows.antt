@@ -16,9 +16,9 @@ use borrow.Author.Tests.{le-leb, lt-leb, leb-true, leb-false, not-true, not-fals
 use Rattle.lists.specs.Laws.Booleans.{or-left, or-right, both-ways}
 use Rattle.nodes.specs.Texts.{left}
 use Rattle.base64.specs.Fours.{big, little, keysIn}
-use Rattle.base64_reader.specs.Groups.{lowBytes, Quick}
+use Rattle.base64_reader.specs.Groups.{lowBytes, QuickGroup}
 use Rattle.array_keys.specs.Ahead.{heldBytes, bytesFrom, codedAhead, keysAhead, spareBytes, keysLeft, encodingIf, KeyTold}
-use Rattle.array_keys.specs.Gathered.{keptBytes, Gathered, keyBy}
+use Rattle.array_keys.specs.Gathered.{keptBytes, BytesGathered, keyBy}
 use Rattle.array_keys.specs.Rows.{RowTold, Run, bareAt, FourBits, withThree, ThreeTold}
 use Rattle.array_keys.specs.Laws.Ahead.{Handed, key-law, end-law}
 use Rattle.array_keys.specs.Laws.Gathered.{gather-start, gather-quick, gather-done, next-key}
@@ -108,7 +108,7 @@ module _ (t : Bool) {text : List ℕ} where
   handed : {p q : KeyPlace} {z : ℤ} → KeyTold (encodingIf t) text p (Key z q) → Handed (encodingIf t) text p z q
   handed k = key-law k refl
 
-  hand-none : {i a b : ℕ} → Quick text i a → a < 16777216 → Quick text (i + 4) b → b < 16777216
+  hand-none : {i a b : ℕ} → QuickGroup text i a → a < 16777216 → QuickGroup text (i + 4) b → b < 16777216
       → Handed (encodingIf t) text (bareAt i) (keyBy t (a * 256 + b / 65536))
       (record { at = i + 4 + 4; held = a * 16777216 + b; bytes = 2 })
   unfolding keptBytes
@@ -120,13 +120,13 @@ module _ (t : Bool) {text : List ℕ} where
       let one = gather-quick (gather-start {text = text} from {at = i} {held = 0} {n = 0} refl) none-held ka ha in
       let two = gather-quick one three-held kb hb in
       let e : (0 % 16777216 * 16777216 + a) % 16777216 * 16777216 + b ≡ a * 16777216 + b = omega arith in
-      let g : Gathered text from (record { at = i + 4 + 4; held = a * 16777216 + b; bytes = 6 })
-      = subst (λ (h : ℕ). Gathered text from (record { at = i + 4 + 4; held = h; bytes = 6 })) e
+      let g : BytesGathered text from (record { at = i + 4 + 4; held = a * 16777216 + b; bytes = 6 })
+      = subst (λ (h : ℕ). BytesGathered text from (record { at = i + 4 + 4; held = h; bytes = 6 })) e
       (gather-done two from refl refl refl six-held refl) in
       let n : a * 256 + b / 65536 ≡ (a * 16777216 + b) / 256 ^ 2 % 4294967296 = omega arith in
       handed (next-key g six-held n t refl refl)
 
-  hand-two : {i h c : ℕ} → Quick text i c → c < 16777216
+  hand-two : {i h c : ℕ} → QuickGroup text i c → c < 16777216
       → Handed (encodingIf t) text (record { at = i; held = h; bytes = 2 }) (keyBy t (h % 65536 * 65536 + c / 256))
       (record { at = i + 4; held = h % 16777216 * 16777216 + c; bytes = 1 })
   unfolding keptBytes
@@ -135,12 +135,12 @@ module _ (t : Bool) {text : List ℕ} where
       let two-held : 2 < 4 = omega arith in
       let five-held : 4 ≤ 5 = omega arith in
       let one = gather-quick (gather-start {text = text} from {at = i} {held = h} {n = 2} refl) two-held kc hc in
-      let g : Gathered text from (record { at = i + 4; held = h % 16777216 * 16777216 + c; bytes = 5 })
+      let g : BytesGathered text from (record { at = i + 4; held = h % 16777216 * 16777216 + c; bytes = 5 })
       = gather-done one from refl refl refl five-held refl in
       let n : h % 65536 * 65536 + c / 256 ≡ (h % 16777216 * 16777216 + c) / 256 ^ 1 % 4294967296 = omega arith in
       handed (next-key g five-held n t refl refl)
 
-  hand-one : {i h d : ℕ} → Quick text i d → d < 16777216
+  hand-one : {i h d : ℕ} → QuickGroup text i d → d < 16777216
       → Handed (encodingIf t) text (record { at = i; held = h; bytes = 1 }) (keyBy t (h % 256 * 16777216 + d))
       (record { at = i + 4; held = h % 16777216 * 16777216 + d; bytes = 0 })
   unfolding keptBytes
@@ -149,7 +149,7 @@ module _ (t : Bool) {text : List ℕ} where
       let one-held : 1 < 4 = omega arith in
       let four-held : 4 ≤ 4 = omega arith in
       let one = gather-quick (gather-start {text = text} from {at = i} {held = h} {n = 1} refl) one-held kd hd in
-      let g : Gathered text from (record { at = i + 4; held = h % 16777216 * 16777216 + d; bytes = 4 })
+      let g : BytesGathered text from (record { at = i + 4; held = h % 16777216 * 16777216 + d; bytes = 4 })
       = gather-done one from refl refl refl four-held refl in
       let n : h % 256 * 16777216 + d ≡ (h % 16777216 * 16777216 + d) / 256 ^ 0 % 4294967296 = omega arith in
       handed (next-key g four-held n t refl refl)
@@ -169,13 +169,13 @@ module _ (n : ℕ) (s : List ℤ) (h : n + 3 ≤ length s) (x y : ℤ) where
   pub three-third : n + 2 < length (set (set s n x) (n + 1) y)
   three-third = let l = length-set s n x in let k = length-set (set s n x) (n + 1) y in omega arith
 
-module _ (t : Bool) {text : List ℕ} {i a b c d : ℕ} (f : FourBits a b c d) (ka : Quick text i a) (kb : Quick text (i + 4) b)
-    (kc : Quick text (i + 8) c) (kd : Quick text (i + 12) d) where
-  third-there : Quick text (i + 4 + 4) c
-  third-there = let e : i + 8 ≡ i + 4 + 4 = omega arith in subst (λ (k : ℕ). Quick text k c) e kc
+module _ (t : Bool) {text : List ℕ} {i a b c d : ℕ} (f : FourBits a b c d) (ka : QuickGroup text i a) (kb : QuickGroup text (i + 4) b)
+    (kc : QuickGroup text (i + 8) c) (kd : QuickGroup text (i + 12) d) where
+  third-there : QuickGroup text (i + 4 + 4) c
+  third-there = let e : i + 8 ≡ i + 4 + 4 = omega arith in subst (λ (k : ℕ). QuickGroup text k c) e kc
 
-  fourth-there : Quick text (i + 4 + 4 + 4) d
-  fourth-there = let e : i + 12 ≡ i + 4 + 4 + 4 = omega arith in subst (λ (k : ℕ). Quick text k d) e kd
+  fourth-there : QuickGroup text (i + 4 + 4 + 4) d
+  fourth-there = let e : i + 12 ≡ i + 4 + 4 + 4 = omega arith in subst (λ (k : ℕ). QuickGroup text k d) e kd
 
   held₁ : ℕ
   held₁ = a * 16777216 + b
@@ -261,8 +261,8 @@ four-bits {a} {b} {c} {d} h =
 pub three-none : (t : Bool) (text : List ℕ) (i n : ℕ) (s : List ℤ) → ThreeTold t text i n s false s
 three-none t text i n s = record { inside = λ h. both-ways h refl; run = λ h. both-ways h refl; none = λ _. refl }
 
-module _ (t : Bool) {text : List ℕ} {i n : ℕ} {s : List ℤ} {a b c d : ℕ} (ka : Quick text i a) (kb : Quick text (i + 4) b)
-    (kc : Quick text (i + 8) c) (kd : Quick text (i + 12) d) where
+module _ (t : Bool) {text : List ℕ} {i n : ℕ} {s : List ℤ} {a b c d : ℕ} (ka : QuickGroup text i a) (kb : QuickGroup text (i + 4) b)
+    (kc : QuickGroup text (i + 8) c) (kd : QuickGroup text (i + 12) d) where
   pub three-some : (leb 16777216 a || (leb 16777216 b || (leb 16777216 c || leb 16777216 d))) ≡ false → n + 3 ≤ length s → {s₁ : List ℤ}
       → s₁ ≡ withThree t a b c d n s → ThreeTold t text i n s true s₁
   three-some h r e =

@@ -13,8 +13,9 @@ use Rattle.lists.specs.Lists.{those}
 use Rattle.lists.specs.Laws.Booleans.{and-halves, never-some}
 use Rattle.grammar.specs.Bytes.{blank}
 use Rattle.grammar.specs.Look.{Word}
-use Rattle.base64.specs.Base64.{letterOf, bits, first, second, third, fourth, encode, unblanked}
-use Rattle.base64.specs.Base64.{worth, isValue, sixes, three, threeMore, oneByte, twoBytes, ending, fourValues, decode, bytesIn}
+use Rattle.base64.specs.Base64.{letterOf, bitsOfThree, firstLetter, secondLetter, thirdLetter, fourthLetter, encode, unblanked}
+use Rattle.base64.specs.Base64.{worth, isValue, sixes, threeBytes, threeMore, oneByte, twoBytes, fourEnding, fourValues, decode}
+use Rattle.base64.specs.Base64.{bytesIn}
 use Rattle.base64.specs.Laws.Letters.{worth-letter, letter-worth, pads, pad, no-pad, is-value, value-below, letter-kept}
 
 pub data Bytes : List ℕ → Type 0 where
@@ -24,20 +25,20 @@ pub data Bytes : List ℕ → Type 0 where
 -- ---- What was written is found: so no two lists of bytes are written alike.
 
 module _ (n : ℕ) (h : n < 16777216) where
-  first-worth : worth (first n) ≡ n / 262144
-  unfolding first
+  first-worth : worth (firstLetter n) ≡ n / 262144
+  unfolding firstLetter
   first-worth = worth-letter (n / 262144) (omega arith)
 
-  second-worth : worth (second n) ≡ n / 4096 % 64
-  unfolding second
+  second-worth : worth (secondLetter n) ≡ n / 4096 % 64
+  unfolding secondLetter
   second-worth = worth-letter (n / 4096 % 64) (omega arith)
 
-  third-worth : worth (third n) ≡ n / 64 % 64
-  unfolding third
+  third-worth : worth (thirdLetter n) ≡ n / 64 % 64
+  unfolding thirdLetter
   third-worth = worth-letter (n / 64 % 64) (omega arith)
 
-  fourth-worth : worth (fourth n) ≡ n % 64
-  unfolding fourth
+  fourth-worth : worth (fourthLetter n) ≡ n % 64
+  unfolding fourthLetter
   fourth-worth = worth-letter (n % 64) (omega arith)
 
   whole-again : sixes (n / 262144) (n / 4096 % 64) (n / 64 % 64) (n % 64) ≡ n
@@ -61,12 +62,12 @@ module _ (n : ℕ) (h : n < 16777216) where
     is-value (n % 64) (omega arith),
   ) refl
 
-  four-read : (w : Word) → decode (first n ∷ second n ∷ third n ∷ fourth n ∷ w) ≡ threeMore n (decode w)
+  four-read : (w : Word) → decode (firstLetter n ∷ secondLetter n ∷ thirdLetter n ∷ fourthLetter n ∷ w) ≡ threeMore n (decode w)
   unfolding decode
   four-read w = rw (first-worth, second-worth, third-worth, fourth-worth, no-pad (n % 64) (omega arith), values, whole-again)
 
-  one-read : n % 65536 ≡ 0 → decode (first n ∷ second n ∷ 61 ∷ 61 ∷ []) ≡ some ((n / 65536) ∷ [])
-  unfolding decode ending oneByte
+  one-read : n % 65536 ≡ 0 → decode (firstLetter n ∷ secondLetter n ∷ 61 ∷ 61 ∷ []) ≡ some ((n / 65536) ∷ [])
+  unfolding decode fourEnding oneByte
   one-read e =
       rw (
         first-worth,
@@ -78,8 +79,8 @@ module _ (n : ℕ) (h : n < 16777216) where
         eq-eqb (n % 65536) 0 e,
       )
 
-  two-read : n % 256 ≡ 0 → decode (first n ∷ second n ∷ third n ∷ 61 ∷ []) ≡ some ((n / 65536) ∷ (n / 256 % 256) ∷ [])
-  unfolding decode ending twoBytes
+  two-read : n % 256 ≡ 0 → decode (firstLetter n ∷ secondLetter n ∷ thirdLetter n ∷ 61 ∷ []) ≡ some ((n / 65536) ∷ (n / 256 % 256) ∷ [])
+  unfolding decode fourEnding twoBytes
   two-read e =
       rw (
         first-worth,
@@ -99,32 +100,32 @@ unfolding decode
 empty = refl
 
 module _ (a b c : ℕ) (g : a < 256) (h : b < 256) (k : c < 256) where
-  in-24 : bits a b c < 16777216
-  unfolding bits
+  in-24 : bitsOfThree a b c < 16777216
+  unfolding bitsOfThree
   in-24 = omega arith
 
-  a-back : bits a b c / 65536 ≡ a
-  unfolding bits
+  a-back : bitsOfThree a b c / 65536 ≡ a
+  unfolding bitsOfThree
   a-back = omega arith
 
-  b-back : bits a b c / 256 % 256 ≡ b
-  unfolding bits
+  b-back : bitsOfThree a b c / 256 % 256 ≡ b
+  unfolding bitsOfThree
   b-back = omega arith
 
-  c-back : bits a b c % 256 ≡ c
-  unfolding bits
+  c-back : bitsOfThree a b c % 256 ≡ c
+  unfolding bitsOfThree
   c-back = omega arith
 
-  three-back : (l : List ℕ) → three (bits a b c) l ≡ a ∷ b ∷ c ∷ l
-  unfolding three
+  three-back : (l : List ℕ) → threeBytes (bitsOfThree a b c) l ≡ a ∷ b ∷ c ∷ l
+  unfolding threeBytes
   three-back l = rw (a-back, b-back, c-back)
 
-spare-16 : (a : ℕ) → bits a 0 0 % 65536 ≡ 0
-unfolding bits
+spare-16 : (a : ℕ) → bitsOfThree a 0 0 % 65536 ≡ 0
+unfolding bitsOfThree
 spare-16 a = omega arith
 
-spare-8 : (a b : ℕ) → bits a b 0 % 256 ≡ 0
-unfolding bits
+spare-8 : (a b : ℕ) → bitsOfThree a b 0 % 256 ≡ 0
+unfolding bitsOfThree
 spare-8 a b = omega arith
 
 null : 0 < 256
@@ -134,11 +135,11 @@ pub written-read : (l : List ℕ) → Bytes l → decode (encode l) ≡ some l
 unfolding encode threeMore
 written-read [] none = empty
 written-read (a ∷ []) (more g none) =
-    one-read (bits a 0 0) (in-24 a 0 0 g null null) (spare-16 a) ∙ ap (λ x. some (x ∷ [])) (a-back a 0 0 g null null)
+    one-read (bitsOfThree a 0 0) (in-24 a 0 0 g null null) (spare-16 a) ∙ ap (λ x. some (x ∷ [])) (a-back a 0 0 g null null)
 written-read (a ∷ b ∷ []) (more g (more h none)) =
-    two-read (bits a b 0) (in-24 a b 0 g h null) (spare-8 a b) ∙ rw (a-back a b 0 g h null, b-back a b 0 g h null)
+    two-read (bitsOfThree a b 0) (in-24 a b 0 g h null) (spare-8 a b) ∙ rw (a-back a b 0 g h null, b-back a b 0 g h null)
 written-read (a ∷ b ∷ c ∷ l) (more g (more h (more k t))) =
-    four-read (bits a b c) (in-24 a b c g h k) (encode l) ∙ ap (threeMore (bits a b c)) (written-read l t)
+    four-read (bitsOfThree a b c) (in-24 a b c g h k) (encode l) ∙ ap (threeMore (bitsOfThree a b c)) (written-read l t)
     ∙ ap some (three-back a b c g h k l)
 
 -- ---- What is found was written so.
@@ -148,32 +149,32 @@ module _ (p q r s : ℕ) (e : p < 64) (f : q < 64) (g : r < 64) (h : s < 64) whe
   unfolding sixes
   in-24-of = omega arith
 
-  first-of : first (sixes p q r s) ≡ letterOf p
-  unfolding first sixes
+  first-of : firstLetter (sixes p q r s) ≡ letterOf p
+  unfolding firstLetter sixes
   first-of = let z : (p * 262144 + q * 4096 + r * 64 + s) / 262144 ≡ p = omega arith in ap letterOf z
 
-  second-of : second (sixes p q r s) ≡ letterOf q
-  unfolding second sixes
+  second-of : secondLetter (sixes p q r s) ≡ letterOf q
+  unfolding secondLetter sixes
   second-of = let z : (p * 262144 + q * 4096 + r * 64 + s) / 4096 % 64 ≡ q = omega arith in ap letterOf z
 
-  third-of : third (sixes p q r s) ≡ letterOf r
-  unfolding third sixes
+  third-of : thirdLetter (sixes p q r s) ≡ letterOf r
+  unfolding thirdLetter sixes
   third-of = let z : (p * 262144 + q * 4096 + r * 64 + s) / 64 % 64 ≡ r = omega arith in ap letterOf z
 
-  fourth-of : fourth (sixes p q r s) ≡ letterOf s
-  unfolding fourth sixes
+  fourth-of : fourthLetter (sixes p q r s) ≡ letterOf s
+  unfolding fourthLetter sixes
   fourth-of = let z : (p * 262144 + q * 4096 + r * 64 + s) % 64 ≡ s = omega arith in ap letterOf z
 
-bits-of : (n : ℕ) → bits (n / 65536) (n / 256 % 256) (n % 256) ≡ n
-unfolding bits
+bits-of : (n : ℕ) → bitsOfThree (n / 65536) (n / 256 % 256) (n % 256) ≡ n
+unfolding bitsOfThree
 bits-of n = omega arith
 
-bits-one : (n : ℕ) → n % 65536 ≡ 0 → bits (n / 65536) 0 0 ≡ n
-unfolding bits
+bits-one : (n : ℕ) → n % 65536 ≡ 0 → bitsOfThree (n / 65536) 0 0 ≡ n
+unfolding bitsOfThree
 bits-one n e = omega arith
 
-bits-two : (n : ℕ) → n % 256 ≡ 0 → bits (n / 65536) (n / 256 % 256) 0 ≡ n
-unfolding bits
+bits-two : (n : ℕ) → n % 256 ≡ 0 → bitsOfThree (n / 65536) (n / 256 % 256) 0 ≡ n
+unfolding bitsOfThree
 bits-two n e = omega arith
 
 -- the word is what the bytes are written as
@@ -246,8 +247,8 @@ module _ (a b : ℕ) (va : isValue (worth a) ≡ true) (vb : isValue (worth b) �
       pd = value-below (worth d) vd
 
       four-written : (n : ℕ) (w l : List ℕ) → n ≡ sixes (worth a) (worth b) (worth c) (worth d) → Written w l
-          → Written (a ∷ b ∷ c ∷ d ∷ w) (three n l)
-      unfolding encode three
+          → Written (a ∷ b ∷ c ∷ d ∷ w) (threeBytes n l)
+      unfolding encode threeBytes
       four-written n w l x t =
           let small : n < 16777216 = rw x (in-24-of (worth a) (worth b) (worth c) (worth d) pa pb pc pd) in
           record {
@@ -298,8 +299,8 @@ module _ (a b c d : ℕ) where
       go true k q = rw (ed, sym (some-is q)) (two-written a b va vb c vc n refl (eqb-true _ 0 k))
       go false k q = never-some q
 
-  end-written : (w l : List ℕ) → d ≡ 61 → ending (worth a) (worth b) (worth c) w ≡ some l → Written (a ∷ b ∷ c ∷ d ∷ w) l
-  unfolding ending
+  end-written : (w l : List ℕ) → d ≡ 61 → fourEnding (worth a) (worth b) (worth c) w ≡ some l → Written (a ∷ b ∷ c ∷ d ∷ w) l
+  unfolding fourEnding
   end-written [] l ed e = go (isValue (worth a) && isValue (worth b)) refl (eqb (worth c) 65) refl (isValue (worth c)) refl e
     where
       go : (t : Bool) → (isValue (worth a) && isValue (worth b)) ≡ t → (u : Bool) → eqb (worth c) 65 ≡ u → (v : Bool)
@@ -328,7 +329,7 @@ module _ (a b c d : ℕ) where
   step-written w l ih e = go (eqb (worth d) 65) refl (fourValues (worth a) (worth b) (worth c) (worth d)) refl e
     where
       go : (t : Bool) → eqb (worth d) 65 ≡ t → (u : Bool) → fourValues (worth a) (worth b) (worth c) (worth d) ≡ u
-          → cond t (ending (worth a) (worth b) (worth c) w)
+          → cond t (fourEnding (worth a) (worth b) (worth c) w)
           (cond u (threeMore (sixes (worth a) (worth b) (worth c) (worth d)) (decode w)) Option.none) ≡ some l
           → Written (a ∷ b ∷ c ∷ d ∷ w) l
       go true x u y q = end-written w l (pads d x) q
@@ -358,25 +359,25 @@ unambiguous l m h k e = some-is (sym (written-read l h) ∙ ap decode e ∙ writ
 
 -- What is written has no blanks.
 pub encode-unblanked : (l : List ℕ) → Bytes l → unblanked (encode l) ≡ encode l
-unfolding encode unblanked those blank first second third fourth
+unfolding encode unblanked those blank firstLetter secondLetter thirdLetter fourthLetter
 encode-unblanked [] none = refl
 encode-unblanked (a ∷ []) (more g none) =
     let n = in-24 a 0 0 g null null in
-    rw (letter-kept (bits a 0 0 / 262144) (omega arith), letter-kept (bits a 0 0 / 4096 % 64) (omega arith)) refl
+    rw (letter-kept (bitsOfThree a 0 0 / 262144) (omega arith), letter-kept (bitsOfThree a 0 0 / 4096 % 64) (omega arith)) refl
 encode-unblanked (a ∷ b ∷ []) (more g (more h none)) =
     let n = in-24 a b 0 g h null in
     rw (
-      letter-kept (bits a b 0 / 262144) (omega arith),
-      letter-kept (bits a b 0 / 4096 % 64) (omega arith),
-      letter-kept (bits a b 0 / 64 % 64) (omega arith),
+      letter-kept (bitsOfThree a b 0 / 262144) (omega arith),
+      letter-kept (bitsOfThree a b 0 / 4096 % 64) (omega arith),
+      letter-kept (bitsOfThree a b 0 / 64 % 64) (omega arith),
     ) refl
 encode-unblanked (a ∷ b ∷ c ∷ l) (more g (more h (more k t))) =
     let n = in-24 a b c g h k in
     rw (
-      letter-kept (bits a b c / 262144) (omega arith),
-      letter-kept (bits a b c / 4096 % 64) (omega arith),
-      letter-kept (bits a b c / 64 % 64) (omega arith),
-      letter-kept (bits a b c % 64) (omega arith),
+      letter-kept (bitsOfThree a b c / 262144) (omega arith),
+      letter-kept (bitsOfThree a b c / 4096 % 64) (omega arith),
+      letter-kept (bitsOfThree a b c / 64 % 64) (omega arith),
+      letter-kept (bitsOfThree a b c % 64) (omega arith),
       encode-unblanked l t,
     ) refl
 

@@ -14,7 +14,7 @@ use Rattle.numbers.specs.Numbers.{inKeys}
 use Rattle.numbers.specs.Laws.Keys.{above-in, below-in}
 use Rattle.base64.specs.Base64.{encode, bytesIn}
 use Rattle.base64.specs.Fours.{Endian, big, little, inEndian, bits32, twos, keysIn, bytesOr, codedKeys, codedBytes}
-use Rattle.base64.specs.Fours.{bitsOfKey, four, bytesOf, keyBytes}
+use Rattle.base64.specs.Fours.{bitsOfKey, fourBytes, bytesOfKey, keyBytes}
 use Rattle.base64.specs.Laws.Base64.{Bytes, none, more, written-found}
 
 -- the 32 bits of a key, and the key of them
@@ -40,8 +40,8 @@ whole-back n = digits-back n (n / 256) (n / 65536) (n / 16777216) (omega arith) 
         → c * 16777216 + b % 256 * 65536 + a % 256 * 256 + n % 256 ≡ n
     digits-back n a b c e f g = omega arith
 
-one-back : (e : Endian) (z : ℤ) (l : List ℕ) → inKeys z ≡ true → keysIn e (bytesOf e z ++ l) ≡ z ∷ keysIn e l
-unfolding keysIn bytesOf inEndian four
+one-back : (e : Endian) (z : ℤ) (l : List ℕ) → inKeys z ≡ true → keysIn e (bytesOfKey e z ++ l) ≡ z ∷ keysIn e l
+unfolding keysIn bytesOfKey inEndian fourBytes
 one-back big z l h = ap (λ k. k ∷ keysIn big l) (ap twos (whole-back (bitsOfKey z)) ∙ bits-back z h)
 one-back little z l h = ap (λ k. k ∷ keysIn little l) (ap twos (whole-back (bitsOfKey z)) ∙ bits-back z h)
 
@@ -51,11 +51,11 @@ unfolding keysIn keyBytes eachIn all
 fours-back e [] h = refl
 fours-back e (z ∷ l) h =
     let (k, m) = and-halves (inKeys z) (all inKeys l) h in
-    one-back e z (eachIn (bytesOf e) l) k ∙ ap (λ x. z ∷ x) (fours-back e l m)
+    one-back e z (eachIn (bytesOfKey e) l) k ∙ ap (λ x. z ∷ x) (fours-back e l m)
 
 before : (e : Endian) (n : ℕ) {l : List ℕ} → n < 4294967296 → Bytes l
-    → Bytes (inEndian e four (n / 16777216) (n / 65536 % 256) (n / 256 % 256) (n % 256) ++ l)
-unfolding inEndian four
+    → Bytes (inEndian e fourBytes (n / 16777216) (n / 65536 % 256) (n / 256 % 256) (n % 256) ++ l)
+unfolding inEndian fourBytes
 before e n {l = l} h t =
     let p : n / 16777216 < 256 = omega arith in
     let q : n / 65536 % 256 < 256 = omega arith in
@@ -63,12 +63,12 @@ before e n {l = l} h t =
     let s : n % 256 < 256 = omega arith in
     by e p q r s
   where
-    by : (e : Endian) {a b c d : ℕ} → a < 256 → b < 256 → c < 256 → d < 256 → Bytes (inEndian e four a b c d ++ l)
+    by : (e : Endian) {a b c d : ℕ} → a < 256 → b < 256 → c < 256 → d < 256 → Bytes (inEndian e fourBytes a b c d ++ l)
     by big p q r s = more p (more q (more r (more s t)))
     by little p q r s = more s (more r (more q (more p t)))
 
 key-bytes : (e : Endian) (l : List ℤ) → all inKeys l ≡ true → Bytes (keyBytes e l)
-unfolding keyBytes eachIn all bytesOf
+unfolding keyBytes eachIn all bytesOfKey
 key-bytes e [] h = none
 key-bytes e (z ∷ l) h =
     let (k, m) = and-halves (inKeys z) (all inKeys l) h in

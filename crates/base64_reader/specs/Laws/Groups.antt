@@ -14,11 +14,11 @@ use Rattle.grammar.specs.Look.{Word}
 use Rattle.nodes.specs.Texts.{saysAt, left}
 use Rattle.nodes.specs.declared.Char.{Char}
 use Rattle.nodes.specs.declared.Char.the-variants as chars
-use Rattle.base64.specs.Base64.{worth, isValue, sixes, three, threeMore, oneByte, twoBytes, ending, fourValues, decode}
+use Rattle.base64.specs.Base64.{worth, isValue, sixes, threeBytes, threeMore, oneByte, twoBytes, fourEnding, fourValues, decode}
 use Rattle.base64.specs.Fours.{bytesOr}
 use Rattle.base64.specs.Laws.Letters.{value-below, is-value as a-value}
 use Rattle.base64_reader.specs.Groups.{lettersAt, Letter, LetterTold, lowBytes, prefixed, bitsOf, fourRead, fourAhead, bytesAhead}
-use Rattle.base64_reader.specs.Groups.{Taken, Told, GroupTold, FourTold, Lasts, LastTold}
+use Rattle.base64_reader.specs.Groups.{BytesTaken, GroupRead, GroupTold, FourTold, Lasts, LastTold}
 use Rattle.base64_reader.specs.declared.Group.{Group}
 use Rattle.base64_reader.specs.declared.Group.the-variants.{Bytes, End, Bad}
 
@@ -75,28 +75,28 @@ unfolding isValue
 no-value v h = le-ltb v 64 h
 
 module _ (p q r at : ℕ) where
-  pub last-first : 64 ≤ p → LastTold (ending p q r []) at Bad
-  unfolding ending
+  pub last-first : 64 ≤ p → LastTold (fourEnding p q r []) at Bad
+  unfolding fourEnding
   last-first h = last-bad (rw (no-value p h) refl)
 
-  pub last-second : 64 ≤ q → LastTold (ending p q r []) at Bad
-  unfolding ending
+  pub last-second : 64 ≤ q → LastTold (fourEnding p q r []) at Bad
+  unfolding fourEnding
   last-second h = last-bad (rw (no-value q h, and-false (isValue p)) refl)
 
   module _ (hp : p < 64) (hq : q < 64) where
-    pub last-one : r ≡ 65 → {g : Group} → LastTold (oneByte (p * 262144 + q * 4096)) at g → LastTold (ending p q r []) at g
-    unfolding ending sixes
+    pub last-one : r ≡ 65 → {g : Group} → LastTold (oneByte (p * 262144 + q * 4096)) at g → LastTold (fourEnding p q r []) at g
+    unfolding fourEnding sixes
     last-one h t =
         let z : p * 262144 + q * 4096 + 0 * 64 + 0 ≡ p * 262144 + q * 4096 = omega arith in
         rw (a-value p hp, a-value q hq, eq-eqb r 65 h, z) t
 
     module _ (n : r ≡ 65 → ⊥) where
-      pub last-third : 64 ≤ r → LastTold (ending p q r []) at Bad
-      unfolding ending
+      pub last-third : 64 ≤ r → LastTold (fourEnding p q r []) at Bad
+      unfolding fourEnding
       last-third h = last-bad (rw (a-value p hp, a-value q hq, ne-eqb r 65 n, no-value r h) refl)
 
-      pub last-two : r < 64 → {g : Group} → LastTold (twoBytes (p * 262144 + q * 4096 + r * 64)) at g → LastTold (ending p q r []) at g
-      unfolding ending sixes
+      pub last-two : r < 64 → {g : Group} → LastTold (twoBytes (p * 262144 + q * 4096 + r * 64)) at g → LastTold (fourEnding p q r []) at g
+      unfolding fourEnding sixes
       last-two h t =
           let z : p * 262144 + q * 4096 + r * 64 + 0 ≡ p * 262144 + q * 4096 + r * 64 = omega arith in
           rw (a-value p hp, a-value q hq, ne-eqb r 65 n, a-value r h, z) t
@@ -105,8 +105,8 @@ pub ruleset lasting = (last-first, last-second, last-one, last-third, last-two, 
 
 -- ---- Four letters.
 
-pub told-bytes : {text : List ℕ} {whole : Option (List ℕ)} {ahead : List ℕ} {most v n j : ℕ} → Taken text whole ahead most v n j
-    → Told text whole ahead most (Bytes v n j)
+pub told-bytes : {text : List ℕ} {whole : Option (List ℕ)} {ahead : List ℕ} {most v n j : ℕ} → BytesTaken text whole ahead most v n j
+    → GroupRead text whole ahead most (Bytes v n j)
 told-bytes {text} {whole} {ahead} {most} {v} {n} {j} h = record {
   on-bytes = λ {v = x} {n = y} {j = z} e. (let p : v ≡ x = cc in let q : n ≡ y = cc in let r : j ≡ z = cc in rw (p, q, r) at h);
   on-end = λ e. clash (cc);
@@ -114,11 +114,11 @@ told-bytes {text} {whole} {ahead} {most} {v} {n} {j} h = record {
 }
 
 pub told-end : {text : List ℕ} {whole : Option (List ℕ)} {ahead : List ℕ} {most : ℕ} → whole ≡ some [] → ahead ≡ []
-    → Told text whole ahead most End
+    → GroupRead text whole ahead most End
 told-end h k = record { on-bytes = λ e. clash (cc); on-end = λ e. (h, k); on-bad = λ e. clash (cc) }
 
 pub told-bad : {text : List ℕ} {whole : Option (List ℕ)} {ahead : List ℕ} {most : ℕ} → whole ≡ Option.none → ahead ≡ []
-    → Told text whole ahead most Bad
+    → GroupRead text whole ahead most Bad
 told-bad h k = record { on-bytes = λ e. clash (cc); on-end = λ e. clash (cc); on-bad = λ e. (h, k) }
 
 none-read : decode [] ≡ some []
@@ -131,8 +131,8 @@ none-ahead = refl
 
 -- three bytes
 module _ (n : ℕ) (h : n < 16777216) where
-  pub three-low : (l : List ℕ) → three n l ≡ lowBytes 3 n ++ l
-  unfolding three lowBytes
+  pub three-low : (l : List ℕ) → threeBytes n l ≡ lowBytes 3 n ++ l
+  unfolding threeBytes lowBytes
   three-low l =
       let x : n / 256 ^ 2 % 256 ≡ n / 65536 = omega arith in
       let y : n / 256 ^ 1 % 256 ≡ n / 256 % 256 = omega arith in
@@ -232,10 +232,10 @@ pub ruleset bits = (bits-wrong, bits-right, bits-p, bits-q, bits-r, bits-pq, bit
 module _ (text : List ℕ) (p q r s at : ℕ) where
   module _ (pad : s ≡ 65) {c : Char} (t : LetterTold text at c) where
     pub four-more : {b j : ℕ} → c ≡ chars.Byte b j → FourTold text p q r s at Bad
-    unfolding fourRead fourAhead ending bytesOr
+    unfolding fourRead fourAhead fourEnding bytesOr
     four-more e = let l = t .on-letter e in told-bad (rw (eq-eqb s 65 pad, l .splits) refl) (rw (eq-eqb s 65 pad, l .splits) refl)
 
-    pub four-last : c ≡ chars.End → {g : Group} → LastTold (ending p q r []) at g → FourTold text p q r s at g
+    pub four-last : c ≡ chars.End → {g : Group} → LastTold (fourEnding p q r []) at g → FourTold text p q r s at g
     unfolding fourRead fourAhead bytesOr prefixed
     four-last e {g} h =
         let nothing = t .on-end e in
@@ -286,8 +286,8 @@ four-found : (a b c d : ℕ) (w : Word)
 unfolding bytesAhead
 four-found a b c d w = refl
 
-retold : {text : List ℕ} {x y : Option (List ℕ)} {k l : List ℕ} {m n : ℕ} {r : Group} → Told text x k m r → y ≡ x → l ≡ k → m ≤ n
-    → Told text y l n r
+retold : {text : List ℕ} {x y : Option (List ℕ)} {k l : List ℕ} {m n : ℕ} {r : Group} → GroupRead text x k m r → y ≡ x → l ≡ k → m ≤ n
+    → GroupRead text y l n r
 retold t e f h = record {
   on-bytes = λ q. (let b = t .on-bytes q in
       record {

@@ -18,7 +18,7 @@ use Rattle.numbers.specs.Laws.Listed.{plain-char}
 use Rattle.numbers.specs.declared.Source.the-variants.{Contents}
 use Rattle.base64.specs.Base64.{worth, isValue}
 use Rattle.base64.specs.Laws.Letters.{value-byte, is-value}
-use Rattle.base64_reader.specs.Groups.{LetterTold, GroupTold, bitsOf, Quick}
+use Rattle.base64_reader.specs.Groups.{LetterTold, GroupTold, bitsOf, QuickGroup}
 use Rattle.base64_reader.specs.Laws.Letters.{passing-start, passing-letter}
 use Rattle.base64_reader.specs.Laws.Groups.{group-four, four-right, Values, bits-some}
 use Rattle.base64_reader.specs.declared.Group.the-variants.{Bytes}
@@ -53,7 +53,7 @@ letter-there text i h w =
     passing-letter (passing-start text i) refl (plain-char text i h s r) refl (ap not b)
 
 module _ (text : List ℕ) (at : ℕ) where
-  pub quick-none : Quick text at 16777216
+  pub quick-none : QuickGroup text at 16777216
   quick-none = record { told = λ h. absurd (omega arith); inside = λ h. absurd (omega arith) }
 
   module _ (long : 4 ≤ length text) (ahead : at ≤ length text - 4) where
@@ -90,11 +90,11 @@ module _ (text : List ℕ) (at : ℕ) where
         told : GroupTold text at (Bytes n 3 (at + 4))
         told = group-four one refl two refl three refl four refl ep eq er es (four-right text p q r s (at + 4) en h)
 
-      pub quick-told : Quick text at n
+      pub quick-told : QuickGroup text at n
       quick-told = record { told = told; inside = λ _. omega arith }
 
 pub ruleset quickly = (quick-none, quick-0, quick-1, quick-2, quick-3, quick-told, needs)
 
 -- the place behind them
-pub quick-place : {text : List ℕ} {at n : ℕ} → Quick text at n → n < 16777216 → at + 4 ≤ length text
+pub quick-place : {text : List ℕ} {at n : ℕ} → QuickGroup text at n → n < 16777216 → at + 4 ≤ length text
 quick-place k h = k .inside h

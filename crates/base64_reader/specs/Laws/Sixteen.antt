@@ -15,7 +15,7 @@ use Rattle.lists.specs.Laws.Booleans.{refute}
 use Rattle.grammar.specs.Bytes.{between}
 use Rattle.base64.specs.Base64.{worth, isValue, sixes, fourValues}
 use Rattle.base64.specs.Laws.Letters.{value-below, is-value}
-use Rattle.base64_reader.specs.Groups.{bitsOf, Quick, letterBehind, sixteenAt}
+use Rattle.base64_reader.specs.Groups.{bitsOf, QuickGroup, letterBehind, sixteenAt}
 use Rattle.base64_reader.specs.Laws.Quick.{quick-told}
 
 -- ONE OF THE LETTERS, by their ranges
@@ -79,7 +79,7 @@ module _ (text : List ℕ) (at : ℕ) (h : sixteenAt text at ≡ true) where
         let s : worth (getD text (at + m + 3) 0) < 64 = rw g at (letter-behind (m + 3) (omega arith)) in
         rw (is-value _ p, is-value _ q, is-value _ r, is-value _ s) (omega arith)
 
-    pub four-quick : Quick text (at + m) (bitsAt text (at + m))
+    pub four-quick : QuickGroup text (at + m) (bitsAt text (at + m))
     unfolding bitsAt
     four-quick = quick-told text (at + m) (omega (arith, all-inside)) (omega (arith, all-inside)) refl refl refl refl refl
 

@@ -13,7 +13,7 @@ use Rattle.nodes.specs.Laws.TextSteps.{text-none, text-some}
 use Rattle.nodes.specs.declared.Found.{Found}
 use Rattle.nodes.specs.declared.Found.the-variants.{At, Nothing}
 use Rattle.base64.specs.Base64.{unblanked, decode, bytesIn, coded}
-use Rattle.base64_reader.specs.Groups.{lettersAt, lowBytes, prefixed, GroupTold, Quick, sixteenAt}
+use Rattle.base64_reader.specs.Groups.{lettersAt, lowBytes, prefixed, GroupTold, QuickGroup, sixteenAt}
 use Rattle.base64_reader.specs.Laws.Sixteen.{four-small, four-quick}
 use Rattle.base64_reader.specs.declared.Group.{Group}
 use Rattle.base64_reader.specs.declared.Group.the-variants.{Bytes, End, Bad}
@@ -53,7 +53,7 @@ module _ {text : List ℕ} {at i : ℕ} (go : Coding text at i) {g : Group} (t :
     coding-on = let b = t .on-bytes e in
         record { same = go .same ∙ rw (b .spelled) (prefixed-is (lowBytes n v) (decode (lettersAt text j))) }
 
-module _ {text : List ℕ} {at i : ℕ} (go : Coding text at i) {n : ℕ} (k : Quick text i n) (h : n < 16777216) where
+module _ {text : List ℕ} {at i : ℕ} (go : Coding text at i) {n : ℕ} (k : QuickGroup text i n) (h : n < 16777216) where
   pub coding-quick-less : left text (i + 4) < left text i
   coding-quick-less = coding-less go (k .told h) refl
 

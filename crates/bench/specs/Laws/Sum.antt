@@ -13,7 +13,7 @@ use Rattle.numbers.specs.Answers.{nextNumber}
 use Rattle.numbers.specs.Laws.Walk.{Handed, Wrong, number-law, end-law, bad-law}
 use Rattle.numbers.specs.declared.Next.{Next}
 use Rattle.numbers.specs.declared.Next.the-variants.{Number, End, Bad}
-use Rattle.bench.specs.Sum.{sumOf, sumFrom}
+use Rattle.bench.specs.Sum.{sumOfWords, sumFrom}
 
 -- the words that are ahead of a place
 abbrev wordsAt : List ℕ → ℕ → List Word
@@ -49,7 +49,7 @@ module _ (text : List ℕ) (at : ℕ) where
         }
 
     pub sum-ends : r ≡ End → sum ≡ sumFrom text at
-    unfolding all total sumFrom sumOf
+    unfolding all total sumFrom sumOfWords
     sum-ends q =
         let h = end-law text i e q in
         let f : all (digits 1 7) (wordsAt text at) ≡ all (digits 1 7) (wordsAt text i) = summed .formed in
@@ -57,7 +57,7 @@ module _ (text : List ℕ) (at : ℕ) where
         sym (rw (summed .formed, h, t) refl)
 
     pub sum-fails : r ≡ Bad → 0 ≡ sumFrom text at
-    unfolding all sumFrom sumOf
+    unfolding all sumFrom sumOfWords
     sum-fails q = let h = bad-law text i e q in sym (rw (summed .formed, h .splits, h .out-of-form) refl)
 
 pub ruleset sumSteps = (sum-starts, sum-nearer, sum-more, sum-ends, sum-fails, needs)

@@ -18,7 +18,7 @@ use Rattle.grammar.specs.Bytes.{ascii}
 use Rattle.grammar.specs.Look.{Word}
 use Rattle.numbers.specs.Laws.Cuts.{powers}
 use Rattle.records.specs.Fill.{wrote, wrote-on, wrote-one, length-wrote}
-use Rattle.card.specs.Written.{inTensUpTo, inTens, spaced, wordsOf, lineBytes, Writes, Puts}
+use Rattle.card.specs.Written.{inTensUpTo, inTens, spaced, wordsOf, lineBytes, WritesOut, Puts}
 use Rattle.cifti.specs.Maps.{kindWord, kindBytes, kind-bytes}
 use Rattle.card.specs.Written.{Spells}
 use Rattle.cifti.specs.declared.answer.Kind.{Kind}
@@ -231,13 +231,13 @@ module _ {bytes s : List ℕ} {n : ℕ} (spelled : Spells bytes n s) where
   pub spelled-part : n ≡ length (take n s)
   spelled-part = spelled .counted ∙ ap length (sym (spelled .are))
 
-  pub write-short : (out : List ℕ) → length out < n → Writes bytes out 0 out
+  pub write-short : (out : List ℕ) → length out < n → WritesOut bytes out 0 out
   write-short out h =
       let e : leb (length bytes) (length out) ≡ false = lt-leb (length bytes) (length out) (omega (arith, spelled .counted)) in
       record { counted = rw e refl; filled = rw e refl }
 
   pub write-all : (out : List ℕ) → n ≤ length out → {t : List ℕ} → t ≡ take (length (take n s)) (take n s)
-      ++ drop (length (take n s)) out → Writes bytes out n t
+      ++ drop (length (take n s)) out → WritesOut bytes out n t
   write-all out h {t} copied =
       let e : leb (length bytes) (length out) ≡ true = le-leb (length bytes) (length out) (omega (arith, spelled .counted)) in
       let z : 0 + length bytes ≡ length bytes = omega arith in

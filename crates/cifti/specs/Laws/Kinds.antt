@@ -8,20 +8,20 @@ use native.Mathlib.Omega.{arith}
 use lib.ListN.{length, getD}
 use Rattle.lists.specs.Lists.{each}
 use Rattle.grammar.specs.Look.{Word, is}
-use Rattle.grammar.specs.Parser.{same}
+use Rattle.grammar.specs.Parser.{sameBytes}
 use Rattle.schema.specs.Schema.{Case, _⇒_}
 use Rattle.cifti.specs.Words.{numberIn}
-use Rattle.cifti.specs.Maps.{kindWords, kindIn, caseWord, caseKind, wordsOfKinds, allKinds, kindPlace, kind-placed}
+use Rattle.cifti.specs.Maps.{kindWords, kindByWord, caseWord, caseKind, wordsOfKinds, allKinds, kindPlace, kind-placed}
 use Rattle.cifti.specs.declared.answer.Kind.{Kind}
 use Rattle.cifti.specs.declared.answer.Kind.the-variants.{None}
 
-by-place : (l : List (Case Kind)) (w : Word) → getD (each caseKind l) (numberIn (each caseWord l) w) None ≡ kindIn l w
-unfolding each caseKind caseWord numberIn kindIn
+by-place : (l : List (Case Kind)) (w : Word) → getD (each caseKind l) (numberIn (each caseWord l) w) None ≡ kindByWord l w
+unfolding each caseKind caseWord numberIn kindByWord
 by-place [] w = refl
 by-place ((s ⇒ k) ∷ l) w = go (is s w) (by-place l w)
   where
-    go : (b : Bool) → getD (each caseKind l) (numberIn (each caseWord l) w) None ≡ kindIn l w
-        → getD (k ∷ each caseKind l) (cond b 0 (suc (numberIn (each caseWord l) w))) None ≡ cond b k (kindIn l w)
+    go : (b : Bool) → getD (each caseKind l) (numberIn (each caseWord l) w) None ≡ kindByWord l w
+        → getD (k ∷ each caseKind l) (cond b 0 (suc (numberIn (each caseWord l) w))) None ≡ cond b k (kindByWord l w)
     go true h = refl
     go false h = h
 
@@ -39,7 +39,8 @@ words-end : length wordsOfKinds ≡ kindPlace None
 unfolding wordsOfKinds kindWords each
 words-end = refl
 
-pub kind-named : (w : Word) {p : ℕ} {r : Kind} → p ≡ numberIn wordsOfKinds w → kindPlace r ≡ min p (kindPlace None) → r ≡ kindIn kindWords w
+pub kind-named : (w : Word) {p : ℕ} {r : Kind} → p ≡ numberIn wordsOfKinds w → kindPlace r ≡ min p (kindPlace None)
+    → r ≡ kindByWord kindWords w
 unfolding wordsOfKinds allKinds
 kind-named w {p} {r} e h =
     let m = number-most wordsOfKinds w in
@@ -47,8 +48,8 @@ kind-named w {p} {r} e h =
     let q : kindPlace r ≡ numberIn wordsOfKinds w = omega arith in
     sym (kind-placed r) ∙ ap (λ i. getD allKinds i None) q ∙ by-place kindWords w
 
-pub no-word : None ≡ kindIn kindWords []
-unfolding kindWords kindIn is same
+pub no-word : None ≡ kindByWord kindWords []
+unfolding kindWords kindByWord is sameBytes
 no-word = refl
 
 -- one kind stands at a place: `kind_at` has one answer

@@ -12,7 +12,7 @@ use Rattle.lists.specs.Laws.Quantifiers.{twoOf-iff}
 use Rattle.grammar.specs.Document.{Element}
 use Rattle.numbers.specs.Numbers.{sameKey}
 use Rattle.numbers.specs.Laws.Keys.{same-key, key-same}
-use Rattle.cifti.specs.LabelTable.{labelsOf, keyOf, tableKeys, keyTwice, labelsWith}
+use Rattle.cifti.specs.LabelTable.{labelsOf, labelKey, tableKeys, keyTwiceIn, labelsWith}
 
 -- the key that the n-th Label writes, from 0
 abbrev pub nthKey : ℕ → Element → ℤ
@@ -22,8 +22,8 @@ nthKey n e = getD (tableKeys e) n (pos 0)
 abbrev pub OneKeyTwice : Element → Type 0
 OneKeyTwice e = (i : ℕ) × (j : ℕ) × (i < j) × (j < length (tableKeys e)) × (nthKey i e ≡ nthKey j e)
 
-pub key-twice-iff : (e : Element) → (keyTwice e ≡ true) ↔ OneKeyTwice e
-unfolding keyTwice
+pub key-twice-iff : (e : Element) → (keyTwiceIn e ≡ true) ↔ OneKeyTwice e
+unfolding keyTwiceIn
 key-twice-iff e = (to, from)
   where
     to : twoOf sameKey (tableKeys e) ≡ true → OneKeyTwice e
@@ -35,31 +35,32 @@ key-twice-iff e = (to, from)
 -- WITHOUT A KEY TWICE, at most one Label has a key.
 module _ (k : ℤ) where
   abbrev with : List Element → List Element
-  with l = those (λ d. sameKey k (keyOf d)) l
+  with l = those (λ d. sameKey k (labelKey d)) l
 
-  lone : (l : List Element) → any (sameKey k) (each keyOf l) ≡ false → length (with l) ≡ 0
+  lone : (l : List Element) → any (sameKey k) (each labelKey l) ≡ false → length (with l) ≡ 0
   unfolding any those each
   lone [] h = refl
-  lone (d ∷ l) h = go (sameKey k (keyOf d)) h (lone l)
+  lone (d ∷ l) h = go (sameKey k (labelKey d)) h (lone l)
     where
-      go : (b : Bool) → (b || any (sameKey k) (each keyOf l)) ≡ false → (any (sameKey k) (each keyOf l) ≡ false → length (with l) ≡ 0)
+      go : (b : Bool) → (b || any (sameKey k) (each labelKey l)) ≡ false → (any (sameKey k) (each labelKey l) ≡ false → length (with l) ≡ 0)
           → length (cond b (d ∷ with l) (with l)) ≡ 0
       go true f on = absurd (true≢false f)
       go false f on = on f
 
-  at-most-one : (l : List Element) → twoOf sameKey (each keyOf l) ≡ false → length (with l) ≤ 1
+  at-most-one : (l : List Element) → twoOf sameKey (each labelKey l) ≡ false → length (with l) ≤ 1
   unfolding twoOf those each
   at-most-one [] h = omega arith
-  at-most-one (d ∷ l) h = go (sameKey k (keyOf d)) refl (any (sameKey (keyOf d)) (each keyOf l)) refl h (at-most-one l)
+  at-most-one (d ∷ l) h = go (sameKey k (labelKey d)) refl (any (sameKey (labelKey d)) (each labelKey l)) refl h (at-most-one l)
     where
-      go : (b : Bool) → sameKey k (keyOf d) ≡ b → (c : Bool) → any (sameKey (keyOf d)) (each keyOf l) ≡ c
-          → (c || twoOf sameKey (each keyOf l)) ≡ false → (twoOf sameKey (each keyOf l) ≡ false → length (with l) ≤ 1)
+      go : (b : Bool) → sameKey k (labelKey d) ≡ b → (c : Bool) → any (sameKey (labelKey d)) (each labelKey l) ≡ c
+          → (c || twoOf sameKey (each labelKey l)) ≡ false → (twoOf sameKey (each labelKey l) ≡ false → length (with l) ≤ 1)
           → length (cond b (d ∷ with l) (with l)) ≤ 1
       go b e true a f on = absurd (true≢false f)
       go false e false a f on = on f
       go true e false a f on =
-          let n : length (with l) ≡ 0 = lone l (ap (λ z. any (sameKey z) (each keyOf l)) (same-key k (keyOf d) e) ∙ a) in omega (arith, n)
+          let n : length (with l) ≡ 0 = lone l (ap (λ z. any (sameKey z) (each labelKey l)) (same-key k (labelKey d) e) ∙ a) in
+          omega (arith, n)
 
-pub one-label : (k : ℤ) (e : Element) → keyTwice e ≡ false → length (labelsWith k e) ≤ 1
-unfolding keyTwice tableKeys labelsWith
+pub one-label : (k : ℤ) (e : Element) → keyTwiceIn e ≡ false → length (labelsWith k e) ≤ 1
+unfolding keyTwiceIn tableKeys labelsWith
 one-label k e h = at-most-one k (labelsOf e) h

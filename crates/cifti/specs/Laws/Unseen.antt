@@ -17,7 +17,7 @@ use Rattle.grammar.specs.Laws.Plain.{plain, name-erased, attr-erased, has-erase
 use Rattle.numbers.specs.Numbers.{values, commaValues}
 use Rattle.schema.specs.Schema.{shaped, numbered}
 use Rattle.schema.specs.Laws.Erased.{walk-erased, shaped-erased, numbered-erased}
-use Rattle.cifti.specs.LabelTable.{labelsOf, keyOf, tableKeys}
+use Rattle.cifti.specs.LabelTable.{labelsOf, labelKey, tableKeys}
 use Rattle.cifti.specs.Rows.{cifti, rows}
 use Rattle.cifti.specs.Maps.{Map, listedBy, modelOf, sizesBy, sizesOf, seriesOf, kindOfMap, dimensionsOf, countedName, mapOf}
 use Rattle.cifti.specs.Maps.{tablesIn, mapElements, mapsOf}
@@ -87,13 +87,13 @@ below-erased s t e = ap (eachIn (children t)) (children-erased s e) ∙ go (chil
     go [] = refl
     go (a ∷ l) = ap₂ (λ k m. k ++ m) (children-erased t a) (go l) ∙ sym (append (children t a) (eachIn (children t) l))
 
-key-erased : (e : Element) → keyOf (plain e) ≡ keyOf e
-unfolding keyOf
+key-erased : (e : Element) → labelKey (plain e) ≡ labelKey e
+unfolding labelKey
 key-erased e = rw (attr-erased "Key" e) refl
 
 pub keys-erased : (e : Element) → tableKeys (plain e) ≡ tableKeys e
 unfolding tableKeys labelsOf
-keys-erased e = ap (each keyOf) (children-erased "Label" e) ∙ each-each plain keyOf (children "Label" e)
+keys-erased e = ap (each labelKey) (children-erased "Label" e) ∙ each-each plain labelKey (children "Label" e)
     ∙ each-same key-erased (children "Label" e)
 
 tables-erased : (e : Element) → each tableKeys (tablesIn (plain e)) ≡ each tableKeys (tablesIn e)

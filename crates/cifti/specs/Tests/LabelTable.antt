@@ -12,7 +12,7 @@ use Rattle.grammar.specs.Document.{Element}
 use Rattle.grammar.specs.Parser.{parse, computing}
 use Rattle.grammar.specs.Look.{Word, looks}
 use Rattle.numbers.specs.Numbers.{numbers}
-use Rattle.cifti.specs.LabelTable.{labelWords, keysRight, tableKeys, keyTwice, namesWith}
+use Rattle.cifti.specs.LabelTable.{labelWords, keysRight, tableKeys, keyTwiceIn, namesWith}
 
 unfoldable told : {A : Type 0} → A → (Element → A) → Option Element → A
 told a f Option.none = a
@@ -28,7 +28,7 @@ keys : asked [] tableKeys table ≡ pos 5 ∷ negsuc 2147483647 ∷ pos 5 ∷ []
 unfolding told asked table computing lists looks numbers labelWords
 keys = refl
 
-five-twice : asked false keyTwice table ≡ true
+five-twice : asked false keyTwiceIn table ≡ true
 unfolding told asked table computing lists looks numbers labelWords
 five-twice = refl
 
@@ -44,14 +44,14 @@ no-name : (asked [] (namesWith (negsuc 2147483647)) table ≡ [] ∷ []) × (ask
 unfolding told asked table computing lists looks numbers labelWords
 no-name = (refl, refl)
 
-zero-twice : asked false keyTwice "<LabelTable><Label Key='0'/><Label Key='-0'/></LabelTable>" ≡ true
+zero-twice : asked false keyTwiceIn "<LabelTable><Label Key='0'/><Label Key='-0'/></LabelTable>" ≡ true
 unfolding told asked computing lists looks numbers labelWords
 zero-twice = refl
 
-once : asked true keyTwice "<LabelTable><Label Key='0'/><Label Key='-1'/><Label Key='1'/></LabelTable>" ≡ false
+once : asked true keyTwiceIn "<LabelTable><Label Key='0'/><Label Key='-1'/><Label Key='1'/></LabelTable>" ≡ false
 unfolding told asked computing lists looks numbers labelWords
 once = refl
 
-empty : (asked true keyTwice "<LabelTable/>" ≡ false) × (asked (pos 1 ∷ []) tableKeys "<LabelTable/>" ≡ [])
+empty : (asked true keyTwiceIn "<LabelTable/>" ≡ false) × (asked (pos 1 ∷ []) tableKeys "<LabelTable/>" ≡ [])
 unfolding told asked computing lists looks numbers labelWords
 empty = (refl, refl)

@@ -10,13 +10,13 @@ use borrow.Author.Tests.{eq-eqb, ne-eqb}
 use Rattle.lists.specs.Lists.{count, twoOf}
 use Rattle.records.specs.Outcome.{ends, applies, passes, gives-first}
 use Rattle.records.specs.Sheet.{countOf}
-use Rattle.comparison.specs.Compare.{recordsOf, wellFormed, has, same, moved, firstOnly, secondOnly, compareRefusal, compared}
+use Rattle.comparison.specs.Compare.{recordsOf, wellFormed, hasRecord, same, moved, firstOnly, secondOnly, compareRefusal, compared}
 use Rattle.comparison.specs.declared.Compared.{Compared}
 use Rattle.comparison.specs.Laws.Accepted.{fine}
 use Rattle.comparison.specs.Laws.Held.{held-long}
 use Rattle.comparison.specs.Laws.Sums.{both-is, only-is, both-turned}
 use Rattle.matching.specs.Side.{Beside, Walkable}
-use Rattle.compare.specs.Refused.{repeatRefusal, Fits, Begun}
+use Rattle.compare.specs.Refused.{sheetRepeatRefusal, SheetFits, Begun}
 use Rattle.compare.specs.Laws.Covered.{left-out}
 
 -- refused, all is 0
@@ -30,7 +30,7 @@ refused-is a b {n} {m} e h = sym (zeros n a b h) ∙ ap (λ (k : ℕ). compared 
 
 -- ---- The sums.
 
-counted-sums : (a b : List ℕ) → twoOf eqb a ≡ false → twoOf eqb b ≡ false → {k both n m : ℕ} → k ≡ same a b → both ≡ count (has b) a
+counted-sums : (a b : List ℕ) → twoOf eqb a ≡ false → twoOf eqb b ≡ false → {k both n m : ℕ} → k ≡ same a b → both ≡ count (hasRecord b) a
     → n ≡ length a → m ≡ length b
     → record { number = 0; same = k; moved = both - k; first = n - both; second = m - both } ≡ compared 0 a b
 unfolding compared
@@ -57,15 +57,15 @@ module _ {s t : List ℕ} {room n m : ℕ} (ok : Begun s t room) (ns : n ≡ cou
   pub laid-walkable : Walkable s t n m room
   laid-walkable = let f = ok .fits in record { beside = laid-beside; fits = omega arith; single = ok .first-once }
 
-  pub laid-fits : {after : ℕ} → after ≡ room → Fits t after
+  pub laid-fits : {after : ℕ} → after ≡ room → SheetFits t after
   laid-fits e = let f = ok .fits in record { fine = ok .two; fits = omega arith }
 
-  module _ {both : ℕ} (is : both ≡ count (has b) a) {c : Bool} (twice : c ≡ (not (eqb both m) && twoOf eqb b)) where
+  module _ {both : ℕ} (is : both ≡ count (hasRecord b) a) {c : Bool} (twice : c ≡ (not (eqb both m) && twoOf eqb b)) where
     asked : c ≡ twoOf eqb b
     asked = twice ∙ left-out a (ok .first-once) b (ms ∙ sym (held-long t)) is
 
-    pub repeat-is : c ≡ true → record { number = 14; same = 0; moved = 0; first = 0; second = 0 } ≡ compared (repeatRefusal t) a b
-    unfolding repeatRefusal
+    pub repeat-is : c ≡ true → record { number = 14; same = 0; moved = 0; first = 0; second = 0 } ≡ compared (sheetRepeatRefusal t) a b
+    unfolding sheetRepeatRefusal
     repeat-is h = refused-is a b (sym (gives-first (applies (sym asked ∙ h)))) (λ z. omega arith)
 
     module _ (h : c ≡ false) where
@@ -83,15 +83,15 @@ module _ {s t : List ℕ} {room n m : ℕ} (ok : Begun s t room) (ns : n ≡ cou
         same-few = let e = both-is a b in omega arith
 
         pub compared-is : record { number = 0; same = k; moved = both - k; first = n - both; second = m - both }
-            ≡ compared (repeatRefusal t) a b
-        unfolding repeatRefusal
+            ≡ compared (sheetRepeatRefusal t) a b
+        unfolding sheetRepeatRefusal
         compared-is = whole ∙ ap (λ (x : ℕ). compared x a b) (sym (gives-first (passes second-once ends)))
           where
             whole : record { number = 0; same = k; moved = both - k; first = n - both; second = m - both } ≡ compared 0 a b
             whole = counted-sums a b (ok .first-once) second-once ks is (ns ∙ sym (held-long s)) (ms ∙ sym (held-long t))
 
-pub counted-is : (s t : List ℕ) (room : ℕ) {r : Compared} → compareRefusal s t room ≡ repeatRefusal t
-    → r ≡ compared (repeatRefusal t) (recordsOf s) (recordsOf t) → r ≡ compared (compareRefusal s t room) (recordsOf s) (recordsOf t)
+pub counted-is : (s t : List ℕ) (room : ℕ) {r : Compared} → compareRefusal s t room ≡ sheetRepeatRefusal t
+    → r ≡ compared (sheetRepeatRefusal t) (recordsOf s) (recordsOf t) → r ≡ compared (compareRefusal s t room) (recordsOf s) (recordsOf t)
 counted-is s t room e is = is ∙ ap (λ (k : ℕ). compared k (recordsOf s) (recordsOf t)) (sym e)
 
 -- ---- The test that may be left out.

@@ -15,7 +15,7 @@ use Rattle.records.specs.Width.{widthSaid}
 use Rattle.records.specs.Sheet.{countOf, widthOf}
 use Rattle.records.specs.Laws.Computed.{count-three}
 use Rattle.records.specs.declared.search.Found.{Found}
-use Rattle.comparison.specs.Compare.{has, hasAt, sameAt}
+use Rattle.comparison.specs.Compare.{hasRecord, hasAt, sameAt}
 use Rattle.compare.specs.declared.changes.Change.{Change}
 use Rattle.compare.specs.declared.changes.Change.the-variants.{Same, Moved, First, Second}
 use Rattle.compare.specs.Change.{ofFirst, ofSecond, changeAt, endSaid, firstEnd}
@@ -28,8 +28,8 @@ pub at-outside : (l : List ℕ) (i x : ℕ) → length l ≤ i → false ≡ has
 unfolding hasAt
 at-outside l i x h = rw (le-ltb i (length l) h) refl
 
-pub found-has : (l : List ℕ) (x : ℕ) (f : Found) → Finds l x f → eqb (f .number) 0 ≡ has l x
-unfolding findRefusal has first
+pub found-has : (l : List ℕ) (x : ℕ) (f : Found) → Finds l x f → eqb (f .number) 0 ≡ hasRecord l x
+unfolding findRefusal hasRecord first
 found-has l x f h = ap (λ (n : ℕ). eqb n 0) (h .numbered) ∙ go (any (eqb x) l)
   where
     go : (t : Bool) → eqb (first (19 when not t ∷ [])) 0 ≡ t
@@ -46,11 +46,13 @@ module _ (a b : List ℕ) (i : ℕ) where
     unfolding ofFirst sameAt
     says-same e h = sym (front ∙ rw (sym e ∙ h) refl)
 
-    pub says-moved : {t u : Bool} → t ≡ hasAt b i (getD a i 0) → t ≡ false → u ≡ has b (getD a i 0) → u ≡ true → Moved ≡ changeAt a b i
+    pub says-moved : {t u : Bool} → t ≡ hasAt b i (getD a i 0) → t ≡ false → u ≡ hasRecord b (getD a i 0) → u ≡ true
+        → Moved ≡ changeAt a b i
     unfolding ofFirst sameAt
     says-moved e h f k = sym (front ∙ rw (sym e ∙ h, sym f ∙ k) refl)
 
-    pub says-first : {t u : Bool} → t ≡ hasAt b i (getD a i 0) → t ≡ false → u ≡ has b (getD a i 0) → u ≡ false → First ≡ changeAt a b i
+    pub says-first : {t u : Bool} → t ≡ hasAt b i (getD a i 0) → t ≡ false → u ≡ hasRecord b (getD a i 0) → u ≡ false
+        → First ≡ changeAt a b i
     unfolding ofFirst sameAt
     says-first e h f k = sym (front ∙ rw (sym e ∙ h, sym f ∙ k) refl)
 
@@ -63,7 +65,7 @@ module _ (a b : List ℕ) (i : ℕ) where
     unfolding ofSecond
     says-none h = sym (rear ∙ rw (le-ltb (i - length a) (length b) h) refl)
 
-    module _ (within : i - length a < length b) {t : Bool} (e : t ≡ has a (getD b (i - length a) 0)) where
+    module _ (within : i - length a < length b) {t : Bool} (e : t ≡ hasRecord a (getD b (i - length a) 0)) where
       pub says-both : t ≡ true → Same ≡ changeAt a b i
       unfolding ofSecond
       says-both h = sym (rear ∙ rw (lt-ltb (i - length a) (length b) within, sym e ∙ h) refl)

@@ -10,7 +10,7 @@ use borrow.Author.Tests.{le-ltb}
 use Rattle.records.specs.Width.{seven}
 use Rattle.records.specs.Fill.{wrote, length-wrote}
 use Rattle.lists.specs.Lists.{twoOf}
-use Rattle.records.specs.Repeat.{Checks}
+use Rattle.records.specs.Repeat.{ChecksRepeats}
 use Rattle.records.specs.Laws.Repeat.{repeat-told}
 use Rattle.records.specs.Laws.Sheet.{wrote-front}
 use Rattle.records.specs.Outcome.{outcome, ends, passes, gives-first}
@@ -20,7 +20,7 @@ use Rattle.comparison.specs.Compare.{recordsOf}
 use Rattle.comparison.specs.Accepted.{sheetRefusal}
 use Rattle.comparison.specs.Laws.Accepted.{fine}
 use Rattle.comparison.specs.Laws.Held.{held-long}
-use Rattle.compare.specs.Refused.{Fits}
+use Rattle.compare.specs.Refused.{SheetFits}
 
 -- what unpacking a sheet that is not refused does, where there is room
 module _ {s before : List ℕ} {o : Outcome} {after : List ℕ} (u : Unpacks s before o after) (ok : sheetRefusal s ≡ 0)
@@ -39,8 +39,8 @@ module _ {s before : List ℕ} {o : Outcome} {after : List ℕ} (u : Unpacks s b
       u .holds ∙ ap (λ (n : ℕ). unpackedInto seven (widthOf s) n s before) zero
 
 -- whether a location stands in it twice, by the check of repeats
-pub twice-told : {s before : List ℕ} {o : Outcome} {after last : List ℕ} {r : ℕ} → Unpacks s before o after → Fits s (length before)
-    → Checks (o .value) (take (o .value) after) after r last → eqb r 14 ≡ twoOf eqb (recordsOf s)
+pub twice-told : {s before : List ℕ} {o : Outcome} {after last : List ℕ} {r : ℕ} → Unpacks s before o after → SheetFits s (length before)
+    → ChecksRepeats (o .value) (take (o .value) after) after r last → eqb r 14 ≡ twoOf eqb (recordsOf s)
 twice-told {s} {before} {o} {after} {last} {r} u fit checked =
     let ok = fit .fine in
     let room = fit .fits in

@@ -8,7 +8,7 @@ use lib.Dec.{ltb}
 use lib.ListN.{length, getD}
 use borrow.Author.Tests.{lt-ltb, le-ltb}
 use Rattle.lists.specs.Laws.Booleans.{both-ways}
-use Rattle.comparison.specs.Compare.{countBelow, has, hasAt, sameAt, movedAt, onlyAt, moved, firstOnly, secondOnly}
+use Rattle.comparison.specs.Compare.{countBelow, hasRecord, hasAt, sameAt, movedAt, onlyAt, moved, firstOnly, secondOnly}
 use Rattle.comparison.specs.Laws.Sums.{has-at}
 use Rattle.compare.specs.declared.changes.Change.{Change}
 use Rattle.compare.specs.declared.changes.Change.the-variants.{Same, Moved, First, Second}
@@ -88,7 +88,7 @@ module _ (a b : List ℕ) where
 
   moved-first : (i : ℕ) → saysMoved (ofFirst a b i) ≡ movedAt a b i
   unfolding ofFirst movedAt saysMoved
-  moved-first i = by (sameAt a b i) (has b (getD a i 0))
+  moved-first i = by (sameAt a b i) (hasRecord b (getD a i 0))
     where
       by : (s h : Bool) → saysMoved (cond s Same (cond h Moved First)) ≡ (not s && h)
       by true h = refl
@@ -97,10 +97,11 @@ module _ (a b : List ℕ) where
 
   first-first : (i : ℕ) → saysFirst (ofFirst a b i) ≡ onlyAt a b i
   unfolding ofFirst onlyAt saysFirst sameAt
-  first-first i = by (hasAt b i (getD a i 0)) refl (has b (getD a i 0)) refl
+  first-first i = by (hasAt b i (getD a i 0)) refl (hasRecord b (getD a i 0)) refl
     where
-      by : (s : Bool) → hasAt b i (getD a i 0) ≡ s → (h : Bool) → has b (getD a i 0) ≡ h → saysFirst (cond (hasAt b i (getD a i 0)) Same
-          (cond (has b (getD a i 0)) Moved First)) ≡ not (has b (getD a i 0))
+      by : (s : Bool) → hasAt b i (getD a i 0) ≡ s → (h : Bool) → hasRecord b (getD a i 0) ≡ h
+          → saysFirst (cond (hasAt b i (getD a i 0)) Same
+          (cond (hasRecord b (getD a i 0)) Moved First)) ≡ not (hasRecord b (getD a i 0))
       by true e true f = rw (e, f) refl
       by true e false f = both-ways (has-at b i (getD a i 0) e) f
       by false e true f = rw (e, f) refl
@@ -108,14 +109,14 @@ module _ (a b : List ℕ) where
 
   second-first : (i : ℕ) → saysSecond (ofFirst a b i) ≡ false
   unfolding ofFirst saysSecond
-  second-first i = by (sameAt a b i) (has b (getD a i 0))
+  second-first i = by (sameAt a b i) (hasRecord b (getD a i 0))
     where
       by : (s h : Bool) → saysSecond (cond s Same (cond h Moved First)) ≡ false
       by true h = refl
       by false true = refl
       by false false = refl
 
-  of-second-is : (j : ℕ) → j < length b → ofSecond a b j ≡ cond (has a (getD b j 0)) Same Second
+  of-second-is : (j : ℕ) → j < length b → ofSecond a b j ≡ cond (hasRecord a (getD b j 0)) Same Second
   unfolding ofSecond
   of-second-is j h = rw (lt-ltb j (length b) h) refl
 
@@ -140,7 +141,7 @@ module _ (a b : List ℕ) where
       let t = apart saysMoved in
       let f = alike-below (length a) (λ i. saysMoved (ofFirst a b i)) (movedAt a b) (λ i h. moved-first i) in
       let g = alike-below (length b) (λ j. saysMoved (ofSecond a b j)) (λ j. false) (λ j h. ap saysMoved (of-second-is j h)
-      ∙ moved-second (has a (getD b j 0))) in
+      ∙ moved-second (hasRecord a (getD b j 0))) in
       let z = none-below (length b) in
       omega arith
 
@@ -149,7 +150,7 @@ module _ (a b : List ℕ) where
       let t = apart saysFirst in
       let f = alike-below (length a) (λ i. saysFirst (ofFirst a b i)) (onlyAt a b) (λ i h. first-first i) in
       let g = alike-below (length b) (λ j. saysFirst (ofSecond a b j)) (λ j. false) (λ j h. ap saysFirst (of-second-is j h)
-      ∙ first-second (has a (getD b j 0))) in
+      ∙ first-second (hasRecord a (getD b j 0))) in
       let z = none-below (length b) in
       omega arith
 
@@ -159,6 +160,6 @@ module _ (a b : List ℕ) where
       let t = apart saysSecond in
       let f = alike-below (length a) (λ i. saysSecond (ofFirst a b i)) (λ i. false) (λ i h. second-first i) in
       let g = alike-below (length b) (λ j. saysSecond (ofSecond a b j)) (onlyAt b a) (λ j h. ap saysSecond (of-second-is j h)
-      ∙ second-second (has a (getD b j 0))) in
+      ∙ second-second (hasRecord a (getD b j 0))) in
       let z = none-below (length a) in
       omega arith

@@ -17,7 +17,7 @@ use Rattle.records.specs.Bytes.{numberWritten, numbersIn}
 use Rattle.records.specs.Record.{carried}
 use Rattle.records.specs.Sheet.{countOf, wordsIn, bare, widthOf, heldBy}
 use Rattle.records.specs.Laws.Sheet.{sheet-good}
-use Rattle.comparison.specs.Compare.{recordsOf, wellFormed, compareRefusal, recordPlace, behind, partOf, TailPlaced, Tails}
+use Rattle.comparison.specs.Compare.{recordsOf, wellFormed, compareRefusal, recordPlace, behindRecords, tailOf, TailPlaced, Tails}
 use Rattle.comparison.specs.declared.TailPlace.{TailPlace}
 use Rattle.comparison.specs.Laws.Accepted.{accepted, fine}
 use Rattle.comparison.specs.Laws.Part.{part-second, part-first}
@@ -66,8 +66,8 @@ pub record FromOn (s : List ℕ) (n : ℕ) (part : List ℕ) : Type 0 where
   pub size : length part ≡ (widthOf s) .bytes * (countOf s - n)
   pub holds : heldBy seven (widthOf s) (numbersIn ((widthOf s) .bytes) (countOf s - n) part) ≡ drop n (recordsOf s)
 
-behind-holds : (s : List ℕ) (n : ℕ) → wellFormed s ≡ true → n ≤ countOf s → FromOn s n (behind n s)
-unfolding behind wordsIn
+behind-holds : (s : List ℕ) (n : ℕ) → wellFormed s ≡ true → n ≤ countOf s → FromOn s n (behindRecords n s)
+unfolding behindRecords wordsIn
 behind-holds s n ok h =
     let w : ℕ = (widthOf s) .bytes in
     let f : ℕ → ℕ = λ (m : ℕ). carried seven (widthOf s) (bare (widthOf s) m) in
@@ -86,10 +86,10 @@ behind-holds s n ok h =
 -- of two sheets that are not refused, the part is the records of the longer from the other's count on; of equal counts it is none
 pub tail-holds : (s t before part after : List ℕ) → Tails s t before part after → compareRefusal s t (length before) ≡ 0
     → (countOf s < countOf t → FromOn t (countOf s) part) × (countOf t ≤ countOf s → FromOn s (countOf t) part)
-unfolding partOf
+unfolding tailOf
 tail-holds s t before part after p z =
     let ok = accepted s t (length before) refl z in
-    let told : part ≡ partOf s t = p .answers ∙ ap (λ (n : ℕ). unless n (partOf s t) []) z in (
+    let told : part ≡ tailOf s t = p .answers ∙ ap (λ (n : ℕ). unless n (tailOf s t) []) z in (
       λ h. subst (FromOn t (countOf s)) (sym (told ∙ rw (lt-ltb (countOf s) (countOf t) h) refl))
           (behind-holds t (countOf s) (fine t (ok .two) .0) (omega arith)),
       λ h. subst (FromOn s (countOf t)) (sym (told ∙ rw (le-ltb (countOf s) (countOf t) h) refl))

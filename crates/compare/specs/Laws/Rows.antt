@@ -15,7 +15,7 @@ use Rattle.records.specs.declared.outcome.Outcome.{Outcome}
 use lib.ListN.{length}
 use Rattle.comparison.specs.Compare.{recordsOf, wellFormed, wellFilled, compareRefusal}
 use Rattle.comparison.specs.Accepted.{sheetRefusal}
-use Rattle.compare.specs.Refused.{sheetsRefusal, frontRefusal, repeatRefusal, Fits, Begun}
+use Rattle.compare.specs.Refused.{sheetsRefusal, frontRefusal, sheetRepeatRefusal, SheetFits, Begun}
 
 kept : (a b : Bool) (l : List Refusal) → (first (15 when a ∷ 16 when b ∷ []) ≡ 0 → ⊥) → first (15 when a ∷ 16 when b ∷ []) ≡ first
     (15 when a ∷ 16 when b ∷ l)
@@ -106,7 +106,7 @@ module _ (s t : List ℕ) {a : ℕ} (both : a ≡ sheetsRefusal s t) where
     no-room h = sym (rest ∙ gives-first (applies (lt-ltb room (countOf s + countOf t) (omega arith))))
 
     module _ (fits : n + m ≤ room) where
-      pub fits-first : Fits s room
+      pub fits-first : SheetFits s room
       fits-first = record { fine = sheets-fine z .0; fits = omega arith }
 
       enough : ltb room (countOf s + countOf t) ≡ false
@@ -174,18 +174,18 @@ module _ (s t : List ℕ) (room : ℕ) {n : ℕ} (front : n ≡ frontRefusal s t
       first-once = p .once;
     }
 
-    pub behind-front : compareRefusal s t room ≡ repeatRefusal t
-    unfolding compareRefusal repeatRefusal
+    pub behind-front : compareRefusal s t room ≡ sheetRepeatRefusal t
+    unfolding compareRefusal sheetRepeatRefusal
     behind-front = passed .behind (twoOf eqb (recordsOf t))
 
-    pub fits-second : Fits t room
+    pub fits-second : SheetFits t room
     fits-second = let b = begun in let f = b .fits in record { fine = b .two; fits = omega arith }
 
     module _ {c : Bool} (twice : c ≡ twoOf eqb (recordsOf t)) where
       pub second-twice : c ≡ true → 14 ≡ compareRefusal s t room
-      unfolding repeatRefusal
+      unfolding sheetRepeatRefusal
       second-twice h = sym (behind-front ∙ gives-first (applies (sym twice ∙ h)))
 
       pub none-refused : c ≡ false → 0 ≡ compareRefusal s t room
-      unfolding repeatRefusal
+      unfolding sheetRepeatRefusal
       none-refused h = sym (behind-front ∙ gives-first (passes (sym twice ∙ h) ends))

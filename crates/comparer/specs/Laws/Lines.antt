@@ -20,7 +20,7 @@ use Rattle.compare.specs.Change.{changeAt}
 use Rattle.compare.specs.declared.changes.Change.{Change}
 use Rattle.compare.specs.declared.changes.Change.the-variants as changes
 use Rattle.card.specs.Card.{locationLine, recordLine}
-use Rattle.card.specs.Written.{inTensUpTo, inTens, spaced, wordsOf, lineBytes, Writes}
+use Rattle.card.specs.Written.{inTensUpTo, inTens, spaced, wordsOf, lineBytes, WritesOut}
 use Rattle.comparer.specs.Output.{changeBytes, lineAt, outputBytes}
 use Rattle.comparer.specs.Laws.Output.{at-first, at-second, line-fits}
 
@@ -259,7 +259,7 @@ module _ (a b : List ℕ) where
   bytes-all = ap length (sym (output-row a b))
 
   -- a line that was written to a room of 128 bytes
-  module _ (n : ℕ) {out : List ℕ} {k : ℕ} {t : List ℕ} (written : Writes (lineAt a b n) out k t) (room : 128 ≤ length out) where
+  module _ (n : ℕ) {out : List ℕ} {k : ℕ} {t : List ℕ} (written : WritesOut (lineAt a b n) out k t) (room : 128 ≤ length out) where
     all : k ≡ length (lineAt a b n)
     all = written .counted ∙ rw (le-leb (length (lineAt a b n)) (length out) (omega (arith, line-fits a b n))) refl
 

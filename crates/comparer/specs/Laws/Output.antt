@@ -16,7 +16,7 @@ use Rattle.records.specs.Record.{Location, onSurface, inVolume, locationOf}
 use Rattle.card.specs.Card.{locationLine, recordLine}
 use Rattle.card.specs.declared.line.Line.{Line}
 use Rattle.card.specs.declared.line.Line.the-variants as lines
-use Rattle.card.specs.Written.{inTensUpTo, inTens, spaced, wordsOf, lineBytes, Writes, Spells}
+use Rattle.card.specs.Written.{inTensUpTo, inTens, spaced, wordsOf, lineBytes, WritesOut, Spells}
 use Rattle.compare.specs.Change.{ofSecond, changeAt}
 use Rattle.compare.specs.declared.changes.Change.{Change}
 use Rattle.compare.specs.declared.changes.Change.the-variants as changes
@@ -77,7 +77,7 @@ change-fits changes.First n r = omega (arith, length-append (ascii "first ") (li
 change-fits changes.Second n r = omega (arith, length-append (ascii "second ") (lineBytes (recordLine n r)), record-short n r)
 
 -- a refusal fits it too
-pub refusal-all : (n : ℕ) {out : List ℕ} {k : ℕ} {t : List ℕ} → Writes (lineBytes (lines.Refused n)) out k t → 128 ≤ length out
+pub refusal-all : (n : ℕ) {out : List ℕ} {k : ℕ} {t : List ℕ} → WritesOut (lineBytes (lines.Refused n)) out k t → 128 ≤ length out
     → k ≡ length (refusalBytes n)
 unfolding refusalBytes lineBytes wordsOf
 refusal-all n {out} written room =
@@ -109,14 +109,14 @@ module _ (w s : List ℕ) (room : (length w ≤ 20) × (128 ≤ length s)) {o : 
   front = ap (take (length w)) is ∙ take-at w (drop (length w) s) (length w) refl
 
   module _ (n r : ℕ) {l : Line} (told : l ≡ recordLine n r) {k : ℕ} {t : List ℕ}
-      (written : Writes (lineBytes l) (midOf (length w) (length o - length w) o) k t) where
+      (written : WritesOut (lineBytes l) (midOf (length w) (length o - length w) o) k t) where
     abbrev bytes : List ℕ
     bytes = lineBytes (recordLine n r)
 
     abbrev under : List ℕ
     under = midOf (length w) (length o - length w) o
 
-    goes : Writes bytes under k t
+    goes : WritesOut bytes under k t
     goes = rw (sym told) written
 
     fits : leb (length bytes) (length under) ≡ true

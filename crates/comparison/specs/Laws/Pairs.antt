@@ -15,7 +15,7 @@ use Rattle.lists.specs.Laws.Lists.{count-append}
 use Rattle.lists.specs.Reordered.{member}
 use Rattle.comparison.specs.Matched.{paired, matched}
 use Rattle.comparison.specs.Tagged.{tagged, placeIn, ahead, inHand}
-use Rattle.comparison.specs.Compare.{has}
+use Rattle.comparison.specs.Compare.{hasRecord}
 use Rattle.comparison.specs.Laws.Matched.{matched-counts, matched-most}
 use Rattle.comparison.specs.Laws.Sums.{once}
 use Rattle.comparison.specs.Laws.Tagged.{matched-both}
@@ -136,7 +136,7 @@ module _ (a : List ℕ) (turned : Bool) (b : List ℕ) where
     pub j-in : j ≤ length b
     pub room : length a + length b ≤ length work
     pub passed : k + (pairs + pairs) ≡ i + j
-    pub sum : pairs + matched (inHand (take k work) a turned b i j) ≡ count (has b) a
+    pub sum : pairs + matched (inHand (take k work) a turned b i j) ≡ count (hasRecord b) a
     pub single : (x : ℕ) → count (λ y. eqb y (tagged 0 x)) (inHand (take k work) a turned b i j) ≤ 1
 
   hand-counts : (p : ℕ → Bool) (s : List ℕ) (i j : ℕ) → count p (inHand s a turned b i j)
@@ -185,8 +185,8 @@ module _ (a : List ℕ) (turned : Bool) (b : List ℕ) where
         single = λ x.
             let c = hand-counts (λ y. eqb y (tagged 0 x)) [] 0 0 in
             let e = none-even x (ahead turned 0 b) in
-            let f : count (λ r. eqb (tagged 0 r) (tagged 0 x)) a ≡ cond (has a x) 1 0 = same-test x a ∙ once x a onceOnly in
-            let g = few (has a x) in
+            let f : count (λ r. eqb (tagged 0 r) (tagged 0 x)) a ≡ cond (hasRecord a x) 1 0 = same-test x a ∙ once x a onceOnly in
+            let g = few (hasRecord a x) in
             let z : count (λ y. eqb y (tagged 0 x)) [] ≡ 0 = nothing-counted (λ y. eqb y (tagged 0 x)) in
             omega arith;
       }
@@ -308,7 +308,7 @@ module _ (a : List ℕ) (turned : Bool) (b : List ℕ) where
               omega arith
 
     -- at the end
-    pub side-end : length a ≤ i → length b ≤ j → pairs + matched (take k work) ≡ count (has b) a
+    pub side-end : length a ≤ i → length b ≤ j → pairs + matched (take k work) ≡ count (hasRecord b) a
     side-end h g =
         let m = side .i-in in
         let n = side .j-in in

@@ -12,7 +12,7 @@ use borrow.Author.Tests.{lt-ltb, le-ltb, ltb-true, ltb-false, ne-eqb, eqb-true, 
 use Rattle.lists.specs.Laws.Numbers.{eq?}
 use Rattle.records.specs.Outcome.{unless}
 use Rattle.records.specs.Sheet.{countOf, widthOf}
-use Rattle.comparison.specs.Compare.{compareRefusal, recordPlace, behind, partOf, placed}
+use Rattle.comparison.specs.Compare.{compareRefusal, recordPlace, behindRecords, tailOf, placed}
 use Rattle.comparison.specs.Accepted.{Accepted}
 use Rattle.comparison.specs.declared.TailPlace.{TailPlace}
 use Rattle.comparison.specs.Laws.Accepted.{accepted, fine}
@@ -36,12 +36,12 @@ place-refused s t room {n} e h = sym (nowhere s t n h) ∙ ap (λ (k : ℕ). pla
 module _ (s t : List ℕ) (start : ℕ) where
   in-second : ltb (countOf s) (countOf t) ≡ true → start ≡ recordPlace (countOf s) t
       → placed 0 s t ≡ record { number = 0; sheet = 1; start = start; length = length t - start }
-  unfolding placed partOf behind
+  unfolding placed tailOf behindRecords
   in-second b at = rw (b, sym at, length-drop start t) refl
 
   in-first : ltb (countOf s) (countOf t) ≡ false → start ≡ recordPlace (countOf t) s
       → placed 0 s t ≡ record { number = 0; sheet = 0; start = start; length = length s - start }
-  unfolding placed partOf behind
+  unfolding placed tailOf behindRecords
   in-first b at = rw (b, sym at, length-drop start s) refl
 
 module _ (s t : List ℕ) (room : ℕ) {number n m start : ℕ} (e : number ≡ compareRefusal s t room) (z : number ≡ 0)
@@ -79,13 +79,13 @@ module _ (s t : List ℕ) (room : ℕ) where
   at = placed number s t
 
   abbrev part : List ℕ
-  part = unless number (partOf s t) []
+  part = unless number (tailOf s t) []
 
   abbrev Where : Type 0
   Where = ((at .sheet ≡ 1) × PartAt t (at .start) (at .length) part) ⊎ ((at .sheet ≡ 0) × PartAt s (at .start) (at .length) part)
 
   where-is : Where
-  unfolding placed partOf behind
+  unfolding placed tailOf behindRecords
   where-is = by (eqb number 0) refl (ltb (countOf s) (countOf t)) refl
     where
       by : (a : Bool) → eqb number 0 ≡ a → (b : Bool) → ltb (countOf s) (countOf t) ≡ b → Where

@@ -12,7 +12,7 @@ use borrow.Author.Tests.{eqb-true, ltb-true}
 use Rattle.lists.specs.Lists.{any, count, twoOf}
 use Rattle.lists.specs.Laws.Booleans.{and-left, and-right, or-left, or-right, or-second, both-ways}
 use Rattle.lists.specs.Laws.Numbers.{eqb-turned}
-use Rattle.comparison.specs.Compare.{countBelow, hasAt, has, sameAt, movedAt, onlyAt, same, moved, firstOnly, secondOnly}
+use Rattle.comparison.specs.Compare.{countBelow, hasAt, hasRecord, sameAt, movedAt, onlyAt, same, moved, firstOnly, secondOnly}
 
 -- ---- Counting over numbers below n.
 
@@ -62,8 +62,8 @@ indexed p (x ∷ a) = front (length a) (λ i. p (getD (x ∷ a) i 0)) ∙ ap (λ
 
 -- ---- The three tests of an index.
 
-pub has-at : (b : List ℕ) (i x : ℕ) → hasAt b i x ≡ true → has b x ≡ true
-unfolding hasAt has any
+pub has-at : (b : List ℕ) (i x : ℕ) → hasAt b i x ≡ true → hasRecord b x ≡ true
+unfolding hasAt hasRecord any
 has-at b i x h = go b i (ltb-true i (length b) (and-left (ltb i (length b)) (eqb x (getD b i 0)) h)) (and-right (ltb i (length b))
     (eqb x (getD b i 0)) h)
   where
@@ -74,16 +74,16 @@ has-at b i x h = go b i (ltb-true i (length b) (and-left (ltb i (length b)) (eqb
 
 module _ (a b : List ℕ) where
   abbrev inBoth : ℕ → Bool
-  inBoth i = has b (getD a i 0)
+  inBoth i = hasRecord b (getD a i 0)
 
   sameHas : (i : ℕ) → sameAt a b i ≡ true → inBoth i ≡ true
   unfolding sameAt
   sameHas i h = has-at b i (getD a i 0) h
 
   -- in both is same or moved
-  pub both-is : same a b + moved a b ≡ count (has b) a
+  pub both-is : same a b + moved a b ≡ count (hasRecord b) a
   unfolding movedAt
-  both-is = shared (length a) (sameAt a b) (movedAt a b) inBoth (λ i. go i (sameAt a b i) refl (inBoth i) refl) ∙ indexed (has b) a
+  both-is = shared (length a) (sameAt a b) (movedAt a b) inBoth (λ i. go i (sameAt a b i) refl (inBoth i) refl) ∙ indexed (hasRecord b) a
     where
       go : (i : ℕ) (t : Bool) → sameAt a b i ≡ t → (u : Bool) → inBoth i ≡ u → cond (sameAt a b i) 1 0 + cond
           (movedAt a b i) 1 0 ≡ cond (inBoth i) 1 0
@@ -92,9 +92,9 @@ module _ (a b : List ℕ) where
       go i false e true f = rw (e, f) refl
       go i false e false f = rw (e, f) refl
 
-  pub only-is : count (has b) a + firstOnly a b ≡ length a
+  pub only-is : count (hasRecord b) a + firstOnly a b ≡ length a
   unfolding onlyAt
-  only-is = ap (λ (n : ℕ). n + firstOnly a b) (sym (indexed (has b) a)) ∙ shared (length a) inBoth (onlyAt a b) (λ i. true) (λ i. go
+  only-is = ap (λ (n : ℕ). n + firstOnly a b) (sym (indexed (hasRecord b) a)) ∙ shared (length a) inBoth (onlyAt a b) (λ i. true) (λ i. go
       (inBoth i)) ∙ every (length a)
     where
       go : (t : Bool) → cond t 1 0 + cond (not t) 1 0 ≡ 1
@@ -113,8 +113,8 @@ none p [] h = refl
 none p (y ∷ b) h = rw (or-left (p y) (any p b) h) (let e = none p b (or-right (p y) (any p b) h) in omega arith)
 
 -- a number counted in a list without repeats
-pub once : (x : ℕ) (b : List ℕ) → twoOf eqb b ≡ false → count (eqb x) b ≡ cond (has b x) 1 0
-unfolding twoOf has count any
+pub once : (x : ℕ) (b : List ℕ) → twoOf eqb b ≡ false → count (eqb x) b ≡ cond (hasRecord b x) 1 0
+unfolding twoOf hasRecord count any
 once x [] h = refl
 once x (y ∷ b) h = go (eqb x y) refl (once x b (or-right (any (eqb y) b) (twoOf eqb b) h))
   where
@@ -127,29 +127,29 @@ once x (y ∷ b) h = go (eqb x y) refl (once x b (or-right (any (eqb y) b) (twoO
     go false e r = rw e (omega arith)
 
 -- one more number of the other list
-more : (x : ℕ) (a b : List ℕ) → has a x ≡ false → count (has (x ∷ a)) b ≡ count (eqb x) b + count (has a) b
-unfolding has count any
+more : (x : ℕ) (a b : List ℕ) → hasRecord a x ≡ false → count (hasRecord (x ∷ a)) b ≡ count (eqb x) b + count (hasRecord a) b
+unfolding hasRecord count any
 more x a [] h = refl
 more x a (y ∷ b) h = go (eqb x y) refl (any (eqb y) a) refl (more x a b h)
   where
-    go : (t : Bool) → eqb x y ≡ t → (u : Bool) → any (eqb y) a ≡ u → count (has (x ∷ a)) b ≡ count (eqb x) b + count (has a) b
-        → cond (eqb y x || any (eqb y) a) 1 0 + count (has (x ∷ a)) b ≡ cond (eqb x y) 1 0 + count (eqb x) b + (cond (any
-        (eqb y) a) 1 0 + count (has a) b)
+    go : (t : Bool) → eqb x y ≡ t → (u : Bool) → any (eqb y) a ≡ u → count (hasRecord (x ∷ a)) b ≡ count (eqb x) b + count (hasRecord a) b
+        → cond (eqb y x || any (eqb y) a) 1 0 + count (hasRecord (x ∷ a)) b ≡ cond (eqb x y) 1 0 + count (eqb x) b + (cond (any
+        (eqb y) a) 1 0 + count (hasRecord a) b)
     go true e true f r = both-ways f (ap (λ (n : ℕ). any (eqb n) a) (sym (eqb-true x y e)) ∙ h)
     go true e false f r = rw (sym (eqb-turned x y), e, f) (omega arith)
     go false e true f r = rw (sym (eqb-turned x y), e, f) (omega arith)
     go false e false f r = rw (sym (eqb-turned x y), e, f) (omega arith)
 
-pub nothing : (b : List ℕ) → count (has []) b ≡ 0
-unfolding has count any
+pub nothing : (b : List ℕ) → count (hasRecord []) b ≡ 0
+unfolding hasRecord count any
 nothing [] = refl
 nothing (y ∷ b) = let e = nothing b in omega arith
 
-alone : (x : ℕ) (a : List ℕ) → any (eqb x) a ≡ false → has a x ≡ false
-unfolding has
+alone : (x : ℕ) (a : List ℕ) → any (eqb x) a ≡ false → hasRecord a x ≡ false
+unfolding hasRecord
 alone x a e = e
 
-pub both-turned : (a b : List ℕ) → twoOf eqb a ≡ false → twoOf eqb b ≡ false → count (has b) a ≡ count (has a) b
+pub both-turned : (a b : List ℕ) → twoOf eqb a ≡ false → twoOf eqb b ≡ false → count (hasRecord b) a ≡ count (hasRecord a) b
 unfolding twoOf count
 both-turned [] b g h = sym (nothing b)
 both-turned (x ∷ a) b g h =

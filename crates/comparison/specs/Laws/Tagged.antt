@@ -12,7 +12,7 @@ use Rattle.lists.specs.Laws.Lists.{count-append}
 use Rattle.lists.specs.Reordered.{member}
 use Rattle.comparison.specs.Matched.{paired, matched}
 use Rattle.comparison.specs.Tagged.{tagged}
-use Rattle.comparison.specs.Compare.{has}
+use Rattle.comparison.specs.Compare.{hasRecord}
 
 none-odd : (x : ℕ) (a : List ℕ) → count (λ y. eqb y (tagged 0 x + 1)) (map (tagged 0) a) ≡ 0
 unfolding count
@@ -43,8 +43,8 @@ module _ (a b : List ℕ) where
   abbrev both : List ℕ
   both = map (tagged 0) a ++ map (tagged 1) b
 
-  even-one : (x : ℕ) → paired both (tagged 0 x) ≡ has b x
-  unfolding paired member has
+  even-one : (x : ℕ) → paired both (tagged 0 x) ≡ hasRecord b x
+  unfolding paired member hasRecord
   even-one x =
       let sum : count (λ y. eqb y (tagged 0 x + 1)) both ≡ count (λ y. eqb y (tagged 0 x + 1)) (map (tagged 1) b) =
       count-append (λ y. eqb y (tagged 0 x + 1)) (map (tagged 0) a) (map (tagged 1) b)
@@ -56,17 +56,17 @@ module _ (a b : List ℕ) where
   unfolding paired
   odd-one x = rw (ne-eqb (tagged 1 x % 2) 0 (λ h. omega arith)) refl
 
-  evens : (l : List ℕ) → count (paired both) (map (tagged 0) l) ≡ count (has b) l
+  evens : (l : List ℕ) → count (paired both) (map (tagged 0) l) ≡ count (hasRecord b) l
   unfolding count
   evens [] = refl
-  evens (x ∷ l) = rw (even-one x) (ap (λ (n : ℕ). cond (has b x) 1 0 + n) (evens l))
+  evens (x ∷ l) = rw (even-one x) (ap (λ (n : ℕ). cond (hasRecord b x) 1 0 + n) (evens l))
 
   odds : (l : List ℕ) → count (paired both) (map (tagged 1) l) ≡ 0
   unfolding count
   odds [] = refl
   odds (x ∷ l) = rw (odd-one x) (let e = odds l in omega arith)
 
-  pub matched-both : matched (map (tagged 0) a ++ map (tagged 1) b) ≡ count (has b) a
+  pub matched-both : matched (map (tagged 0) a ++ map (tagged 1) b) ≡ count (hasRecord b) a
   unfolding matched
   matched-both =
       let e = count-append (paired both) (map (tagged 0) a) (map (tagged 1) b) in

@@ -13,7 +13,7 @@ use Rattle.grammar.specs.Parser.{closing}
 use Rattle.steps.specs.Laws.Step.{at-byte}
 use Rattle.nodes.specs.Places.{pick}
 use Rattle.nodes.specs.Scan.{Quoted, quoting, finishes, finish, tag-from}
-use Rattle.nodes.specs.ScanSteps.{tagged}
+use Rattle.nodes.specs.ScanSteps.{tagTold}
 use Rattle.nodes.specs.Laws.Scan.{Tagging, tag-start, tag-none, tag-stops, tag-goes, tag-jumps, quote-from}
 use Rattle.nodes.specs.declared.scan.Tag.{Tag}
 use Rattle.nodes.specs.declared.scan.Tag.the-variants as tag-is
@@ -155,7 +155,7 @@ pub ruleset near-then-far = (near-turns, near-far, needs)
 
 -- A TAG THAT ENDS HERE
 pub sign-now : (text : List ℕ) (at : ℕ) → at < length text → {c : Bool} → c ≡ closing (getD text at 0) → c ≡ true → {r : Tag}
-    → r ≡ tagged (length text) (finish (getD text at 0) (drop (at + 1) text)) → r ≡ tagged (length text) (tag-from 0 (drop at text))
+    → r ≡ tagTold (length text) (finish (getD text at 0) (drop (at + 1) text)) → r ≡ tagTold (length text) (tag-from 0 (drop at text))
 unfolding finishes
 sign-now text at u e y z = tag-stops text at 0 at (tag-start text at) u e y z
 
@@ -163,12 +163,12 @@ pub ruleset tag-now = (sign-now, needs)
 
 -- THE REST OF A TAG
 module _ {text : List ℕ} {at i j : ℕ} (t : Tagging text at 0 i) (s : Turning text 0 i j) where
-  pub sign-none : length text ≤ j → tag-is.No ≡ tagged (length text) (tag-from 0 (drop at text))
+  pub sign-none : length text ≤ j → tag-is.No ≡ tagTold (length text) (tag-from 0 (drop at text))
   sign-none h = tag-none text at 0 j (tag-jumps t (s .goes)) h
 
   module _ (u : j < length text) {c : Bool} (e : c ≡ closing (getD text j 0)) where
-    pub sign-ends : c ≡ true → {r : Tag} → r ≡ tagged (length text) (finish (getD text j 0) (drop (j + 1) text))
-        → r ≡ tagged (length text) (tag-from 0 (drop at text))
+    pub sign-ends : c ≡ true → {r : Tag} → r ≡ tagTold (length text) (finish (getD text j 0) (drop (j + 1) text))
+        → r ≡ tagTold (length text) (tag-from 0 (drop at text))
     unfolding finishes
     sign-ends y z = tag-stops text at 0 j (tag-jumps t (s .goes)) u e y z
 
@@ -186,7 +186,7 @@ module _ {text : List ℕ} {at i j : ℕ} (t : Tagging text at 0 i) (s : Turning
       opens = tag-goes text at 0 j (tag-jumps t (s .goes)) u e f (rw is-quote)
 
       module _ {k : ℕ} (v : Turning text (getD text j 0) (j + 1) k) where
-        pub value-none : length text ≤ k → tag-is.No ≡ tagged (length text) (tag-from 0 (drop at text))
+        pub value-none : length text ≤ k → tag-is.No ≡ tagTold (length text) (tag-from 0 (drop at text))
         value-none h = tag-none text at _ k (tag-jumps opens (v .goes)) h
 
         pub value-less : k < length text → length text - (k + 1) < length text - i

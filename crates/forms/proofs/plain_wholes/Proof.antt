@@ -1,11 +1,11 @@
 use Rattle.nodes.specs.Texts.{left}
-use Rattle.forms.specs.Passed.{Passed}
+use Rattle.forms.specs.Passed.{NumbersPassed}
 use Rattle.forms.specs.Laws.Passed.{passing}
 use Rattle.forms.proofs.plain_wholes.Statement.{statement}
 use Rattle.forms.proofs.plain_wholes.Tie as tie
 
 abbrev Inv-loop : tie.InvT-loop
-Inv-loop text at most i₀ i = Passed text at most i
+Inv-loop text at most i₀ i = NumbersPassed text at most i
 
 abbrev μ-loop : tie.MeasureT-loop
 μ-loop text at most i₀ i = left text i

@@ -10,20 +10,20 @@ use Rattle.numbers.specs.Quick.{Quick}
 use Rattle.numbers.specs.Laws.Walk.{number-law}
 use Rattle.numbers.specs.declared.Next.{Next}
 use Rattle.numbers.specs.declared.Next.the-variants.{Number}
-use Rattle.forms.specs.Passed.{Passed}
+use Rattle.forms.specs.Passed.{NumbersPassed}
 use Rattle.forms.specs.Laws.Forms.{Listing, listing-start, listing-end, listing-bad, listing-less, listing-many, listing-on}
 
-pub passed-start : (text : List ℕ) (at most : ℕ) → Passed text at most at
+pub passed-start : (text : List ℕ) (at most : ℕ) → NumbersPassed text at most at
 passed-start text at most = record { same-list = refl; ahead = omega arith }
 
-module _ {text : List ℕ} {at most i : ℕ} (go : Passed text at most i) {q : ℕ} (h : Quick text i q) (n : q ≡ 0 → ⊥) where
+module _ {text : List ℕ} {at most i : ℕ} (go : NumbersPassed text at most i) {q : ℕ} (h : Quick text i q) (n : q ≡ 0 → ⊥) where
   pub passed-fits : i + q % 16 < 2 ^ 64
   passed-fits = h .fits n
 
   pub passed-less : left text (i + q % 16) < left text i
   passed-less = listing-less (listing-start text i most) (h .told n) refl
 
-  pub passed-on : q / 16 ≤ most → Passed text at most (i + q % 16)
+  pub passed-on : q / 16 ≤ most → NumbersPassed text at most (i + q % 16)
   passed-on m = record {
     same-list = go .same-list ∙ listing-on (listing-start text i most) (h .told n) refl m .same-list;
     ahead = let k = number-law text i (h .told n) refl in omega (arith, go .ahead, k .ahead);
@@ -31,7 +31,7 @@ module _ {text : List ℕ} {at most i : ℕ} (go : Passed text at most i) {q : �
 
 pub ruleset passing = (passed-start, passed-fits, passed-less, passed-on, needs)
 
-module _ {text : List ℕ} {at most i from : ℕ} (go : Listing text at most i) (p : Passed text i most from) where
+module _ {text : List ℕ} {at most i from : ℕ} (go : Listing text at most i) (p : NumbersPassed text i most from) where
   pub listing-passed : Listing text at most from
   listing-passed = record { same-list = go .same-list ∙ p .same-list }
 

@@ -14,10 +14,10 @@ use lib.Seq.{slice, take-take, getD-take, length-take-le}
 use borrow.Author.Tests.{lt-ltb, le-ltb, le-leb, lt-leb}
 use Rattle.lists.specs.Lists.{allBelow}
 use Rattle.lists.specs.Refusals.{first}
-use Rattle.nifti.specs.Fields.{numberAt, signed, atLeast}
-use Rattle.nifti.specs.Extensions.{Extension, Body, Listed}
+use Rattle.nifti.specs.Fields.{numberAt, signed, fieldAtLeast}
+use Rattle.nifti.specs.Extensions.{Extension, Body, ExtensionList}
 use Rattle.nifti.specs.File.{orderOf, magic, dim, offset, extender, listStart, sizeStands, magicAt, offsetStands, frontStands, noFront}
-use Rattle.nifti.specs.File.{lengthCount, oneAt, lengthStands, dimsStand, lengthAt, textOf, conditionsOfFile, acceptedFront, frontBy}
+use Rattle.nifti.specs.File.{lengthCount, oneAt, lengthStands, dimsStand, lengthAt, textBody, conditionsOfFront, acceptedFront, frontBy}
 use Rattle.nifti.specs.File.{frontTo, Fronts, ListOf, list, listed}
 use Rattle.nifti.specs.Model.{cut, cutTo, listIn, frontOf}
 use Rattle.nifti.specs.Laws.Header.{count-few}
@@ -88,8 +88,8 @@ module _ {x y : List ℕ} (a : Alike x y) where
   by-alike (suc n) o = refl
 
   pub to-alike : (l : Option (List Extension)) → frontTo x l ≡ frontTo y l
-  unfolding frontTo conditionsOfFile
-  to-alike l = rw (no-front-alike, dims-alike) (by-alike _ (textOf l))
+  unfolding frontTo conditionsOfFront
+  to-alike l = rw (no-front-alike, dims-alike) (by-alike _ (textBody l))
 
 -- ---- ORDERS-ALIKE: a header and a list that are written in one order and in the other have the same number, lengths and part.
 
@@ -100,6 +100,6 @@ orders-alike {x} {y} {l} a p q r s =
 
 -- the same list is written in both, where the extender is the same and the bytes up to the data offset write it, each in its order
 pub lists-alike : {x y : List ℕ} {end : ℕ} {es : List Extension} → Alike x y → (extender x ≡ 0 → ⊥) → extender x ≡ extender y
-    → offset x ≡ pos end → end ≤ length x → end ≤ length y → Listed (orderOf x) es (slice listStart end x)
-    → Listed (orderOf y) es (slice listStart end y) → ListOf x (some es) × ListOf y (some es)
+    → offset x ≡ pos end → end ≤ length x → end ≤ length y → ExtensionList (orderOf x) es (slice listStart end x)
+    → ExtensionList (orderOf y) es (slice listStart end y) → ListOf x (some es) × ListOf y (some es)
 lists-alike a z e o i j h k = (list (listed z o i h), list (listed (λ w. z (e ∙ w)) (sym (offset-alike a) ∙ o) j k))

@@ -16,8 +16,8 @@ use Rattle.lists.specs.Laws.Booleans.{refute, never-some}
 use Rattle.records.specs.Bytes.{Below}
 use Rattle.records.specs.Laws.Bytes.{drop-below}
 use Rattle.nifti.specs.Fields.{numberAt}
-use Rattle.nifti.specs.Extensions.{Extension, sizeOf, written, Good, Listed, nothing, next}
-use Rattle.nifti.specs.Model.{goodSize, extensionIn, onward, cut}
+use Rattle.nifti.specs.Extensions.{Extension, sizeOf, written, GoodExtension, ExtensionList, nothing, next}
+use Rattle.nifti.specs.Model.{goodSize, extensionIn, oneMoreIf, cut}
 use Rattle.nifti.specs.Laws.Lists.{Fits, size-fits, cut-bad, written-size, found-next, found-good, found-joined, size-is, list-found}
 use Rattle.nifti.specs.Laws.Walk.{number-within}
 use Rattle.nifti.specs.declared.Order.{Order}
@@ -31,7 +31,7 @@ pub data Breaks (o : Order) : (left : ℕ) → List ℕ → Type 0 where
   size-broken : {left : ℕ} {s : List ℕ} → 0 < left → (numberAt o 4 0 s % 16 ≡ 0 → ⊥) → Breaks o left s
   past-offset : {left : ℕ} {s : List ℕ} → 0 < left → left < numberAt o 4 0 s → Breaks o left s
   past-end : {left : ℕ} {s : List ℕ} → 0 < left → length s < numberAt o 4 0 s → Breaks o left s
-  later : {left : ℕ} {e : Extension} {t : List ℕ} → Good e → sizeOf e ≤ left → Breaks o (left - sizeOf e) t
+  later : {left : ℕ} {e : Extension} {t : List ℕ} → GoodExtension e → sizeOf e ≤ left → Breaks o (left - sizeOf e) t
       → Breaks o left (written o e ++ t)
 
 -- ---- Where it breaks no list is found.
@@ -53,11 +53,11 @@ module _ (o : Order) (left : ℕ) (s : List ℕ) (inside : left ≤ length s) (s
           let e : numberAt o 4 0 (take left s) ≡ numberAt o 4 0 s = number-within o 4 0 left s (omega arith) in
           record { low = omega arith; inside = omega arith; high = rw (← e) (f .high); whole = rw (← e) (f .whole) }
 
-onward-none : (e : Extension) {l : Option (List Extension)} → l ≡ Option.none → onward true e l ≡ Option.none
-unfolding onward
+onward-none : (e : Extension) {l : Option (List Extension)} → l ≡ Option.none → oneMoreIf true e l ≡ Option.none
+unfolding oneMoreIf
 onward-none e h = rw h
 
-take-one : (o : Order) (e : Extension) (g : Good e) (t : List ℕ) (left : ℕ) → sizeOf e ≤ left
+take-one : (o : Order) (e : Extension) (g : GoodExtension e) (t : List ℕ) (left : ℕ) → sizeOf e ≤ left
     → take left (written o e ++ t) ≡ written o e ++ take (left - sizeOf e) t
 take-one o e g t left h =
     let b = written-size o e g t in
@@ -81,7 +81,7 @@ broken-none {o} {left} (later {e = e} {t = t} g k b) i =
 -- ---- A list is written, or it breaks.
 
 pub data Either (o : Order) (left : ℕ) (s : List ℕ) : Type 0 where
-  written-to : {es : List Extension} → left ≤ length s → Listed o es (take left s) → Either o left s
+  written-to : {es : List Extension} → left ≤ length s → ExtensionList o es (take left s) → Either o left s
   broken : Breaks o left s → Either o left s
 
 module _ (o : Order) (left : ℕ) (s : List ℕ) (b : Below 256 s) (some-left : 0 < left) (room : 16 ≤ left) (f : Fits (numberAt o 4 0 s) left)
@@ -96,7 +96,7 @@ module _ (o : Order) (left : ℕ) (s : List ℕ) (b : Below 256 s) (some-left : 
       let e = size-is o s fits-all in
       let j = f .inside in
       let d = length-drop (numberAt o 4 0 s) s in
-      written-to (omega arith) (subst (λ x. Listed o (extensionIn o s ∷ es) (take left x)) (found-joined o s b fits-all)
+      written-to (omega arith) (subst (λ x. ExtensionList o (extensionIn o s ∷ es) (take left x)) (found-joined o s b fits-all)
       (rw (take-one o (extensionIn o s) g (drop n s) left (rw e j), e) (next g l)))
   more (broken k) =
       let g = found-good o s b fits-all in
@@ -129,9 +129,9 @@ either-way o left s b = either-by left o left s (omega arith) b
 
 -- ---- THE FOUR CASES: it breaks just where no list is written.
 pub breaks-iff : (o : Order) (left : ℕ) (s : List ℕ) → Below 256 s
-    → Breaks o left s ↔ ((es : List Extension) → left ≤ length s → ¬ Listed o es (take left s))
+    → Breaks o left s ↔ ((es : List Extension) → left ≤ length s → ¬ ExtensionList o es (take left s))
 breaks-iff o left s b = (λ k es i l. never-some (sym (broken-none k i) ∙ list-found l), λ h. go h (either-way o left s b))
   where
-    go : ((es : List Extension) → left ≤ length s → ¬ Listed o es (take left s)) → Either o left s → Breaks o left s
+    go : ((es : List Extension) → left ≤ length s → ¬ ExtensionList o es (take left s)) → Either o left s → Breaks o left s
     go h (broken k) = k
     go h (written-to {es} i l) = absurd (h es i l)

@@ -15,10 +15,10 @@ use lib.Seq.{slice, take-take, getD-take, length-take-le}
 use borrow.Author.Tests.{lt-ltb, le-ltb, le-leb, lt-leb}
 use Rattle.lists.specs.Lists.{allBelow}
 use Rattle.lists.specs.Refusals.{first}
-use Rattle.nifti.specs.Fields.{numberAt, signed, atLeast}
+use Rattle.nifti.specs.Fields.{numberAt, signed, fieldAtLeast}
 use Rattle.nifti.specs.Extensions.{Extension, Body}
 use Rattle.nifti.specs.File.{orderOf, magic, dim, offset, extender, listStart, sizeStands, magicAt, offsetStands, frontStands, noFront}
-use Rattle.nifti.specs.File.{lengthCount, oneAt, lengthStands, dimsStand, lengthAt, textOf, conditionsOfFile, acceptedFront, frontBy}
+use Rattle.nifti.specs.File.{lengthCount, oneAt, lengthStands, dimsStand, lengthAt, textBody, conditionsOfFront, acceptedFront, frontBy}
 use Rattle.nifti.specs.File.{frontTo, refusedFront}
 use Rattle.nifti.specs.Model.{cut, cutTo, listIn, frontOf}
 use Rattle.nifti.specs.Laws.Walk.{number-within}
@@ -81,9 +81,9 @@ module _ (file : List ℕ) (end : ℕ) (inside : end ≤ length file) where
 
   -- a data offset below the list: both are refused
   below-front : offset file ≡ pos end → end < 544 → noFront file ≡ true
-  unfolding noFront frontStands offsetStands atLeast
+  unfolding noFront frontStands offsetStands fieldAtLeast
   below-front e h = go (ltb (length file) 544) (sizeStands file) (allBelow 8 (magicAt file))
-      (ap (atLeast 544) e ∙ lt-leb 544 end h)
+      (ap (fieldAtLeast 544) e ∙ lt-leb 544 end h)
     where
       go : (a b c : Bool) {d : Bool} → d ≡ false → (a || not (b && (c && d))) ≡ true
       go true b c q = refl
@@ -92,7 +92,7 @@ module _ (file : List ℕ) (end : ℕ) (inside : end ≤ length file) where
       go false false c q = refl
 
   refused-20 : (s : List ℕ) → noFront s ≡ true → frontOf s ≡ refusedFront 20
-  unfolding frontOf frontTo conditionsOfFile first frontBy
+  unfolding frontOf frontTo conditionsOfFront first frontBy
   refused-20 s h = rw h
 
   below-same : offset file ≡ pos end → end < 544 → frontOf short ≡ frontOf file

@@ -11,7 +11,7 @@ use Rattle.lists.specs.Laws.Booleans.{and-left, and-right, both-ways}
 use Rattle.grammar.specs.Bytes.{ascii}
 use Rattle.grammar.specs.Document.{Element}
 use Rattle.grammar.specs.Look.{Word, is, nameOf, attributesOf, contentsOf, valueIn, orEmpty, attr, has, elements, children, textOf}
-use Rattle.grammar.specs.Parser.{same}
+use Rattle.grammar.specs.Parser.{sameBytes}
 use Rattle.numbers.specs.Numbers.{whole, keyList}
 use Rattle.base64.specs.Base64.{coded}
 use Rattle.schema.specs.Schema.{anyValue, word, number, AttributeRow, required, optional, ChildRow, child, once, atMostOnce}
@@ -75,7 +75,7 @@ of-cifti {k} {e} g = record {
 }
 
 meta-table : is "MetaData" (ascii "LabelTable") ≡ false
-unfolding is same
+unfolding is sameBytes
 meta-table = refl
 
 table-kind : (e : Element) → GoodAs giftiRows rootRows e → is "LabelTable" (nameOf e) ≡ true → Good giftiRows (ofCifti labelTable) e
@@ -103,7 +103,7 @@ abbrev arrayRows : GiftiKind → List (ChildRow GiftiKind)
 arrayRows k = child "MetaData" atMostOnce (always (ofCifti metaData)) ∷ child "Data" once (always k) ∷ []
 
 meta-data : is "MetaData" (ascii "Data") ≡ false
-unfolding is same
+unfolding is sameBytes
 meta-data = refl
 
 data-kind : (k : GiftiKind) (e : Element) → GoodAs giftiRows (arrayRows k) e → is "Data" (nameOf e) ≡ true → Good giftiRows k e
@@ -160,20 +160,20 @@ good-coded {a} g c =
     }
 
 meta-array : is "MetaData" (ascii "DataArray") ≡ false
-unfolding is same
+unfolding is sameBytes
 meta-array = refl
 
 table-array : is "LabelTable" (ascii "DataArray") ≡ false
-unfolding is same
+unfolding is sameBytes
 table-array = refl
 
 coded-ascii : is "Base64Binary" (ascii "ASCII") ≡ false
-unfolding is same
+unfolding is sameBytes
 coded-ascii = refl
 
 -- no value chooses no encoding that is read
 none-read : (is "ASCII" [] ≡ false) × (is "Base64Binary" [] ≡ false)
-unfolding is same
+unfolding is sameBytes
 none-read = (refl, refl)
 
 good-array : (a : Element) → GoodAs giftiRows rootRows a → is "DataArray" (nameOf a) ≡ true → arrayRead a ≡ true → GoodArray a

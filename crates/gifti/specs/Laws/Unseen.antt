@@ -17,7 +17,7 @@ use Rattle.grammar.specs.Laws.Plain.{plain, name-erased, attr-erased, has-erase
 use Rattle.numbers.specs.Numbers.{value}
 use Rattle.schema.specs.Schema.{shaped, numbered}
 use Rattle.schema.specs.Laws.Erased.{walk-erased, shaped-erased, numbered-erased}
-use Rattle.cifti.specs.LabelTable.{tableKeys, keyTwice}
+use Rattle.cifti.specs.LabelTable.{tableKeys, keyTwiceIn}
 use Rattle.cifti.specs.Conditions.{noDocument}
 use Rattle.cifti.specs.Labels.{overwritten}
 use Rattle.cifti.specs.Laws.Text.{Unseeing}
@@ -118,13 +118,13 @@ arrays-erased : (e : Element) → arraysWrong (plain e) ≡ arraysWrong e
 unfolding arraysWrong arraysOf arraysSaid
 arrays-erased e = rw (count-blind "DataArray" e, attr-erased "NumberOfDataArrays" e) refl
 
-twice-blind : (t : Element) → keyTwice (plain t) ≡ keyTwice t
-unfolding keyTwice
+twice-blind : (t : Element) → keyTwiceIn (plain t) ≡ keyTwiceIn t
+unfolding keyTwiceIn
 twice-blind t = rw (keys-erased t) refl
 
 twice-erased : (e : Element) → labelTwice (plain e) ≡ labelTwice e
 unfolding labelTwice labelTables
-twice-erased e = any-blind "LabelTable" keyTwice twice-blind e
+twice-erased e = any-blind "LabelTable" keyTwiceIn twice-blind e
 
 no-array-erased : (i : ℕ) (e : Element) → noArray i (plain e) ≡ noArray i e
 unfolding noArray arraysOf

@@ -14,7 +14,7 @@ use borrow.Author.Needs.{needs}
 use Rattle.grammar.specs.Bytes.{ascii}
 use Rattle.grammar.specs.Document.{Element}
 use Rattle.grammar.specs.Look.{is, nameOf, attr, has, contentsOf, elements, children, textOf}
-use Rattle.grammar.specs.Parser.{same}
+use Rattle.grammar.specs.Parser.{sameBytes}
 use Rattle.nodes.specs.Places.{Stands, the}
 use Rattle.nodes.specs.Found.{value-at-name}
 use Rattle.nodes.specs.Laws.Found.{has-law}
@@ -43,7 +43,7 @@ use Rattle.gifti_arrays.specs.Ready.{ArrayHere}
 use Rattle.known_keys.specs.Known.{knownIn}
 use Rattle.known_keys.specs.Known.{codesOf}
 use Rattle.gifti_arrays.specs.Tally.{Tallied}
-use Rattle.gifti_arrays.specs.Arrays.{encodingOf, orStart, dataAt, spareOf, Noted, ToldArray}
+use Rattle.gifti_arrays.specs.Arrays.{encodingOf, orStart, dataAt, spareOf, ArrayNoted, ToldArray}
 use Rattle.gifti_arrays.specs.declared.array.ArrayNote.{ArrayNote}
 use Rattle.gifti_arrays.specs.declared.tally.Tally.{Tally}
 
@@ -75,7 +75,7 @@ module _ {text : List ℕ} {f : Found} {a : Element} (g : Agrees text f (some a)
 -- ---- The encoding.
 
 module _ {text : List ℕ} {at : ℕ} (st : Stands text at) {b : Bool}
-    (p : b ≡ same (value-at-name text at (ascii "Encoding")) (ascii "Base64Binary")) where
+    (p : b ≡ sameBytes (value-at-name text at (ascii "Encoding")) (ascii "Base64Binary")) where
   coded-so : isCoded (the text at) ≡ b
   unfolding isCoded
   coded-so = sym (p ∙ has-law "Encoding" "Base64Binary" st)
@@ -84,7 +84,7 @@ module _ {text : List ℕ} {at : ℕ} (st : Stands text at) {b : Bool}
   unfolding encodingOf
   encoding-plain f = sym (rw (coded-so ∙ f) refl)
 
-  module _ (t : b ≡ true) {c : Bool} (q : c ≡ same (value-at-name text at (ascii "Endian")) (ascii "BigEndian")) where
+  module _ (t : b ≡ true) {c : Bool} (q : c ≡ sameBytes (value-at-name text at (ascii "Endian")) (ascii "BigEndian")) where
     big-so : has "Endian" "BigEndian" (the text at) ≡ c
     big-so = sym (q ∙ has-law "Endian" "BigEndian" st)
 
@@ -139,7 +139,7 @@ fills-so a = go (isCoded a)
 
 -- ---- What is told of the array.
 
-module _ {text : List ℕ} {a : Element} {n : ArrayNote} (o : Noted text a n) {codes : List ℕ} {t : Tally}
+module _ {text : List ℕ} {a : Element} {n : ArrayNote} (o : ArrayNoted text a n) {codes : List ℕ} {t : Tally}
     (c : Tallied (n .encoding) text (keysStart text (n .from)) codes t) where
   keys-so : t .keys ≡ length (arrayKeys a)
   keys-so = c .counted ∙ ap length (o .keys-are)
@@ -215,7 +215,7 @@ module _ {text : List ℕ} {at : ℕ} (h : ArrayHere text at) where
 
   pub noted-so : {d : ℕ} → d ≡ dataAt text at → {e : Encoding} → e ≡ encodingOf (the text at) → {n : ℕ}
       → (Stands text at → n ≡ numberSeen 1 1048576 (attributeWord (ascii "Dim0") (the text at)))
-      → Noted text (the text at) (record { from = d; encoding = e; count = n })
+      → ArrayNoted text (the text at) (record { from = d; encoding = e; count = n })
   unfolding dim0
   noted-so {d} p {e} q {n} s =
       let said : n ≡ value (attr "Dim0" (the text at)) = s (h .stands) ∙ ap (numberSeen 1 1048576) (word-at "Dim0" (the text at))

@@ -16,7 +16,7 @@ use Rattle.grammar.specs.Look.{is, nameOf, contentsOf, elements, children}
 use Rattle.nodes.specs.Places.{the}
 use Rattle.nodes.specs.Names.{named}
 use Rattle.nodes.specs.Laws.Names.{name-is-law}
-use Rattle.nodes.specs.Children.{first, next}
+use Rattle.nodes.specs.Children.{firstChild, next}
 use Rattle.nodes.specs.Laws.Children.{left}
 use Rattle.nodes.specs.Laws.Along.{Along, along-start, along-done, along-stands, along-here, along-less, along-next, children-few}
 use Rattle.nodes.specs.declared.Kid.{Kid}
@@ -31,7 +31,7 @@ use Rattle.gifti.specs.Arrays.{arraysOf, arrayKeys, fillsDim0}
 use Rattle.known_keys.specs.Known.{codesOf}
 use Rattle.gifti.specs.Held.{GoodArray, GoodArrays, one-array}
 use Rattle.gifti_arrays.specs.Ready.{ArrayAsked, ArraysAsked}
-use Rattle.gifti_arrays.specs.Arrays.{ToldArray, keysOfAll, ToldAll}
+use Rattle.gifti_arrays.specs.Arrays.{ToldArray, keysOfAll, ArraysTold}
 use Rattle.gifti_arrays.specs.declared.array.ArrayTold.{ArrayTold}
 
 -- ---- Keys in a row.
@@ -79,7 +79,7 @@ pub record Summed (text : List ℕ) (e : Element) (codes : List ℕ) (arrays : �
   pub known-few : known ≤ keys
 
 summed-up : {text : List ℕ} {e : Element} {codes : List ℕ} {arrays : ℕ} {fit : Bool} {keys known : ℕ}
-    → Summed text e codes arrays fit keys known [] → ToldAll e codes (record { arrays = arrays; fit = fit; keys = keys; known = known })
+    → Summed text e codes arrays fit keys known [] → ArraysTold e codes (record { arrays = arrays; fit = fit; keys = keys; known = known })
 unfolding those keysOfAll eachIn codesOf each knownIn count all
 summed-up {fit = fit} s =
     let m = s .many in
@@ -101,7 +101,7 @@ abbrev pub Walking : (text : List ℕ) (e : Element) (codes : List ℕ) (arrays 
 Walking text e codes arrays fit keys known kid = Along text (Summed text e codes arrays fit keys known) kid
 
 pub walking-start : {text : List ℕ} {root : ℕ} {codes : List ℕ} → ArraysAsked text root codes → {kid : Kid}
-    → kid ≡ first text root → Walking text (the text root) codes 0 true 0 0 kid
+    → kid ≡ firstChild text root → Walking text (the text root) codes 0 true 0 0 kid
 unfolding arraysOf children
 walking-start {text} {root} a e =
     let h = a .here in
@@ -125,7 +125,7 @@ walking-start {text} {root} a e =
 
 module _ {text : List ℕ} {e : Element} {codes : List ℕ} {arrays : ℕ} {fit : Bool} {keys known : ℕ} {kid : Kid}
     (go : Walking text e codes arrays fit keys known kid) where
-  pub walking-done : kid ≡ Done → ToldAll e codes (record { arrays = arrays; fit = fit; keys = keys; known = known })
+  pub walking-done : kid ≡ Done → ArraysTold e codes (record { arrays = arrays; fit = fit; keys = keys; known = known })
   walking-done h = summed-up (along-done go h)
 
   module _ {k : ℕ} (is-child : kid ≡ Child k) where

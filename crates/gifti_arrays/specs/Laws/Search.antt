@@ -24,7 +24,7 @@ use Rattle.gifti.specs.Arrays.{arraysOf}
 use Rattle.gifti_opening.specs.Passed.{ArraysHere}
 use Rattle.known_keys.specs.Known.{codesOf}
 use Rattle.gifti_arrays.specs.Ready.{ArraysAsked, TableHere}
-use Rattle.gifti_arrays.specs.Arrays.{keysOfAll, ToldAll, Room}
+use Rattle.gifti_arrays.specs.Arrays.{keysOfAll, ArraysTold, Room}
 use Rattle.gifti_arrays.specs.Laws.Arrays.{known-most}
 use Rattle.gifti_arrays.specs.declared.arrays.Told.{Told}
 
@@ -74,7 +74,7 @@ module _ {text : List ℕ} {root table : ℕ} {work₀ work : List ℕ} {known :
   pub searching-less : {k : ℕ} → next ≡ Child k → length (toCome text next) < length (toCome text kid)
   searching-less e = let r = go .room .some in less-by kid t (omega arith) e
 
-  module _ {told : Told} (o : ToldAll (the text root) (take n work₁) told) where
+  module _ {told : Told} (o : ArraysTold (the text root) (take n work₁) told) where
     found-so : told .known ≡ knownIn (t .codes) (allCodes (the text root))
     unfolding allCodes knownIn
     found-so = o .found ∙ count-same (λ c. t .same c) (codesOf (keysOfAll (arraysOf (the text root))))
@@ -120,7 +120,7 @@ module _ {text : List ℕ} {root table : ℕ} {work₀ work : List ℕ} {known :
         = ap (λ x. knownIn x (codesOf (keysOfAll (arraysOf (the text root))))) (come-done text e) ∙ known-none _ in
         omega arith
 
-    pub searching-done : next ≡ Done → ToldAll (the text root) (codesAt text table)
+    pub searching-done : next ≡ Done → ArraysTold (the text root) (codesAt text table)
         (record { arrays = told .arrays; fit = told .fit; keys = told .keys; known = known + told .known })
     searching-done e = record {
       many = o .many;

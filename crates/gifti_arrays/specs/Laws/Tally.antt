@@ -18,7 +18,7 @@ use Rattle.lists.specs.Laws.Booleans.{and-both}
 use Rattle.lists.specs.Laws.Lists.{all-append}
 use Rattle.numbers.specs.Numbers.{inKeys, withSign}
 use Rattle.lists.specs.Reordered.{member}
-use Rattle.label_table.specs.Labels.{filledWith}
+use Rattle.label_table.specs.Labels.{keysWritten}
 use Rattle.label_table.specs.Laws.Told.{filled-told}
 use Rattle.known_keys.specs.Known.{knownIn, codesOf, KnownAmong}
 use Rattle.array_keys.specs.Ahead.{keysAhead, spareBytes, keysLeft, keysStart}
@@ -135,8 +135,8 @@ pub ruleset counting = (counting-start, counting-within, counting-keys, counting
 -- ---- Writing.
 
 -- more keys than there is room for
-filled-over : (k l s : List ℤ) → length s ≡ length k → filledWith (k ++ l) s ≡ k
-unfolding filledWith
+filled-over : (k l s : List ℤ) → length s ≡ length k → keysWritten (k ++ l) s ≡ k
+unfolding keysWritten
 filled-over [] [] [] h = refl
 filled-over [] (x ∷ l) [] h = refl
 filled-over [] l (y ∷ s) h = absurd (omega arith)
@@ -145,27 +145,27 @@ filled-over (x ∷ k) l (y ∷ s) h = ap (λ m. x ∷ m) (filled-over k l s (ome
 
 module _ {e : Encoding} {text : List ℕ} {from : KeyPlace} {s : List ℤ} {r : KeyRow} {s₁ : List ℤ} (t : RowTold e text from s r s₁)
     (l : length s₁ ≡ length s) where
-  all-there : r .count < length s → s₁ ≡ filledWith (keysAhead e text from) s
+  all-there : r .count < length s → s₁ ≡ keysWritten (keysAhead e text from) s
   all-there h =
       let k = take (r .count) s₁ in
       let n : length k ≡ r .count = length-take-le (r .count) s₁ (omega arith) in
       let w : keysAhead e text from ≡ k = t .keys ∙ ap (λ m. k ++ m) (t .ended h .0) ∙ append-nil k in
-      t .past ∙ ap (λ i. k ++ drop i s) (sym n) ∙ sym (filled-told k s (omega arith)) ∙ ap (λ m. filledWith m s) (sym w)
+      t .past ∙ ap (λ i. k ++ drop i s) (sym n) ∙ sym (filled-told k s (omega arith)) ∙ ap (λ m. keysWritten m s) (sym w)
 
-  no-room : length s ≤ r .count → s₁ ≡ filledWith (keysAhead e text from) s
+  no-room : length s ≤ r .count → s₁ ≡ keysWritten (keysAhead e text from) s
   no-room h =
       let w = take-all (r .count) s₁ (omega arith) in
-      sym (ap (λ m. filledWith m s) (t .keys ∙ ap (λ m. m ++ keysAhead e text (r .next)) w)
+      sym (ap (λ m. keysWritten m s) (t .keys ∙ ap (λ m. m ++ keysAhead e text (r .next)) w)
       ∙ filled-over s₁ (keysAhead e text (r .next)) s (sym l))
 
-  filled-row : s₁ ≡ filledWith (keysAhead e text from) s
+  filled-row : s₁ ≡ keysWritten (keysAhead e text from) s
   filled-row = go (ltb (r .count) (length s)) refl
     where
-      go : (b : Bool) → ltb (r .count) (length s) ≡ b → s₁ ≡ filledWith (keysAhead e text from) s
+      go : (b : Bool) → ltb (r .count) (length s) ≡ b → s₁ ≡ keysWritten (keysAhead e text from) s
       go true q = all-there (ltb-true (r .count) (length s) q)
       go false q = no-room (ltb-false (r .count) (length s) q)
 
-  pub writing-so : (at : ℕ) → from ≡ keysStart text at → s₁ ≡ filledWith (keysAhead e text (keysStart text at)) s
+  pub writing-so : (at : ℕ) → from ≡ keysStart text at → s₁ ≡ keysWritten (keysAhead e text (keysStart text at)) s
   writing-so at q = rw q at filled-row
 
 pub ruleset writing = (writing-so, needs)

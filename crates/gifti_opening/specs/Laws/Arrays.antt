@@ -8,10 +8,10 @@ use borrow.Author.Tests.{not-true, not-false}
 use Rattle.lists.specs.Lists.{all, any}
 use Rattle.grammar.specs.Bytes.{ascii}
 use Rattle.grammar.specs.Document.{Element}
-use Rattle.grammar.specs.Parser.{same}
+use Rattle.grammar.specs.Parser.{sameBytes}
 use Rattle.grammar.specs.Look.{is, nameOf, has}
 use Rattle.nodes.specs.Places.{Stands, the}
-use Rattle.nodes.specs.Children.{first, next}
+use Rattle.nodes.specs.Children.{firstChild, next}
 use Rattle.nodes.specs.Laws.Children.{left}
 use Rattle.nodes.specs.Names.{named}
 use Rattle.nodes.specs.Laws.Names.{name-is-law}
@@ -34,7 +34,7 @@ module _ {text : List ℕ} {at : ℕ} (st : Stands text at) {b : Bool} (nm : b �
   unfolding rootWrong
   root-other f = rw (sym root-name ∙ f)
 
-  pub root-version : b ≡ true → {c : Bool} → c ≡ same (value-at-name text at (ascii "Version")) (ascii "1.0")
+  pub root-version : b ≡ true → {c : Bool} → c ≡ sameBytes (value-at-name text at (ascii "Version")) (ascii "1.0")
       → not c ≡ rootWrong (the text at)
   unfolding rootWrong
   root-version t p = rw (sym root-name ∙ t) (ap not (p ∙ has-law "Version" "1.0" st))
@@ -42,12 +42,12 @@ module _ {text : List ℕ} {at : ℕ} (st : Stands text at) {b : Bool} (nm : b �
 pub ruleset rooting = (root-other, root-version, needs)
 
 module _ {text : List ℕ} {at : ℕ} (st : Stands text at) where
-  module _ {b : Bool} (p : b ≡ same (value-at-name text at (ascii "Encoding")) (ascii "ASCII")) where
+  module _ {b : Bool} (p : b ≡ sameBytes (value-at-name text at (ascii "Encoding")) (ascii "ASCII")) where
     pub read-plain : b ≡ true → true ≡ encodingRead (the text at)
     unfolding encodingRead
     read-plain t = rw (sym (has-law "Encoding" "ASCII" st) ∙ sym p ∙ t)
 
-    pub read-coded : b ≡ false → {c : Bool} → c ≡ same (value-at-name text at (ascii "Encoding")) (ascii "Base64Binary")
+    pub read-coded : b ≡ false → {c : Bool} → c ≡ sameBytes (value-at-name text at (ascii "Encoding")) (ascii "Base64Binary")
         → c ≡ encodingRead (the text at)
     unfolding encodingRead
     read-coded f q = rw (sym (has-law "Encoding" "ASCII" st) ∙ sym p ∙ f) (q ∙ has-law "Encoding" "Base64Binary" st)
@@ -57,7 +57,7 @@ module _ {text : List ℕ} {at : ℕ} (st : Stands text at) where
     unfolding unread arrayRead
     unread-encoding h = rw (sym p ∙ not-true b h)
 
-    module _ (h : not b ≡ false) {c : Bool} (q : c ≡ same (value-at-name text at (ascii "Intent")) (ascii "NIFTI_INTENT_LABEL")) where
+    module _ (h : not b ≡ false) {c : Bool} (q : c ≡ sameBytes (value-at-name text at (ascii "Intent")) (ascii "NIFTI_INTENT_LABEL")) where
       intent : has "Intent" "NIFTI_INTENT_LABEL" (the text at) ≡ c
       intent = sym (has-law "Intent" "NIFTI_INTENT_LABEL" st) ∙ sym q
 
@@ -65,7 +65,7 @@ module _ {text : List ℕ} {at : ℕ} (st : Stands text at) where
       unfolding unread arrayRead
       unread-intent k = rw (sym p ∙ not-false b h, intent ∙ not-true c k)
 
-      pub unread-type : not c ≡ false → {d : Bool} → d ≡ same (value-at-name text at (ascii "DataType")) (ascii "NIFTI_TYPE_INT32")
+      pub unread-type : not c ≡ false → {d : Bool} → d ≡ sameBytes (value-at-name text at (ascii "DataType")) (ascii "NIFTI_TYPE_INT32")
           → not d ≡ unread (the text at)
       unfolding unread arrayRead
       unread-type k r = rw (sym p ∙ not-false b h, intent ∙ not-false c k) (ap not (r ∙ has-law "DataType" "NIFTI_TYPE_INT32" st))
@@ -90,7 +90,7 @@ of-root : (e : Element) {b : Bool} → b ≡ any unread (arraysOf e) → b ≡ a
 unfolding arrayNotRead
 of-root e h = h ∙ some-unread (arraysOf e)
 
-pub reading-start : {text : List ℕ} {at : ℕ} → Stands text at → {kid : Kid} → kid ≡ first text at → Reading text at kid
+pub reading-start : {text : List ℕ} {at : ℕ} → Stands text at → {kid : Kid} → kid ≡ firstChild text at → Reading text at kid
 reading-start st e = seek-start _ _ st e
 
 module _ {text : List ℕ} {at : ℕ} {kid : Kid} (go : Reading text at kid) where

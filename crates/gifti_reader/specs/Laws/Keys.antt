@@ -25,7 +25,7 @@ use Rattle.nodes.specs.declared.Found.the-variants.{At, Nothing}
 use Rattle.inside.specs.Way.{nth}
 use Rattle.inside.specs.Laws.Walked.{Agrees}
 use Rattle.inside.specs.Treads.{childNamed}
-use Rattle.label_table.specs.Labels.{filledWith, Wrote}
+use Rattle.label_table.specs.Labels.{keysWritten, Wrote}
 use Rattle.label_table.specs.Laws.Told.{filled-told}
 use Rattle.cifti.specs.Labels.{overwritten}
 use Rattle.gifti.specs.Arrays.{arraysOf, arrayKeys, fillsDim0, keysOfArrays}
@@ -41,15 +41,15 @@ use Rattle.gifti_opening.specs.Laws.Passed.{file-here, opens-refused, number-he
 use Rattle.gifti_opening.specs.declared.GiftiOpening.{GiftiOpening}
 use Rattle.array_keys.specs.Ahead.{keysAhead, keysStart}
 use Rattle.gifti_arrays.specs.Ready.{ArrayFull}
-use Rattle.gifti_arrays.specs.Arrays.{Noted}
+use Rattle.gifti_arrays.specs.Arrays.{ArrayNoted}
 use Rattle.gifti_reader.specs.Number.{rowsOfArrays}
-use Rattle.gifti_reader.specs.Keys.{Passed}
+use Rattle.gifti_reader.specs.Keys.{ArraysPassed}
 use Rattle.gifti_arrays.specs.Laws.Array.{named-agrees, found-there, found-nowhere}
 use Rattle.gifti_arrays.specs.declared.array.ArrayNote.{ArrayNote}
 
 -- ---- The keys of the array at a place.
 
-module _ {text : List ℕ} {at : ℕ} (h : ArrayFull text at) {n : ArrayNote} (o : Noted text (the text at) n) (before : List ℤ) where
+module _ {text : List ℕ} {at : ℕ} (h : ArrayFull text at) {n : ArrayNote} (o : ArrayNoted text (the text at) n) (before : List ℤ) where
   many : n .count ≡ length (arrayKeys (the text at))
   many = o .count-is ∙ sym (filled-many (the text at) (h .full))
 
@@ -57,11 +57,11 @@ module _ {text : List ℕ} {at : ℕ} (h : ArrayFull text at) {n : ArrayNote} (o
   wrote-short u = let m = many in record { short = λ _. (refl, refl, refl); fits = λ v. absurd (omega arith) }
 
   pub wrote-all : n .count ≤ length before → {after : List ℤ}
-      → after ≡ filledWith (keysAhead (n .encoding) text (keysStart text (n .from))) before
+      → after ≡ keysWritten (keysAhead (n .encoding) text (keysStart text (n .from))) before
       → Wrote (arrayKeys (the text at)) before 0 (n .count) after
   wrote-all u q =
       let m = many in
-      record { short = λ v. absurd (omega arith); fits = λ _. (refl, many, q ∙ ap (λ l. filledWith l before) (o .keys-are)) }
+      record { short = λ v. absurd (omega arith); fits = λ _. (refl, many, q ∙ ap (λ l. keysWritten l before) (o .keys-are)) }
 
 pub ruleset writing = (wrote-short, wrote-all, needs)
 
@@ -103,7 +103,7 @@ nth-of (suc i) (a ∷ l) u (one-array g m) f =
     let (b, n) = nth-of i l (omega arith) m (and-right (fillsDim0 a) (all fillsDim0 l) f) in
     (b, record { is-nth = n .is-nth; keys-are = n .keys-are; good = n .good; full = n .full })
 
-module _ {text : List ℕ} {root i : ℕ} (h : Passed text root i) where
+module _ {text : List ℕ} {root i : ℕ} (h : ArraysPassed text root i) where
   none-of : NoneApplies (rowsOfArrays i (the text root))
   unfolding rowsOfArrays positive
   none-of = given-none (rowsOfArrays i (the text root)) refl (sym (h .none))
@@ -178,7 +178,7 @@ module _ {text : List ℕ} {root i : ℕ} (h : FileHere text root) {n : ℕ} (q 
       refused-so text i keys k (sym (number-here i (length keys) h
       ∙ first-kept (rowsOfArrays i (the text root)) (17 when roomShort i (length keys) (the text root) ∷ []) n k (sym q)))
 
-  pub behind-passed : n ≡ 0 → Passed text root i
+  pub behind-passed : n ≡ 0 → ArraysPassed text root i
   behind-passed z = record { file = h; none = sym z ∙ q }
 
 pub ruleset behind = (behind-refused, behind-passed, needs)

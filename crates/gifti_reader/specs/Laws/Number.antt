@@ -26,8 +26,8 @@ use Rattle.inside.specs.Laws.Walked.{Agrees}
 use Rattle.inside.specs.Treads.{childNamed}
 use Rattle.maps.specs.Fields.{attributeWord, numberSeen}
 use Rattle.maps.specs.Laws.Fields.{word-at, number-seen}
-use Rattle.cifti.specs.LabelTable.{keysRight, tableKeys, keyTwice}
-use Rattle.label_table.specs.Labels.{keysAt, twiceAt}
+use Rattle.cifti.specs.LabelTable.{keysRight, tableKeys, keyTwiceIn}
+use Rattle.label_table.specs.Labels.{tableKeysAt, twiceAt}
 use Rattle.label_table.specs.Laws.Told.{keys-told, twice-told}
 use Rattle.label_table.specs.Codes.{codeOf, codesAt}
 use Rattle.label_table.specs.Laws.Codes.{twice-codes}
@@ -41,7 +41,7 @@ use Rattle.gifti.specs.Conditions.{arraysWrong, labelTwice, noArray, lengthWron
 use Rattle.gifti_opening.specs.Passed.{FileHere}
 use Rattle.known_keys.specs.Known.{codesOf}
 use Rattle.gifti_arrays.specs.Ready.{ArraysAsked, TableHere}
-use Rattle.gifti_arrays.specs.Arrays.{keysOfAll, ToldAll}
+use Rattle.gifti_arrays.specs.Arrays.{keysOfAll, ArraysTold}
 use Rattle.gifti_reader.specs.Number.{rowsOfArrays, numberTwice, numberOnce, TableAt, TableOnce}
 use Rattle.gifti_arrays.specs.Laws.Array.{named-agrees, found-there, found-nowhere}
 use Rattle.gifti_arrays.specs.declared.arrays.Told.{Told}
@@ -63,8 +63,8 @@ module _ {text : List ℕ} {root : ℕ} (h : FileHere text root) where
         record {
           keys-are = keys-told st right ∙ ap tableKeys is ∙ sym (append-nil (tableKeys (h .table)))
               ∙ sym (ap (eachIn tableKeys) (h .one-table));
-          twice-is = twice-told st right ∙ ap keyTwice is ∙ sym (or-false (keyTwice (h .table)))
-              ∙ sym (ap (any keyTwice) (h .one-table));
+          twice-is = twice-told st right ∙ ap keyTwiceIn is ∙ sym (or-false (keyTwiceIn (h .table)))
+              ∙ sym (ap (any keyTwiceIn) (h .one-table));
         }
 
     pub table-nowhere : f ≡ Nothing → TableAt text (the text root) 0
@@ -90,13 +90,13 @@ all-in p [] = refl
 all-in p (a ∷ l) = rw (all-in p l) (sym (all-append p (arrayKeys a) (eachIn arrayKeys l)))
 
 by-codes : (text : List ℕ) (t : ℕ) (l : List ℤ) → all inKeys l ≡ true
-    → all (isKnown (keysAt text t)) l ≡ all (λ c. member c (codesAt text t)) (codesOf l)
+    → all (isKnown (tableKeysAt text t)) l ≡ all (λ c. member c (codesAt text t)) (codesOf l)
 unfolding all codesOf each isKnown
 by-codes text t [] h = refl
 by-codes text t (k ∷ l) h =
     rw (member-key k (and-left (inKeys k) (all inKeys l) h) text t, by-codes text t l (and-right (inKeys k) (all inKeys l) h)) refl
 
-module _ {text : List ℕ} {e : Element} {t : ℕ} (p : TableAt text e t) {r : Told} (o : ToldAll e (codesAt text t) r) where
+module _ {text : List ℕ} {e : Element} {t : ℕ} (p : TableAt text e t) {r : Told} (o : ArraysTold e (codesAt text t) r) where
   unknown-is : keyUnknown e ≡ not (all (λ c. member c (codesAt text t)) (codesOf (keysOfAll (arraysOf e))))
   unfolding keyUnknown someUnknown keysOfArrays
   unknown-is = ap not (all-in (isKnown (knownKeys e)) (arraysOf e)
@@ -125,7 +125,7 @@ pub nothing-asked : {text : List ℕ} {root : ℕ} → FileHere text root → (c
 unfolding inOrder orderedFrom
 nothing-asked h codes = record { here = h .arrays; in-order = refl }
 
-module _ {e : Element} {codes : List ℕ} {r : Told} (o : ToldAll e codes r) {said : ℕ} (s : said ≡ arraysSaid e) where
+module _ {e : Element} {codes : List ℕ} {r : Told} (o : ArraysTold e codes r) {said : ℕ} (s : said ≡ arraysSaid e) where
   pub arrays-other : (r .arrays ≡ said → ⊥) → arraysWrong e ≡ true
   unfolding arraysWrong
   arrays-other h = ap not (ne-eqb (length (arraysOf e)) (arraysSaid e) (λ q. h (o .many ∙ q ∙ sym s)))
@@ -144,7 +144,7 @@ module _ {e : Element} {codes : List ℕ} {r : Told} (o : ToldAll e codes r) {sa
 
 -- ---- Where none does.
 
-module _ (i : ℕ) {text : List ℕ} {e : Element} {t : ℕ} (p : TableAt text e t) {r : Told} (o : ToldAll e (codesAt text t) r) {said : ℕ}
+module _ (i : ℕ) {text : List ℕ} {e : Element} {t : ℕ} (p : TableAt text e t) {r : Told} (o : ArraysTold e (codesAt text t) r) {said : ℕ}
     (s : said ≡ arraysSaid e) where
   pub once-nine : (r .arrays ≡ said → ⊥) → 9 ≡ numberOnce i e
   unfolding numberOnce first

@@ -7,7 +7,7 @@ use Prim.Native.Nat.{ℕ}
 use native.Mathlib.Omega.{arith}
 use mathlib.Core.Bool.{Bool, true, false, _&&_}
 use lib.Dec.{eqb}
-use Rattle.grammar.specs.Bytes.{_⊹_, ascii, Row, none-more, and-more, begins, parted}
+use Rattle.grammar.specs.Bytes.{_⊹_, ascii, SequenceUnless, none-more, and-more, begins, parted}
 use Rattle.grammar.specs.Document.{Contents, nothing, child, merged, Element}
 use Rattle.grammar.specs.Grammar
 use Rattle.grammar.specs.Grammar.{TextCharacter, Comment, CData, WritesElement, WritesContents}
@@ -29,7 +29,7 @@ runs (b ∷ bs) c = merged b (runs bs c)
 pub data Stretched (d : ℕ) : Contents → List ℕ → Type 0 where
   none : Stretched d nothing []
   remark : {c : Contents} {w s : List ℕ} → Comment w → Stretched d c s → Stretched d c (w ⊹ s)
-  stretch : {c : Contents} {bs : List (List ℕ)} {w s : List ℕ} → Row TextCharacter parted bs w → Nowhere (ascii "]]>") w → Ends s
+  stretch : {c : Contents} {bs : List (List ℕ)} {w s : List ℕ} → SequenceUnless TextCharacter parted bs w → Nowhere (ascii "]]>") w → Ends s
       → Stretched d c s → Stretched d (runs bs c) (w ⊹ s)
   marked : {c : Contents} {b w s : List ℕ} → CData b w → Stretched d c s → Stretched d (merged b c) (w ⊹ s)
   inner : {e : Element} {c : Contents} {w s : List ℕ} → WritesElement d e w → Stretched d c s → Stretched d (child e c) (w ⊹ s)
@@ -128,7 +128,8 @@ kept : (w v : List ℕ) {s : List ℕ} → Ends s → parted w v ≡ false → p
 kept w v at-end p = rw append-nil p
 kept w v (at-mark {s}) p = parted-apart w v 60 s refl p
 
-characters : {d : ℕ} {c : Contents} {bs : List (List ℕ)} {w s : List ℕ} → Row TextCharacter parted bs w → Nowhere (ascii "]]>") w → Ends s
+characters : {d : ℕ} {c : Contents} {bs : List (List ℕ)} {w s : List ℕ} → SequenceUnless TextCharacter parted bs w → Nowhere (ascii "]]>") w
+    → Ends s
     → WritesContents d c s → WritesContents d (runs bs c) (w ⊹ s)
 unfolding runs
 characters none-more n e t = t

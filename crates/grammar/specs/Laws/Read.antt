@@ -4,7 +4,7 @@ use mathlib.Core.List.{List, [], _∷_, _++_, append-assoc}
 use lib.ListN.{length, length-append}
 use lib.Seq.{take-append-seam}
 use native.Mathlib.Omega.{arith}
-use Rattle.grammar.specs.Bytes.{_⊹_, Each, no-byte, a-byte, Sequence, no-more, one-more, Row, none-more, and-more}
+use Rattle.grammar.specs.Bytes.{_⊹_, Each, no-byte, a-byte, Sequence, no-more, one-more, SequenceUnless, none-more, and-more}
 use Prim.Native.Nat.{ℕ, zero, suc, _+_, _-_, _≤_, _<_}
 use mathlib.Core.Bool.{Bool, true, false, _&&_, _||_}
 use lib.Dec.{eqb}
@@ -155,8 +155,9 @@ whole-takes h = ok-map h λ a r k. (k .0, k .1, k .2)
 module _ {A : Type 0} {P : A → List ℕ → Type 0} {wrong : List ℕ → List ℕ → Bool} {p : Reader A} (stop : List ℕ → Bool)
     (sound : (s : List ℕ) → stop s ≡ false → Ok (TakesWhole P wrong s) (p s))
     (less : (w x r : List ℕ) → wrong w (x ++ r) ≡ false → wrong w x ≡ false) where
-  row-step : (more : Reader (List A)) → ((s : List ℕ) → Ok (Takes (Row P wrong) s) (more s)) → (t : Bool) (s : List ℕ) → stop s ≡ t
-      → Ok (Takes (Row P wrong) s) (many-step t p more s)
+  row-step : (more : Reader (List A)) → ((s : List ℕ) → Ok (Takes (SequenceUnless P wrong) s) (more s)) → (t : Bool) (s : List ℕ)
+      → stop s ≡ t
+      → Ok (Takes (SequenceUnless P wrong) s) (many-step t p more s)
   unfolding many-step
   row-step more ih true s e = good ([], refl, none-more)
   row-step more ih false s e =
@@ -165,12 +166,12 @@ module _ {A : Type 0} {P : A → List ℕ → Type 0} {wrong : List ℕ → List
       (let q = h₂ .1 in
       good (_, simp append-assoc (cc), and-more (h₁ .2) (less (h₁ .0) (h₂ .0) r₂ (rw q at (h₁ .3))) (h₂ .2)))
 
-  row-many : (n : ℕ) (s : List ℕ) → Ok (Takes (Row P wrong) s) (many stop p n s)
+  row-many : (n : ℕ) (s : List ℕ) → Ok (Takes (SequenceUnless P wrong) s) (many stop p n s)
   unfolding many
   row-many zero s = failed
   row-many (suc n) s = row-step (many stop p n) (row-many n) (stop s) s refl
 
-  pub row-sound : (s : List ℕ) → Ok (Takes (Row P wrong) s) (all-of stop p s)
+  pub row-sound : (s : List ℕ) → Ok (Takes (SequenceUnless P wrong) s) (all-of stop p s)
   unfolding all-of
   row-sound s = row-many (suc (length s)) s
 
@@ -185,7 +186,7 @@ pub record RowItem {A : Type 0} (P : A → List ℕ → Type 0) (wrong : List �
 
 module _ {A : Type 0} {P : A → List ℕ → Type 0} {wrong : List ℕ → List ℕ → Bool} {stop : List ℕ → Bool} {p : Reader A} {end : List ℕ}
     (item : RowItem P wrong stop p end) where
-  row-many-complete : {l : List A} {w : List ℕ} → Row P wrong l w → (n : ℕ) → length w < n → many stop p n (w ++ end) ≡ got l end
+  row-many-complete : {l : List A} {w : List ℕ} → SequenceUnless P wrong l w → (n : ℕ) → length w < n → many stop p n (w ++ end) ≡ got l end
   unfolding many-step bind
   row-many-complete none-more n h = with-fuel (λ n. many stop p n end ≡ got [] end) 0 n h λ m hm. rw (many-suc, item .stops-there)
   row-many-complete (and-more {a} {l} {w} {s} k e t) n h =
@@ -194,7 +195,7 @@ module _ {A : Type 0} {P : A → List ℕ → Type 0} {wrong : List ℕ → List
       let f = item .apart k s e in
       rw (append-assoc w s, many-suc, item .goes k (s ++ end) f, item .reads k (s ++ end) f, row-many-complete t m fits)
 
-  pub row-complete : {l : List A} {w : List ℕ} → Row P wrong l w → all-of stop p (w ++ end) ≡ got l end
+  pub row-complete : {l : List A} {w : List ℕ} → SequenceUnless P wrong l w → all-of stop p (w ++ end) ≡ got l end
   unfolding all-of
   row-complete {w = w} t = row-many-complete t (suc (length (w ++ end))) (omega (arith, length-append w end))
 

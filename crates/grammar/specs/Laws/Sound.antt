@@ -26,7 +26,8 @@ use Rattle.grammar.specs.Parser.{name-at, gap-at, equals-at, CharacterWi
 use Rattle.grammar.specs.Parser.{literal-at, standsFor, reference-at, feed-if, feed-at, line-end-at, text-byte, text-at}
 use Rattle.grammar.specs.Parser.{spacing, space-at, value-byte, value-character-at, value-at}
 use Rattle.grammar.specs.Laws.Facts.{no-return}
-use Rattle.grammar.specs.Parser.{attribute-at, ends, closing, same, absent, distinct, attributes-at, no-dash, plain-at, dashed-at}
+use Rattle.grammar.specs.Parser.{attribute-at, ends, closing, sameBytes, absent, distinct, attributes-at, no-dash, plain-at}
+use Rattle.grammar.specs.Parser.{dashed-at}
 use Rattle.grammar.specs.Parser.{remark-at, comment-at, data-byte, data-character-at, data-at, setting-at, asking, encoding-if}
 use Rattle.grammar.specs.Parser.{declaration-if}
 use Rattle.grammar.specs.Parser.{declaration-at, blank-at, remarked-at, aside-at, no-aside, skipped-at, doctype-at, doctype-if}
@@ -211,8 +212,8 @@ attribute-sound s =
     bind-ok (value-sound r₃) λ v r₄ h₄.
     good (_, simp append-assoc (cc), Grammar.written (h₁ .1) (h₂ .1) (h₃ .2) (h₄ .2))
 
-pub same-refl : (n : List ℕ) → same n n ≡ true
-unfolding same
+pub same-refl : (n : List ℕ) → sameBytes n n ≡ true
+unfolding sameBytes
 same-refl [] = refl
 same-refl (a ∷ n) = rw (eq-eqb a a refl) (same-refl n)
 
@@ -220,11 +221,11 @@ absent-sound : (n : List ℕ) (l : List Attribute) → absent n l ≡ true → A
 unfolding absent
 absent-sound n [] e = Grammar.absent-none
 absent-sound n (attribute m v ∷ l) e =
-    Grammar.absent-more (λ (q : n ≡ m). different (not-true (same n m) (and-left (not (same n m)) (absent n l) e)) q)
-    (absent-sound n l (and-right (not (same n m)) (absent n l) e))
+    Grammar.absent-more (λ (q : n ≡ m). different (not-true (sameBytes n m) (and-left (not (sameBytes n m)) (absent n l) e)) q)
+    (absent-sound n l (and-right (not (sameBytes n m)) (absent n l) e))
   where
-    different : same n m ≡ false → n ≡ m → ⊥
-    different f q = let g : same n m ≡ true = rw (← q) (same-refl n) in clash (cc)
+    different : sameBytes n m ≡ false → n ≡ m → ⊥
+    different f q = let g : sameBytes n m ≡ true = rw (← q) (same-refl n) in clash (cc)
 
 distinct-sound : (l : List Attribute) → distinct l ≡ true → Distinct l
 unfolding distinct

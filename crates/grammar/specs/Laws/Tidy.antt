@@ -7,7 +7,7 @@ use lib.Dec.{eqb}
 use mathlib.Core.List.{List, [], _∷_, _++_}
 use Prim.Native.Nat.{ℕ, suc, _≤_, _<_}
 use lib.ListN.{length}
-use Rattle.grammar.specs.Bytes.{Each, no-byte, a-byte, blank, Sequence, no-more, one-more, Row, none-more, and-more}
+use Rattle.grammar.specs.Bytes.{Each, no-byte, a-byte, blank, Sequence, no-more, one-more, SequenceUnless, none-more, and-more}
 use Rattle.grammar.specs.Document.{Attribute, attribute, Element, element, Contents, nothing, child, run, merged, together}
 use Rattle.grammar.specs.Grammar
 use Rattle.grammar.specs.Grammar.{Name, Reference, TextCharacter, ValueCharacter, Value, DataCharacter, CData, WritesAttribute}
@@ -72,7 +72,7 @@ data-character-clean (DataCharacter.literal h e) = character-other 13 (omega ari
 data-character-clean (DataCharacter.line-end k) = a-byte refl no-byte
 
 row-clean : {P : List ℕ → List ℕ → Type 0} {wrong : List ℕ → List ℕ → Bool} → ((b w : List ℕ) → P b w → NoReturn b)
-    → {bs : List (List ℕ)} {w : List ℕ} → Row P wrong bs w → NoReturn (together bs)
+    → {bs : List (List ℕ)} {w : List ℕ} → SequenceUnless P wrong bs w → NoReturn (together bs)
 row-clean clean none-more = no-byte
 row-clean clean (and-more h e t) = both-clean (clean _ _ h) (row-clean clean t)
 

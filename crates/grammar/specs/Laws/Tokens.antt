@@ -25,7 +25,7 @@ use Rattle.grammar.specs.Laws.Facts.{lead4-in, no-return}
 use Rattle.grammar.specs.Parser.{name-at, gap-at, equals-at, CharacterWidth, one, two, three, four, width, width-by, rest-by}
 use Rattle.grammar.specs.Parser.{rest-at, literal-at, standsFor, reference-at, feed-if, feed-at, line-end-at, text-byte, text-at}
 use Rattle.grammar.specs.Parser.{spacing, space-at, value-byte, value-character-at}
-use Rattle.grammar.specs.Parser.{value-at, attribute-at, ends, closing, same, absent, distinct, attributes-at, no-dash, plain-at}
+use Rattle.grammar.specs.Parser.{value-at, attribute-at, ends, closing, sameBytes, absent, distinct, attributes-at, no-dash, plain-at}
 use Rattle.grammar.specs.Parser.{dashed-at, remark-at, comment-at}
 
 pub name-complete : {n : List ℕ} → Name n → (r : List ℕ) → stops nameByte r ≡ true → name-at (n ++ r) ≡ got n r
@@ -291,19 +291,19 @@ attribute-long (Grammar.written {u} {n} {e} {v} {w} h₁ h₂ h₃ h₄) = simp 
 attribute-item : Item WritesAttribute (ends closing) attribute-at
 attribute-item = record { reads = λ k r. attribute-reads k r; goes = λ k r. attribute-goes k r; long = λ k. attribute-long k }
 
-pub same-equal : (n m : List ℕ) → same n m ≡ true → n ≡ m
-unfolding same
+pub same-equal : (n m : List ℕ) → sameBytes n m ≡ true → n ≡ m
+unfolding sameBytes
 same-equal [] [] e = refl
 same-equal [] (b ∷ m) e = cc
 same-equal (a ∷ n) [] e = cc
 same-equal (a ∷ n) (b ∷ m) e =
-    let x = eqb-true a b (and-left (eqb a b) (same n m) e) in
-    let y = same-equal n m (and-right (eqb a b) (same n m) e) in cc
+    let x = eqb-true a b (and-left (eqb a b) (sameBytes n m) e) in
+    let y = same-equal n m (and-right (eqb a b) (sameBytes n m) e) in cc
 
 absent-complete : {n : List ℕ} {l : List Attribute} → Absent n l → absent n l ≡ true
 unfolding absent
 absent-complete Grammar.absent-none = refl
-absent-complete {n} (Grammar.absent-more {m} h k) = rw (refute (same n m) (λ e. h (same-equal n m e))) (absent-complete k)
+absent-complete {n} (Grammar.absent-more {m} h k) = rw (refute (sameBytes n m) (λ e. h (same-equal n m e))) (absent-complete k)
 
 distinct-complete : {l : List Attribute} → Distinct l → distinct l ≡ true
 unfolding distinct

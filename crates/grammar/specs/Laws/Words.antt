@@ -9,7 +9,8 @@ use lib.Dec.{eqb}
 use native.Mathlib.Omega.{arith}
 use borrow.Author.Tests.{eqb-true, ne-eqb}
 use Rattle.lists.specs.Laws.Booleans.{clash, and-left, or-right}
-use Rattle.grammar.specs.Bytes.{_⊹_, ascii, blank, Sequence, no-more, one-more, begins, parted, closed, Row, none-more, and-more}
+use Rattle.grammar.specs.Bytes.{_⊹_, ascii, blank, Sequence, no-more, one-more, begins, parted, closed, SequenceUnless, none-more}
+use Rattle.grammar.specs.Bytes.{and-more}
 use Rattle.grammar.specs.Characters.{Character, utf8-1, utf8-2, utf8-3, utf8-4, lead1}
 use Rattle.grammar.specs.Grammar
 use Rattle.grammar.specs.Grammar.{Remark, DataCharacter}
@@ -127,7 +128,7 @@ pub record DataWorded (w : List ℕ) : Type 0 where
 
 pub record DataProduced (w : List ℕ) : Type 0 where
   pub many : List (List ℕ)
-  pub row : Row DataCharacter closed many w
+  pub row : SequenceUnless DataCharacter closed many w
 
 return : Character 13 []
 unfolding lead1 blank
@@ -137,14 +138,14 @@ feed : Character 10 []
 unfolding lead1 blank
 feed = utf8-1 refl
 
-row-characters : {l : List (List ℕ)} {w : List ℕ} → Row DataCharacter closed l w → (k : List (List ℕ)) × Sequence Any k w
+row-characters : {l : List (List ℕ)} {w : List ℕ} → SequenceUnless DataCharacter closed l w → (k : List (List ℕ)) × Sequence Any k w
 row-characters none-more = ([], no-more)
 row-characters (and-more (DataCharacter.literal h e) c t) = let ih = row-characters t in (_, one-more (any h) (ih .1))
 row-characters (and-more (DataCharacter.line-end Grammar.pair) c t) =
     let ih = row-characters t in (_, one-more (any return) (one-more (any feed) (ih .1)))
 row-characters (and-more (DataCharacter.line-end Grammar.lone) c t) = let ih = row-characters t in (_, one-more (any return) (ih .1))
 
-row-brackets : {l : List (List ℕ)} {w : List ℕ} → Row DataCharacter closed l w → Nowhere (ascii "]]>") w
+row-brackets : {l : List (List ℕ)} {w : List ℕ} → SequenceUnless DataCharacter closed l w → Nowhere (ascii "]]>") w
 unfolding closed begins
 row-brackets none-more = nowhere-end
 row-brackets (and-more {s = s} (DataCharacter.literal {a} {w} h e) c t) =

@@ -16,7 +16,7 @@ use Rattle.grammar.specs.Look.{Word}
 use Rattle.numbers.specs.Numbers.{digits, value, parts, comma}
 use Rattle.numbers.specs.Laws.Cuts.{parts-some}
 use Rattle.input.specs.Lengths.{wholesOf, lengthsIn, firstBy}
-use Rattle.input.specs.Parted.{Parted, part-comma, part-last, part-no}
+use Rattle.input.specs.Parted.{LineParted, part-comma, part-last, part-no}
 use Rattle.input.specs.declared.lengths.Part.{Part}
 use Rattle.input.specs.declared.lengths.Part.the-variants.{Comma, Last, No}
 use Rattle.input.specs.declared.lengths.FirstLine.{FirstLine}
@@ -43,7 +43,7 @@ record NoSays (w : Word) (at : ℕ) : Type 0 where
   pub are : parts comma (drop at w) ≡ word ∷ others
 
 module _ {w : Word} {at : ℕ} where
-  says-comma : {r : Part} → Parted w at r → {n j : ℕ} → r ≡ Comma n j → CommaSays w at n j
+  says-comma : {r : Part} → LineParted w at r → {n j : ℕ} → r ≡ Comma n j → CommaSays w at n j
   says-comma (part-comma x {j = k} f e) {n} {j} q =
       let v : value x ≡ n = cc in
       let s : k ≡ j = cc in
@@ -51,12 +51,12 @@ module _ {w : Word} {at : ℕ} where
   says-comma (part-last x f e) q = clash (cc)
   says-comma (part-no x l f e) q = clash (cc)
 
-  says-last : {r : Part} → Parted w at r → {n : ℕ} → r ≡ Last n → LastSays w at n
+  says-last : {r : Part} → LineParted w at r → {n : ℕ} → r ≡ Last n → LastSays w at n
   says-last (part-comma x f e) q = clash (cc)
   says-last (part-last x f e) {n} q = let v : value x ≡ n = cc in record { word = x; valued = v; right = f; are = e }
   says-last (part-no x l f e) q = clash (cc)
 
-  says-no : {r : Part} → Parted w at r → r ≡ No → NoSays w at
+  says-no : {r : Part} → LineParted w at r → r ≡ No → NoSays w at
   says-no (part-comma x f e) q = clash (cc)
   says-no (part-last x f e) q = clash (cc)
   says-no (part-no x l f e) q = record { word = x; others = l; wrong = f; are = e }
@@ -102,7 +102,7 @@ three a b c h k m = rw (h, k, m) refl
 
 -- ---- The answer, from what is found.
 
-module _ (w : Word) {r₁ : Part} (p₁ : Parted w 0 r₁) where
+module _ (w : Word) {r₁ : Part} (p₁ : LineParted w 0 r₁) where
   abbrev answer : FirstLine
   answer = firstBy (wholesOf (parts comma w))
 
@@ -116,7 +116,7 @@ module _ (w : Word) {r₁ : Part} (p₁ : Parted w 0 r₁) where
   pub first-last : {x : ℕ} → r₁ ≡ Last x → Other ≡ answer
   first-last e = let h = says-last p₁ e in sym (from (h .word ∷ []) (h .are) ∙ only-one (h .word))
 
-  module _ {x j₁ : ℕ} (e₁ : r₁ ≡ Comma x j₁) {r₂ : Part} (p₂ : Parted w j₁ r₂) where
+  module _ {x j₁ : ℕ} (e₁ : r₁ ≡ Comma x j₁) {r₂ : Part} (p₂ : LineParted w j₁ r₂) where
     h₁ : CommaSays w 0 x j₁
     h₁ = says-comma p₁ e₁
 
@@ -133,7 +133,7 @@ module _ (w : Word) {r₁ : Part} (p₁ : Parted w 0 r₁) where
         let h = says-last p₂ e in
         sym (then (h .word ∷ []) (h .are) ∙ two (h₁ .word) (h .word) (h₁ .right) (h .right) ∙ rw (h₁ .valued, h .valued) refl)
 
-    module _ {y j₂ : ℕ} (e₂ : r₂ ≡ Comma y j₂) {r₃ : Part} (p₃ : Parted w j₂ r₃) where
+    module _ {y j₂ : ℕ} (e₂ : r₂ ≡ Comma y j₂) {r₃ : Part} (p₃ : LineParted w j₂ r₃) where
       h₂ : CommaSays w j₁ y j₂
       h₂ = says-comma p₂ e₂
 

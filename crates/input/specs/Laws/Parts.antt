@@ -16,7 +16,7 @@ use Rattle.numbers.specs.Numbers.{digit, digits, number, value, parts, onFirst,
 use Rattle.numbers.specs.Laws.Cuts.{digits-uncut, digit-no-comma, digit-in, parts-some, parts-end, parts-cut, parts-join, all-append}
 use Rattle.numbers.specs.Cuts.{Uncut}
 use Rattle.numbers.specs.Laws.Cuts.{number-append, grown, digits-are, digits-few, digits-stopped, powers}
-use Rattle.input.specs.Parted.{digitFirst, FirstDigit, Ran, Parted, part-comma, part-last, part-no}
+use Rattle.input.specs.Parted.{digitFirst, FirstDigit, Ran, LineParted, part-comma, part-last, part-no}
 use Rattle.input.specs.declared.lengths.Run.{Run}
 use Rattle.input.specs.declared.lengths.Part.the-variants.{Comma, Last, No}
 
@@ -176,7 +176,7 @@ module _ {w : Word} {at : ℕ} {r : Run} (ran : Ran w at r) where
       go true h = let p : b - 48 ≡ 10 = (sym (rw h refl)) ∙ ten in absurd (omega (arith, digit-in b h))
       go false h = h
 
-  at-other : {b : ℕ} {x : Word} → drop (r .next) w ≡ b ∷ x → comma b ≡ false → Parted w at No
+  at-other : {b : ℕ} {x : Word} → drop (r .next) w ≡ b ∷ x → comma b ≡ false → LineParted w at No
   unfolding parts onFirst
   at-other {b} {x} e h =
       let k = parts-some comma x in
@@ -189,32 +189,32 @@ module _ {w : Word} {at : ℕ} {r : Run} (ran : Ran w at r) where
   right : (r .count ≡ 0 → ⊥) → digits 1 7 (ran .read) ≡ true
   right h = digits-are 1 7 (ran .read) (ran .all-digits) (omega (arith, ran .counted)) (omega (arith, ran .counted, ran .few))
 
-  pub part-none : r .count ≡ 0 → Parted w at No
+  pub part-none : r .count ≡ 0 → LineParted w at No
   part-none z = go (drop (r .next) w) refl
     where
       empty : digits 1 7 (ran .read) ≡ false
       empty = digits-few 1 7 (ran .read) (omega (arith, ran .counted))
 
-      by : (b : ℕ) (x : Word) → drop (r .next) w ≡ b ∷ x → (t : Bool) → comma b ≡ t → Parted w at No
+      by : (b : ℕ) (x : Word) → drop (r .next) w ≡ b ∷ x → (t : Bool) → comma b ≡ t → LineParted w at No
       by b x e true h = part-no (ran .read) (parts comma x) empty (at-comma e h)
       by b x e false h = at-other e h
 
-      go : (x : Word) → drop (r .next) w ≡ x → Parted w at No
+      go : (x : Word) → drop (r .next) w ≡ x → LineParted w at No
       go [] e = part-no (ran .read) [] empty (at-end e)
       go (b ∷ x) e = by b x e (comma b) refl
 
-  pub part-ends : (r .count ≡ 0 → ⊥) → length w ≤ r .next → Parted w at (Last (r .value))
+  pub part-ends : (r .count ≡ 0 → ⊥) → length w ≤ r .next → LineParted w at (Last (r .value))
   part-ends h l = rw (ran .valued) (part-last (ran .read) (right h) (at-end (drop-of-length-le w l)))
 
   module _ (inside : r .next < length w) where
     opened : drop (r .next) w ≡ getD w (r .next) 0 ∷ drop (r .next + 1) w
     opened = drop-cons w (r .next) 0 inside ∙ rw (add-one (r .next)) refl
 
-    pub part-goes : (r .count ≡ 0 → ⊥) → getD w (r .next) 0 ≡ 44 → Parted w at (Comma (r .value) (r .next + 1))
+    pub part-goes : (r .count ≡ 0 → ⊥) → getD w (r .next) 0 ≡ 44 → LineParted w at (Comma (r .value) (r .next + 1))
     unfolding comma
     part-goes h e = rw (ran .valued) (part-comma (ran .read) (right h) (at-comma opened (eq-eqb (getD w (r .next) 0) 44 e)))
 
-    pub part-breaks : (getD w (r .next) 0 ≡ 44 → ⊥) → Parted w at No
+    pub part-breaks : (getD w (r .next) 0 ≡ 44 → ⊥) → LineParted w at No
     unfolding comma
     part-breaks e = at-other opened (ne-eqb (getD w (r .next) 0) 44 e)
 

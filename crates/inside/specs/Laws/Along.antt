@@ -21,7 +21,7 @@ use Rattle.nodes.specs.Laws.Places.{stands-read, the-read, Tail, tail-more}
 use Rattle.nodes.specs.Scan.{to-tag, tag-from, tag-at, skip-at}
 use Rattle.nodes.specs.Laws.ScanEnds.{to-tag-free, text-free, tag-name, tag-blanks, tag-attributes}
 use Rattle.nodes.specs.Laws.Skipping.{no-text-comment, no-text-data, no-text-element, tag-bare, tag-filled, skip-element}
-use Rattle.nodes.specs.Children.{kid-then, kid-by, kid-at, first-by, first, next}
+use Rattle.nodes.specs.Children.{kid-then, kid-by, kid-at, first-by, firstChild, next}
 use Rattle.nodes.specs.Laws.Children.{kid-step, kid-look, next-read, elements-joined}
 use Rattle.nodes.specs.declared.Kid.{Kid}
 use Rattle.nodes.specs.declared.Kid.the-variants.{Child, Done}
@@ -156,8 +156,8 @@ pub record Ends (way : List Step) (text : List ℕ) (at : ℕ) (before s : List 
   pub finds : walked way text at ≡ At (length text - length (s ++ rest))
   pub far : length text - length (s ++ rest) ≡ at + length before
 
-first-at : (text : List ℕ) (at : ℕ) (tag r : List ℕ) → StartTag tag → drop at text ≡ tag ++ r → first text at ≡ kid-at (length text) r
-unfolding first first-by
+first-at : (text : List ℕ) (at : ℕ) (tag r : List ℕ) → StartTag tag → drop at text ≡ tag ++ r → firstChild text at ≡ kid-at (length text) r
+unfolding firstChild first-by
 first-at text at tag r tg e = rw (e, start-read tg r)
 
 step-down : (text : List ℕ) (p : Element → Bool) (n : ℕ) (way : List Step) (at k : ℕ) → childAt (λ j. p (the text j)) n text at ≡ At k

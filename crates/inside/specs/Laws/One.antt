@@ -15,7 +15,7 @@ use Rattle.grammar.specs.Parser.{parse}
 use Rattle.grammar.specs.Read.{got}
 use Rattle.nodes.specs.Places.{element₁₆, Stands}
 use Rattle.nodes.specs.Laws.Places.{stands-read, the-read, Tail, tail-more}
-use Rattle.nodes.specs.ScanSteps.{tagged}
+use Rattle.nodes.specs.ScanSteps.{tagTold}
 use Rattle.nodes.specs.Root.{root, root-by}
 use Rattle.nodes.specs.Laws.Root.{whole-tail}
 use Rattle.nodes.specs.Inside.{between-tags}
@@ -29,11 +29,11 @@ use Rattle.inside.specs.Walked.{walked, walkedFrom, wayAt}
 use Rattle.inside.specs.Laws.Walked.{Agrees, not-there, stands-there, way-agrees}
 use Rattle.inside.specs.Laws.Along.{start-read, only-read, leads-writes, along}
 use Rattle.inside.specs.Laws.There.{there}
-use Rattle.inside.specs.One.{behindTag, tagEnd, Met, Cut}
+use Rattle.inside.specs.One.{behindTag, tagEnd, Met, PartStands}
 
 tag-ends : {part tag s : List ℕ} → Tagged part tag s → (text : List ℕ) (k : ℕ) (r : List ℕ) → drop k text ≡ s ++ r
     → k + length (s ++ r) ≡ length text → tagEnd text k ≡ k + length tag
-unfolding tagEnd behindTag tagged
+unfolding tagEnd behindTag tagTold
 tag-ends {part} (between {tag} rest h) text k r e n =
     let z : (tag ++ (part ++ rest)) ++ r ≡ tag ++ ((part ++ rest) ++ r) = append-assoc tag (part ++ rest) r in
     let m : length ((tag ++ (part ++ rest)) ++ r) ≡ length tag + length ((part ++ rest) ++ r) =
@@ -98,13 +98,13 @@ tagged-whole : {part tag s : List ℕ} → Tagged part tag s → (after : List �
 tagged-whole (between rest h) = (rest, refl)
 tagged-whole (nothing-between {tag} h q) = ([], sym (rw q (append-nil tag)))
 
-cut : (before part rest text : List ℕ) → text ≡ before ++ (part ++ rest) → Cut text (length before) part
+cut : (before part rest text : List ℕ) → text ≡ before ++ (part ++ rest) → PartStands text (length before) part
 cut before part rest text e =
     let n : length (before ++ (part ++ rest)) ≡ length before + (length part + length rest) =
     length-append before (part ++ rest) ∙ ap (λ i. length before + i) (length-append part rest) in
     rw e (record { inside = omega arith; is = rw (drop-append-seam before (part ++ rest)) (take-append-seam part rest) })
 
-pub place-cut : {way : List Step} {part text : List ℕ} {start : ℕ} → Place way part text start → Cut text start part
+pub place-cut : {way : List Step} {part text : List ℕ} {start : ℕ} → Place way part text start → PartStands text start part
 place-cut {part = part} (place {p} {u} {w} {v} {before} {tag} {s} h k l z q g) =
     let (after, a) = leads-whole l in
     let (rest, b) = tagged-whole g in

@@ -22,8 +22,8 @@ use Rattle.grammar.specs.Laws.Read.{Ok, good}
 use Rattle.nodes.specs.Places.{Stands, the}
 use Rattle.nodes.specs.Scan.{skip-at, tag-at}
 use Rattle.nodes.specs.Laws.Scanned.{skip-less, Less}
-use Rattle.nodes.specs.ScanSteps.{tagged}
-use Rattle.nodes.specs.Children.{kid-then, kid-at, first, next}
+use Rattle.nodes.specs.ScanSteps.{tagTold}
+use Rattle.nodes.specs.Children.{kid-then, kid-at, firstChild, next}
 use Rattle.nodes.specs.Laws.Children.{kid-left, left}
 use Rattle.nodes.specs.Names.{named}
 use Rattle.nodes.specs.Laws.Names.{name-is-law}
@@ -121,7 +121,7 @@ places-child text k =
 pub record Seeking (test : ℕ → Bool) (n : ℕ) (text : List ℕ) (at more : ℕ) (kid : Kid) : Type 0 where
   pub so-far : childAt test n text at ≡ nthPlace more (those test (placesFrom text kid))
 
-pub seeking-start : (test : ℕ → Bool) (n : ℕ) {text : List ℕ} {at : ℕ} {kid : Kid} → kid ≡ first text at → Seeking test n text at n kid
+pub seeking-start : (test : ℕ → Bool) (n : ℕ) {text : List ℕ} {at : ℕ} {kid : Kid} → kid ≡ firstChild text at → Seeking test n text at n kid
 unfolding childAt
 seeking-start test n {text} e = record { so-far = ap (λ x. nthPlace n (those test (placesFrom text x))) (sym e) }
 
@@ -203,7 +203,7 @@ pub ruleset seeking = (
 
 -- ---- The start tag.
 
-module _ (text : List ℕ) (at : ℕ) {t : Tag} (e : t ≡ tagged (length text) (tag-at (drop at text))) where
+module _ (text : List ℕ) (at : ℕ) {t : Tag} (e : t ≡ tagTold (length text) (tag-at (drop at text))) where
   pub behind-open : {i : ℕ} → t ≡ Open i → i ≡ tagEnd text at
   unfolding tagEnd behindTag
   behind-open h = sym (ap behindTag (sym e ∙ h))

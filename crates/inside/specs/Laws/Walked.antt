@@ -12,7 +12,7 @@ use Rattle.grammar.specs.Document.{Element}
 use Rattle.grammar.specs.Look.{contentsOf, elements}
 use Rattle.grammar.specs.Parser.{parse}
 use Rattle.nodes.specs.Places.{Stands, the}
-use Rattle.nodes.specs.Children.{first}
+use Rattle.nodes.specs.Children.{firstChild}
 use Rattle.nodes.specs.Laws.Children.{left, Siblings, no-more, one-more, children}
 use Rattle.nodes.specs.Laws.Walk.{left-fits}
 use Rattle.nodes.specs.Laws.Root.{Rooted, root-law}
@@ -37,9 +37,9 @@ row-stood zero h (one-more st f r) = absurd (omega arith)
 row-stood (suc m) h (one-more st f r) = one st (row-stood m (omega arith) r)
 
 pub children-stood : {text : List ℕ} {at : ℕ} → Stands text at
-    → Stood text (placesFrom text (first text at)) (elements (contentsOf (the text at)))
+    → Stood text (placesFrom text (firstChild text at)) (elements (contentsOf (the text at)))
 unfolding placesFrom
-children-stood {text} {at} st = let n = left-fits text (first text at) in row-stood (suc (length text)) (omega arith) (children st)
+children-stood {text} {at} st = let n = left-fits text (firstChild text at) in row-stood (suc (length text)) (omega arith) (children st)
 
 pub those-stood : (p : Element → Bool) {text ks : List ℕ} {es : List Element} → Stood text ks es
     → Stood text (those (λ k. p (the text k)) ks) (those p es)

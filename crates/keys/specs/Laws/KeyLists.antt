@@ -35,23 +35,23 @@ use Rattle.numbers.specs.Laws.Walk.{Behind, behind-law, Handed, number-law}
 use Rattle.numbers.specs.declared.Source.the-variants.{Contents}
 use Rattle.numbers.specs.declared.Run.{Run}
 use Rattle.keys.specs.Laws.Keys.{signed-small, signed-fits, signed-back}
-use Rattle.keys.specs.KeyLists.{First, NoKey, Told, KeyTold, spelled, SignRead, minus-read, none-read}
+use Rattle.keys.specs.KeyLists.{FirstKey, NoKey, KeyRead, ListedKeyTold, spelled, SignRead, minus-read, none-read}
 use Rattle.keys.specs.Laws.Spelled.{Unsigned, nothing, other, digits-unsigned, key-by, value-by, spelled-append}
 use Rattle.keys.specs.declared.key_lists.ListedKey.{ListedKey}
 use Rattle.keys.specs.declared.key_lists.ListedKey.the-variants.{Key, End, Bad}
 
 -- the three answers
-pub told-key : {text : List ℕ} {l : List Word} {most : ℕ} {z : ℤ} {j : ℕ} → First text l most z j → Told text l most (Key z j)
+pub told-key : {text : List ℕ} {l : List Word} {most : ℕ} {z : ℤ} {j : ℕ} → FirstKey text l most z j → KeyRead text l most (Key z j)
 told-key {text} {l} {most} {z} {j} f = record {
   on-key = λ {z = y} {j = i} e. (let p : z ≡ y = cc in let q : j ≡ i = cc in rw (p, q) at f);
   on-end = λ e. clash (cc);
   on-bad = λ e. clash (cc);
 }
 
-pub told-end : {text : List ℕ} {l : List Word} {most : ℕ} → l ≡ [] → Told text l most End
+pub told-end : {text : List ℕ} {l : List Word} {most : ℕ} → l ≡ [] → KeyRead text l most End
 told-end h = record { on-key = λ e. clash (cc); on-end = λ e. h; on-bad = λ e. clash (cc) }
 
-pub told-bad : {text : List ℕ} {l : List Word} {most : ℕ} → NoKey l → Told text l most Bad
+pub told-bad : {text : List ℕ} {l : List Word} {most : ℕ} → NoKey l → KeyRead text l most Bad
 told-bad n = record { on-key = λ e. clash (cc); on-end = λ e. clash (cc); on-bad = λ e. n }
 
 -- THE DIGITS, behind the sign
@@ -116,7 +116,7 @@ module _ {text : List ℕ} {at : ℕ} {t : Bool} (sign : SignRead text at t) {ru
       go (b ∷ x) q h = stopped q h
 
   -- no digit
-  pub from-none : run .count ≡ 0 → Told text (words (spelled t (saysAt text at))) (left text at) Bad
+  pub from-none : run .count ≡ 0 → KeyRead text (words (spelled t (saysAt text at))) (left text at) Bad
   unfolding spelled stream
   from-none z = told-bad (by t sign refl)
     where
@@ -136,7 +136,7 @@ module _ {text : List ℕ} {at : ℕ} {t : Bool} (sign : SignRead text at t) {ru
           go false h = unended (sym h) refl
 
   pub from-unended : {w : Bool} → w ≡ wordEnds (stream Contents text (run .next)) → not w ≡ true
-      → Told text (words (spelled t (saysAt text at))) (left text at) Bad
+      → KeyRead text (words (spelled t (saysAt text at))) (left text at) Bad
   from-unended e n = told-bad (unended e n)
 
   -- digits, and the word ends
@@ -184,7 +184,7 @@ module _ {text : List ℕ} {at : ℕ} {t : Bool} (sign : SignRead text at t) {ru
             go (a ∷ u) c = omega arith
 
     module _ {limit : ℕ} (el : limit ≡ keyLimit (signIf t)) where
-      pub from-great : limit < run .value → Told text (words (spelled t (saysAt text at))) (left text at) Bad
+      pub from-great : limit < run .value → KeyRead text (words (spelled t (saysAt text at))) (left text at) Bad
       from-great h = told-bad (record {
         word = spelled t (ran .read);
         others = words (saysAt text (run .next));
@@ -216,7 +216,7 @@ module _ {text : List ℕ} {at : ℕ} {t : Bool} (sign : SignRead text at t) {ru
           pub from-fits : SFits w32 (toZ w64 (ofZ w64 v))
           from-fits = signed-fits t size q
 
-          pub from-key : Told text (words (spelled t (saysAt text at))) (left text at)
+          pub from-key : KeyRead text (words (spelled t (saysAt text at))) (left text at)
               (Key (toZ w32 (ofZ w32 (toZ w64 (ofZ w64 v)))) (run .next))
           from-key = told-key (record {
             word = spelled t (ran .read);
@@ -238,7 +238,7 @@ leading-few (a ∷ w) = go (blank a) (leading-few w)
     go true h = omega arith
     go false h = omega arith
 
-retold : {text : List ℕ} {k l : List Word} {m n : ℕ} {r : ListedKey} → Told text k m r → l ≡ k → m ≤ n → Told text l n r
+retold : {text : List ℕ} {k l : List Word} {m n : ℕ} {r : ListedKey} → KeyRead text k m r → l ≡ k → m ≤ n → KeyRead text l n r
 retold {text} {k} {l} {m} {n} {r} t e h = record {
   on-key = λ {z} {j} q. (let f = t .on-key q in record {
     word = f .word;
@@ -275,7 +275,7 @@ module _ (text : List ℕ) (at : ℕ) {i : ℕ} (ei : i ≡ behind Contents text
     unfolding charAt
     from = ec
 
-    pub sign-end : c ≡ chars.End → KeyTold text at End
+    pub sign-end : c ≡ chars.End → ListedKeyTold text at End
     unfolding stream
     sign-end e = told-end (same-words ∙ ap words (char-end Contents text i from e) ∙ words-none)
 
@@ -291,11 +291,12 @@ module _ (text : List ℕ) (at : ℕ) {i : ℕ} (ei : i ≡ behind Contents text
       pub sign-none : (b ≡ 45 → ⊥) → SignRead text i false
       sign-none n = none-read begins (no-blank b (saysAt text j) begins) n
 
-      pub sign-minus-told : b ≡ 45 → {r : ListedKey} → Told text (words (spelled true (saysAt text j))) (left text j) r → KeyTold text at r
+      pub sign-minus-told : b ≡ 45 → {r : ListedKey} → KeyRead text (words (spelled true (saysAt text j))) (left text j) r
+          → ListedKeyTold text at r
       unfolding spelled
       sign-minus-told h t = retold t (same-words ∙ ap words (rw h at begins)) (omega (arith, further, nearer))
 
-    pub sign-none-told : {r : ListedKey} → Told text (words (spelled false (saysAt text i))) (left text i) r → KeyTold text at r
+    pub sign-none-told : {r : ListedKey} → KeyRead text (words (spelled false (saysAt text i))) (left text i) r → ListedKeyTold text at r
     unfolding spelled
     sign-none-told t = retold t same-words further
 
@@ -332,7 +333,7 @@ module _ {text : List ℕ} {at q : ℕ} (h : Quick text at q) (n : q ≡ 0 → �
   pub quick-small : q / 16 < 2 ^ 31
   quick-small = omega (arith, handed .small)
 
-  pub quick-key : KeyTold text at (Key (toZ w32 (q / 16)) (at + q % 16))
+  pub quick-key : ListedKeyTold text at (Key (toZ w32 (q / 16)) (at + q % 16))
   quick-key =
       let g = handed in
       let k = plain-key (g .word) (q / 16) (g .in-form) (g .valued) (g .small) in
@@ -348,7 +349,7 @@ pub record Listing (text : List ℕ) (at i : ℕ) : Type 0 where
 pub listing-start : (text : List ℕ) (at : ℕ) → Listing text at at
 listing-start text at = record { same-list = refl }
 
-module _ {text : List ℕ} {at i : ℕ} (go : Listing text at i) {r : ListedKey} (t : KeyTold text i r) where
+module _ {text : List ℕ} {at i : ℕ} (go : Listing text at i) {r : ListedKey} (t : ListedKeyTold text i r) where
   pub listing-end : r ≡ End → true ≡ keyList (saysAt text at)
   unfolding keyList all
   listing-end e = sym (go .same-list ∙ rw (t .on-end e))

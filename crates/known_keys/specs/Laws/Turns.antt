@@ -20,14 +20,14 @@ use Rattle.nodes.specs.declared.Kid.{Kid}
 use Rattle.nodes.specs.declared.Kid.the-variants.{Child, Done}
 use Rattle.numbers.specs.Numbers.{inKeys, sameKey}
 use Rattle.lists.specs.Reordered.{member}
-use Rattle.label_table.specs.Labels.{labels, keyHere, keysAt, nextLabel}
+use Rattle.label_table.specs.Labels.{labels, keyHere, tableKeysAt, nextLabel}
 use Rattle.label_table.specs.Laws.Labels.{row}
 use Rattle.label_table.specs.Codes.{codeOf, codeHere, codesAt}
 use Rattle.label_table.specs.Laws.Codes.{code-small, code-same, here-in}
 use Rattle.label_table.specs.Laws.Walks.{come-more, walk-less}
 use Rattle.label_table.specs.Walks.{toCome}
-use Rattle.known_keys.specs.Order.{Arranged, Within}
-use Rattle.known_keys.specs.Known.{knownIn, Gathered, Taken}
+use Rattle.known_keys.specs.Order.{Arranged, Bounded}
+use Rattle.known_keys.specs.Known.{knownIn, KeysGathered, Taken}
 use Rattle.known_keys.specs.Laws.Order.{all-within, member-kept}
 
 -- ---- Gathering.
@@ -46,7 +46,7 @@ pub gathering-start : (text : List ℕ) (from : Kid) (work : List ℕ) → Gathe
 gathering-start text from work = record { so-far = refl; inside = omega arith; long = refl; begun = λ e. refl }
 
 module _ {text : List ℕ} {from : Kid} {work₀ work : List ℕ} {n : ℕ} {kid : Kid} (go : Gathering text from work₀ work n kid) where
-  pub gathering-done : kid ≡ Done → Gathered text from work n Done
+  pub gathering-done : kid ≡ Done → KeysGathered text from work n Done
   unfolding ends
   gathering-done e = record {
     inside = go .inside;
@@ -58,7 +58,7 @@ module _ {text : List ℕ} {from : Kid} {work₀ work : List ℕ} {n : ℕ} {kid
       some zero g f = clash (ap ends (sym e ∙ g .begun refl ∙ f))
       some (suc m) g f = omega arith
 
-  pub gathering-full : length work ≤ n → Gathered text from work n kid
+  pub gathering-full : length work ≤ n → KeysGathered text from work n kid
   gathering-full h = record { inside = go .inside; parts = go .so-far; moves = λ f u. omega arith }
 
   pub gathering-long : length work ≡ length work₀
@@ -91,8 +91,8 @@ small-codes text (k ∷ l) =
     let s = code-small text k in
     and-both (and-both (le-leb 0 (codeHere text k) (omega arith)) (le-leb (codeHere text k) 4294967295 (omega arith))) (small-codes text l)
 
-module _ {text : List ℕ} {from : Kid} {work : List ℕ} {n : ℕ} {next : Kid} (g : Gathered text from work n next) where
-  pub codes-small : Within 0 4294967295 (take n work)
+module _ {text : List ℕ} {from : Kid} {work : List ℕ} {n : ℕ} {next : Kid} (g : KeysGathered text from work n next) where
+  pub codes-small : Bounded 0 4294967295 (take n work)
   codes-small =
       all-within 0 4294967295 (take n work)
       (and-left (all (between 0 4294967295) (take n work)) (all (between 0 4294967295) (toCome text next))
@@ -171,8 +171,8 @@ member-any c (y ∷ l) = go (eqb y c) (eqb-turned y c) (member-any c l)
     go false e on = let z : 0 + count (λ z. eqb z c) l ≡ count (λ z. eqb z c) l = omega arith in rw (← e, z) on
 
 pub member-key : (k : ℤ) → inKeys k ≡ true → (text : List ℕ) (at : ℕ)
-    → member (codeOf k) (codesAt text at) ≡ any (sameKey k) (keysAt text at)
-unfolding codesAt codeHere keysAt
+    → member (codeOf k) (codesAt text at) ≡ any (sameKey k) (tableKeysAt text at)
+unfolding codesAt codeHere tableKeysAt
 member-key k h text at =
     member-any (codeOf k) (codesAt text at)
     ∙ any-each (codeHere text) (eqb (codeOf k)) (labels text at)

@@ -14,7 +14,7 @@ use Rattle.lists.specs.Lists.{all, any, count, those, each, eachIn}
 use Rattle.lists.specs.Laws.Booleans.{and-left, and-right, never-some}
 use Rattle.grammar.specs.Document.{Element}
 use Rattle.grammar.specs.Look.{Word, is, nameOf, contentsOf, elements, children}
-use Rattle.grammar.specs.Parser.{same}
+use Rattle.grammar.specs.Parser.{sameBytes}
 use Rattle.schema.specs.Schema.{child, once, always, childShaped, standsSo}
 use Rattle.cifti.specs.LabelTable.{tableKeys, namesWith}
 use Rattle.cifti.specs.Rows.{ElementKind, cifti, rows, words, namedMap, labelledMap, labelTable}
@@ -82,7 +82,7 @@ none-reached zero (without-one {e} h w) = no-table-there e h
 none-reached (suc i) (without-one h w) = none-reached i w
 
 tableless : namesChild "LabelTable" (rows namedMap) ≡ false
-unfolding rows namesChild rowsName is same
+unfolding rows namesChild rowsName is sameBytes
 tableless = refl
 
 all-without : {l : List Element} → EachGood namedMap l → Without l

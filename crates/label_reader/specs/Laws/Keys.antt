@@ -19,7 +19,7 @@ use Rattle.grammar.specs.Document.{Element}
 use Rattle.grammar.specs.Parser.{parse}
 use Rattle.nodes.specs.declared.Found.{Found}
 use Rattle.nodes.specs.declared.Found.the-variants.{At, Nothing}
-use Rattle.label_table.specs.Labels.{keysAt, filledWith}
+use Rattle.label_table.specs.Labels.{tableKeysAt, keysWritten}
 use Rattle.label_table.specs.Laws.Told.{keys-told, filled-told}
 use Rattle.cifti.specs.Maps.{mapsOf}
 use Rattle.cifti.specs.Conditions.{ofMaps}
@@ -32,11 +32,12 @@ use Rattle.label_reader.specs.Before.{numberBefore}
 use Rattle.label_reader.specs.Laws.Tabled.{Tabled, untabled, tabled, table-at, kept-before}
 use Rattle.label_reader.specs.Keys.{WrittenTo}
 
-module _ (text : List ℕ) (at : ℕ) (before : List ℤ) {n : ℕ} (e : n ≡ length (keysAt text at)) where
+module _ (text : List ℕ) (at : ℕ) (before : List ℤ) {n : ℕ} (e : n ≡ length (tableKeysAt text at)) where
   pub written-short : length before < n → WrittenTo text at before 17 0 before
   written-short u = record { short = λ _. (refl, refl, refl); fits = λ v. absurd (omega arith) }
 
-  pub written-all : n ≤ length before → {after : List ℤ} → after ≡ filledWith (keysAt text at) before → WrittenTo text at before 0 n after
+  pub written-all : n ≤ length before → {after : List ℤ} → after ≡ keysWritten (tableKeysAt text at) before
+      → WrittenTo text at before 0 n after
   written-all u h = record { short = λ v. absurd (omega arith); fits = λ _. (refl, e, h) }
 
 pub ruleset writing = (written-short, written-all, needs)
@@ -88,31 +89,31 @@ module _ (text lengths : List ℕ) (d i : ℕ) (keys : List ℤ) where
     module _ {t : ℕ} {number count : ℕ} {after : List ℤ} (w : WrittenTo text t keys number count after) where
       found-so : Tabled text lengths d i (At t) → Keys text lengths d i keys number count after
       unfolding keysRefusal keysShort ofMaps there first keysNumberOf labelsRefusals
-      found-so (tabled {t} {e = x} p st g r s l way) = by (decLt (length keys) (length (keysAt text t)))
+      found-so (tabled {t} {e = x} p st g r s l way) = by (decLt (length keys) (length (tableKeysAt text t)))
         where
-          are : keysAt text t ≡ keysOn d i (mapsOf x)
+          are : tableKeysAt text t ≡ keysOn d i (mapsOf x)
           are = keys-told st (keys-in-form g) ∙ sym s
 
           number-so : {b : Bool} → ltb (length keys) (length (keysOn d i (mapsOf x))) ≡ b → number-of ≡ first (17 when b ∷ [])
           number-so q = r _ ∙ rw (p, q) refl
 
-          by : Dec (length keys < length (keysAt text t)) → Keys text lengths d i keys number count after
+          by : Dec (length keys < length (tableKeysAt text t)) → Keys text lengths d i keys number count after
           by (yes u) =
               let (a, b, c) = w .short u in
               let m = number-so (lt-ltb (length keys) (length (keysOn d i (mapsOf x))) (rw are at u)) in
               rw (a, b, c) (refused-so (λ y. omega arith) m)
           by (no u) =
-              let v : length (keysAt text t) ≤ length keys = omega arith in
+              let v : length (tableKeysAt text t) ≤ length keys = omega arith in
               let (a, b, c) = w .fits v in
               let m = number-so (le-ltb (length keys) (length (keysOn d i (mapsOf x))) (rw are at v)) in
               keys-by text lengths d i keys number count after (a ∙ sym m) (b ∙ ap length (given m)) (c ∙ written v m)
             where
-              given : number-of ≡ 0 → keysAt text t ≡ keysTold text lengths d i (length keys)
+              given : number-of ≡ 0 → tableKeysAt text t ≡ keysTold text lengths d i (length keys)
               given m = are ∙ given-zero p m
 
-              written : length (keysAt text t) ≤ length keys → number-of ≡ 0
-                  → filledWith (keysAt text t) keys ≡ keysAfterOf text lengths d i keys
-              written v m = filled-told (keysAt text t) keys v ∙ after-zero (given m)
+              written : length (tableKeysAt text t) ≤ length keys → number-of ≡ 0
+                  → keysWritten (tableKeysAt text t) keys ≡ keysAfterOf text lengths d i keys
+              written v m = filled-told (tableKeysAt text t) keys v ∙ after-zero (given m)
 
       pub keys-found : f ≡ At t → Keys text lengths d i keys number count after
       keys-found q = found-so (subst (λ (x : Found). Tabled text lengths d i x) q there-is)

@@ -15,7 +15,7 @@ use Rattle.grammar.specs.Document.{Element}
 use Rattle.grammar.specs.Look.{Word, is, nameOf, attr, contentsOf, withinOf, elements, children}
 use Rattle.nodes.specs.Places.{Stands, the}
 use Rattle.nodes.specs.Laws.Found.{attr-law}
-use Rattle.nodes.specs.Children.{first}
+use Rattle.nodes.specs.Children.{firstChild}
 use Rattle.nodes.specs.Root.{root}
 use Rattle.nodes.specs.declared.Kid.{Kid}
 use Rattle.nodes.specs.declared.Kid.the-variants.{Child, Done}
@@ -24,8 +24,8 @@ use Rattle.nodes.specs.declared.Found.the-variants.{At, Nothing}
 use Rattle.numbers.specs.Numbers as numbers
 use Rattle.numbers.specs.Numbers.{sameKey}
 use Rattle.numbers.specs.Answers.{keyIn}
-use Rattle.cifti.specs.LabelTable.{labelsOf, keyOf, keysRight, tableKeys, labelsWith, namesWith}
-use Rattle.label_table.specs.Labels.{labels, labelsFrom, orZero, keyHere, has-key, labelWith}
+use Rattle.cifti.specs.LabelTable.{labelsOf, labelKey, keysRight, tableKeys, labelsWith, namesWith}
+use Rattle.label_table.specs.Labels.{labels, labelsFrom, keyOrZero, keyHere, has-key, labelWith}
 use Rattle.inside.specs.Way.{Step, step, nth}
 use Rattle.inside.specs.Walked.{placesFrom, nthPlace, childAt, thence, walked, walkedFrom, wayAt}
 use Rattle.inside.specs.Laws.Walked.{Stood, none, one, children-stood, Agrees}
@@ -63,9 +63,9 @@ first-name [] h = never-some h
 first-name (a ∷ l) {x} h = let q : a ≡ x = cc in ap withinOf q
 
 module _ (key : ℤ) (e : Element) where
-  among : any (sameKey key) (tableKeys e) ≡ any (λ l. sameKey key (keyOf l)) (labelsOf e)
+  among : any (sameKey key) (tableKeys e) ≡ any (λ l. sameKey key (labelKey l)) (labelsOf e)
   unfolding tableKeys
-  among = any-each keyOf (sameKey key) (labelsOf e)
+  among = any-each labelKey (sameKey key) (labelsOf e)
 
   agrees-none : {text : List ℕ} {f : Found} {o : Option Element} → Agrees text f o → f ≡ Nothing → o ≡ Option.none
   agrees-none not-there q = refl
@@ -78,7 +78,7 @@ module _ (key : ℤ) (e : Element) where
 
   pub key-missing : {text : List ℕ} → Agrees text Nothing (nth 0 (labelsWith key e)) → any (sameKey key) (tableKeys e) ≡ false
   unfolding labelsWith
-  key-missing a = among ∙ none-pass (λ l. sameKey key (keyOf l)) (labelsOf e) (agrees-none a refl)
+  key-missing a = among ∙ none-pass (λ l. sameKey key (labelKey l)) (labelsOf e) (agrees-none a refl)
 
   -- the name that is written, that the key is there, and that the Label stands
   pub key-there : {text : List ℕ} {k : ℕ} → Agrees text (At k) (nth 0 (labelsWith key e))
@@ -86,8 +86,8 @@ module _ (key : ℤ) (e : Element) where
   unfolding labelsWith namesWith
   key-there a =
       let (o, st) = agrees-some a refl in (
-        first-name (those (λ l. sameKey key (keyOf l)) (labelsOf e)) o,
-        among ∙ one-passes (λ l. sameKey key (keyOf l)) (labelsOf e) o,
+        first-name (those (λ l. sameKey key (labelKey l)) (labelsOf e)) o,
+        among ∙ one-passes (λ l. sameKey key (labelKey l)) (labelsOf e) o,
         st,
       )
 
@@ -112,8 +112,8 @@ way-on w v text {t} h = go (root text) h
     go (Child r) h = walked-on w v text r ∙ ap (thence (walked v text)) h
 
 -- where keys are in form, the Labels with the key are the children that the step asks for
-key-here : {text : List ℕ} {k : ℕ} → Stands text k → numbers.key (attr "Key" (the text k)) ≡ true → keyHere text k ≡ keyOf (the text k)
-unfolding keyHere keyOf orZero keyIn
+key-here : {text : List ℕ} {k : ℕ} → Stands text k → numbers.key (attr "Key" (the text k)) ≡ true → keyHere text k ≡ labelKey (the text k)
+unfolding keyHere labelKey keyOrZero keyIn
 key-here st f = rw (attr-law "Key" st, f) refl
 
 module _ (key : ℤ) (text : List ℕ) where
@@ -139,7 +139,7 @@ module _ (key : ℤ) (text : List ℕ) where
       go : (b : Bool) → inForm (cond b (the text k ∷ named es) (named es)) ≡ true
           → (inForm (named es) ≡ true → those (has-key key text) rest ≡ wanted ks)
           → those (has-key key text) (cond b (k ∷ rest) rest)
-          ≡ cond (b && sameKey key (keyOf (the text k))) (k ∷ wanted ks) (wanted ks)
+          ≡ cond (b && sameKey key (labelKey (the text k))) (k ∷ wanted ks) (wanted ks)
       go true f ih =
           rw (key-here st (and-left _ _ f), ih (and-right (numbers.key (attr "Key" (the text k))) _ f)) refl
       go false f ih = ih f
@@ -148,7 +148,7 @@ module _ (key : ℤ) (text : List ℕ) where
   unfolding labelWith labels labelsFrom walked toLabel childAt keysRight labelsOf children
   label-places {t} st f =
       ap (nthPlace 0) (same-places (children-stood st) f)
-      ∙ sym (thence-at (nthPlace 0 (wanted (placesFrom text (first text t)))))
+      ∙ sym (thence-at (nthPlace 0 (wanted (placesFrom text (firstChild text t)))))
 
 pub label-way : (text : List ℕ) (d i : ℕ) (key : ℤ) {t : ℕ} → Stands text t → keysRight (the text t) ≡ true
     → wayAt (tableWay d i) text ≡ At t → {k : ℕ} → labelWith key text t ≡ At k → wayAt (labelWay d i key) text ≡ At k

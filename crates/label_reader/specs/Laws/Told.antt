@@ -19,7 +19,7 @@ use Rattle.grammar.specs.Document.{Element}
 use Rattle.grammar.specs.Grammar.{Writes}
 use Rattle.grammar.specs.Look.{withinOf}
 use Rattle.numbers.specs.Numbers.{sameKey}
-use Rattle.cifti.specs.LabelTable.{labelsOf, keyOf, tableKeys, labelsWith, namesWith}
+use Rattle.cifti.specs.LabelTable.{labelsOf, labelKey, tableKeys, labelsWith, namesWith}
 use Rattle.cifti.specs.Rows.{cifti}
 use Rattle.cifti.specs.Maps.{mapsOf}
 use Rattle.cifti.specs.Conditions.{conditionsOfHeader, conditionsOfLabels, ofMaps, listedDimensions, dimensionsWrong, keyTwice}
@@ -99,20 +99,20 @@ module _ {text lengths : List ℕ} {d i : ℕ} {keys : List ℤ} {count : ℕ} {
 
   many-so : (t : Element) → keysOn d i (mapsOf e) ≡ tableKeys t → count ≡ length (labelsOf t)
   unfolding keysCount tableKeys
-  many-so t s = answers-of (r .counted) w ∙ ap length (given ∙ s) ∙ length-each keyOf (labelsOf t)
+  many-so t s = answers-of (r .counted) w ∙ ap length (given ∙ s) ∙ length-each labelKey (labelsOf t)
 
   after-so : (t : Element) → keysOn d i (mapsOf e) ≡ tableKeys t → after ≡ tableKeys t ++ drop (length (tableKeys t)) keys
   unfolding keysAfterwards overwritten
   after-so t s = answers-of (r .filled) w ∙ ap (λ l. l ++ drop (length l) keys) (given ∙ s)
 
   each-so : (t : Element) → keysOn d i (mapsOf e) ≡ tableKeys t → (n : ℕ) → n < count
-      → getD after n (pos 0) ≡ getD (each keyOf (labelsOf t)) n (pos 0)
+      → getD after n (pos 0) ≡ getD (each labelKey (labelsOf t)) n (pos 0)
   unfolding tableKeys
   each-so t s n u =
       let m = many-so t s in
-      let k = length-each keyOf (labelsOf t) in
+      let k = length-each labelKey (labelsOf t) in
       ap (λ l. getD l n (pos 0)) (after-so t s)
-      ∙ List·getD-append (each keyOf (labelsOf t)) (drop (length (each keyOf (labelsOf t))) keys) (pos 0) n (omega arith)
+      ∙ List·getD-append (each labelKey (labelsOf t)) (drop (length (each labelKey (labelsOf t))) keys) (pos 0) n (omega arith)
 
   pub keys-told : KeysTold d i e count after
   keys-told = by (told lengths (length text) d i e keys-none)

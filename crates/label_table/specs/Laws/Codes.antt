@@ -22,7 +22,7 @@ use Rattle.nodes.specs.Found.{value-at-name}
 use Rattle.numbers.specs.Numbers.{digits, withSign, plus, minus, unsigned, Signed, inKeys, key, keyValue, sameKey}
 use Rattle.numbers.specs.Answers.{keyIn}
 use Rattle.numbers.specs.Laws.Keys.{above-in, below-in}
-use Rattle.label_table.specs.Labels.{labels, orZero, keyHere, keysAt, twiceAt}
+use Rattle.label_table.specs.Labels.{labels, keyOrZero, keyHere, tableKeysAt, twiceAt}
 use Rattle.label_table.specs.Codes.{codeOf, codeHere, codesAt}
 
 -- what is read is in the range of keys
@@ -34,11 +34,11 @@ zero-in : inKeys (pos 0) ≡ true
 unfolding inKeys withSign
 zero-in = refl
 
-read-in : (w : Word) → inKeys (orZero (keyIn w)) ≡ true
-unfolding keyIn orZero
+read-in : (w : Word) → inKeys (keyOrZero (keyIn w)) ≡ true
+unfolding keyIn keyOrZero
 read-in w = go (key w) refl
   where
-    go : (b : Bool) → key w ≡ b → inKeys (orZero (keyIn w)) ≡ true
+    go : (b : Bool) → key w ≡ b → inKeys (keyOrZero (keyIn w)) ≡ true
     go true h = rw h (right-in w h)
     go false h = rw h zero-in
 
@@ -66,7 +66,7 @@ code-same (negsuc m) (negsuc n) h k =
     eqb-same m n (2147483647 - m) (2147483647 - n) (λ e. omega arith) (λ e. omega arith)
 
 pub twice-codes : (text : List ℕ) (at : ℕ) → twiceAt text at ≡ twoOf eqb (codesAt text at)
-unfolding twiceAt keysAt codesAt codeHere
+unfolding twiceAt tableKeysAt codesAt codeHere
 twice-codes text at =
     two-each (keyHere text) sameKey (labels text at)
     ∙ two-same (λ a b. code-same (keyHere text a) (keyHere text b) (here-in text a) (here-in text b)) (labels text at)

@@ -19,7 +19,7 @@ use Rattle.nodes.specs.Attributes.{place}
 use Rattle.nodes.specs.Values.{value-there}
 use Rattle.nodes.specs.Found.{value-at-name}
 use Rattle.nodes.specs.Laws.Found.{value-found, value-missing}
-use Rattle.nodes.specs.Children.{first, next}
+use Rattle.nodes.specs.Children.{firstChild, next}
 use Rattle.nodes.specs.declared.Kid.{Kid}
 use Rattle.nodes.specs.declared.Kid.the-variants.{Child, Done}
 use Rattle.nodes.specs.declared.Found.{Found}
@@ -32,8 +32,8 @@ use Rattle.numbers.specs.declared.Key.the-variants.{Is, No}
 use Rattle.inside.specs.Walked.{placesWithin, placesFrom, nthPlace}
 use Rattle.inside.specs.Treads.{called}
 use Rattle.inside.specs.Laws.Treads.{ahead, next-ahead, places-done, places-child, called-is}
-use Rattle.label_table.specs.Labels.{labelsFrom, labels, headOf, labelFrom, firstLabel, nextLabel, orZero, keyHere, keysAt}
-use Rattle.label_table.specs.Labels.{has-key, labelWith, filledWith}
+use Rattle.label_table.specs.Labels.{labelsFrom, labels, firstOrDone, labelFrom, firstLabel, nextLabel, keyOrZero, keyHere}
+use Rattle.label_table.specs.Labels.{tableKeysAt, has-key, labelWith, keysWritten}
 
 -- ---- From a child to the first Label.
 
@@ -54,8 +54,8 @@ labels-child text k = rw (places-child text k)
 
 module _ {text : List ℕ} {from kid : Kid} (go : Searching text from kid) where
   pub searching-done : kid ≡ Done → Done ≡ labelFrom text from
-  unfolding labelFrom headOf
-  searching-done e = sym (ap headOf (go .same-labels ∙ ap (labelsFrom text) e ∙ labels-done text))
+  unfolding labelFrom firstOrDone
+  searching-done e = sym (ap firstOrDone (go .same-labels ∙ ap (labelsFrom text) e ∙ labels-done text))
 
   module _ {k : ℕ} (is-child : kid ≡ Child k) where
     pub searching-less : {kid₁ : Kid} → kid₁ ≡ next text k → ahead text kid₁ < ahead text kid
@@ -67,15 +67,15 @@ module _ {text : List ℕ} {from kid : Kid} (go : Searching text from kid) where
           ∙ ap (λ t. cond t (k ∷ labelsFrom text (next text k)) (labelsFrom text (next text k))) (sym (called-is text (ascii "Label") k q))
 
       pub searching-found : b ≡ true → Child k ≡ labelFrom text from
-      unfolding labelFrom headOf
-      searching-found t = sym (ap headOf splits ∙ rw t refl)
+      unfolding labelFrom firstOrDone
+      searching-found t = sym (ap firstOrDone splits ∙ rw t refl)
 
       pub searching-on : b ≡ false → {kid₁ : Kid} → kid₁ ≡ next text k → Searching text from kid₁
       searching-on f e = record { same-labels = splits ∙ rw (f, e) refl }
 
 pub ruleset searching = (searching-start, searching-done, searching-less, searching-found, searching-on, needs)
 
-pub is-first : (text : List ℕ) (at : ℕ) {kid r : Kid} → kid ≡ first text at → r ≡ labelFrom text kid → r ≡ firstLabel text at
+pub is-first : (text : List ℕ) (at : ℕ) {kid r : Kid} → kid ≡ firstChild text at → r ≡ labelFrom text kid → r ≡ firstLabel text at
 unfolding firstLabel
 is-first text at e h = h ∙ ap (labelFrom text) e
 
@@ -89,17 +89,17 @@ pub ruleset stepping = (is-first, is-next, needs)
 
 module _ (text : List ℕ) (at : ℕ) {f : Found} (e : f ≡ place text at (ascii "Key")) where
   pub key-missing : f ≡ Nothing → pos 0 ≡ keyHere text at
-  unfolding keyHere orZero keyIn key unsigned digits all
-  key-missing h = sym (ap (λ w. orZero (keyIn w)) (value-missing text at (ascii "Key") e h))
+  unfolding keyHere keyOrZero keyIn key unsigned digits all
+  key-missing h = sym (ap (λ w. keyOrZero (keyIn w)) (value-missing text at (ascii "Key") e h))
 
   module _ {v : ℕ} (h : f ≡ At v) {r : Key} (q : r ≡ keyIn (value-there text v)) where
     pub key-there : {k : ℤ} → r ≡ Is k → k ≡ keyHere text at
-    unfolding keyHere orZero
-    key-there g = sym (ap (λ w. orZero (keyIn w)) (value-found text at (ascii "Key") e h) ∙ ap orZero (sym q ∙ g))
+    unfolding keyHere keyOrZero
+    key-there g = sym (ap (λ w. keyOrZero (keyIn w)) (value-found text at (ascii "Key") e h) ∙ ap keyOrZero (sym q ∙ g))
 
     pub key-none : r ≡ No → pos 0 ≡ keyHere text at
-    unfolding keyHere orZero
-    key-none g = sym (ap (λ w. orZero (keyIn w)) (value-found text at (ascii "Key") e h) ∙ ap orZero (sym q ∙ g))
+    unfolding keyHere keyOrZero
+    key-none g = sym (ap (λ w. keyOrZero (keyIn w)) (value-found text at (ascii "Key") e h) ∙ ap keyOrZero (sym q ∙ g))
 
 pub ruleset keying = (key-missing, key-there, key-none, needs)
 
@@ -110,19 +110,20 @@ row text Done = []
 row text (Child k) = k ∷ labelsFrom text (next text k)
 
 row-none : (text : List ℕ) (kid : Kid) → ahead text kid ≤ 0 → row text (labelFrom text kid) ≡ labelsFrom text kid
-unfolding labelFrom headOf row ahead
+unfolding labelFrom firstOrDone row ahead
 row-none text Done h = rw (labels-done text)
 row-none text (Child k) h = absurd (omega arith)
 
 row-within : (m : ℕ) (text : List ℕ) (kid : Kid) → ahead text kid ≤ m → row text (labelFrom text kid) ≡ labelsFrom text kid
-unfolding labelFrom headOf row ahead
+unfolding labelFrom firstOrDone row ahead
 row-within zero text kid h = row-none text kid h
 row-within (suc m) text Done h = rw (labels-done text)
 row-within (suc m) text (Child k) h =
     go (called text (ascii "Label") k) refl (row-within m text (next text k) (let a = next-ahead text k in omega arith))
   where
-    go : (b : Bool) → called text (ascii "Label") k ≡ b → row text (headOf (labelsFrom text (next text k))) ≡ labelsFrom text (next text k)
-        → row text (headOf (labelsFrom text (Child k))) ≡ labelsFrom text (Child k)
+    go : (b : Bool) → called text (ascii "Label") k ≡ b
+        → row text (firstOrDone (labelsFrom text (next text k))) ≡ labelsFrom text (next text k)
+        → row text (firstOrDone (labelsFrom text (Child k))) ≡ labelsFrom text (Child k)
     go true e on = let z : labelsFrom text (Child k) ≡ k ∷ labelsFrom text (next text k) = labels-child text k ∙ rw e refl in rw z refl
     go false e on = let z : labelsFrom text (Child k) ≡ labelsFrom text (next text k) = labels-child text k ∙ rw e refl in rw z on
 
@@ -131,7 +132,7 @@ row-is text kid = row-within (ahead text kid) text kid (omega arith)
 
 pub row-first : (text : List ℕ) (at : ℕ) {kid : Kid} → kid ≡ firstLabel text at → row text kid ≡ labels text at
 unfolding firstLabel labels
-row-first text at e = ap (row text) e ∙ row-is text (first text at)
+row-first text at e = ap (row text) e ∙ row-is text (firstChild text at)
 
 pub row-done : (text : List ℕ) {kid : Kid} → kid ≡ Done → row text kid ≡ []
 unfolding row
@@ -151,8 +152,8 @@ few-within (suc m) text (Child k) = let h = few-within m text (next text k) in o
 pub few-labels : (text : List ℕ) (at : ℕ) → length (labels text at) ≤ suc (length text)
 unfolding labels labelsFrom placesFrom
 few-labels text at =
-    let a = few-those (called text (ascii "Label")) (placesWithin (suc (length text)) text (first text at)) in
-    let b = few-within (suc (length text)) text (first text at) in
+    let a = few-those (called text (ascii "Label")) (placesWithin (suc (length text)) text (firstChild text at)) in
+    let b = few-within (suc (length text)) text (firstChild text at) in
     omega arith
 
 -- ---- Counting them.
@@ -165,8 +166,8 @@ counting-start text at {kid} e = let z : length (row text kid) ≡ length (label
     record { counted = omega arith }
 
 module _ {text : List ℕ} {at n : ℕ} {kid : Kid} (go : Counting text at n kid) where
-  pub counting-done : kid ≡ Done → n ≡ length (keysAt text at)
-  unfolding keysAt
+  pub counting-done : kid ≡ Done → n ≡ length (tableKeysAt text at)
+  unfolding tableKeysAt
   counting-done e =
       let z : length (row text kid) ≡ 0 = ap length (row-done text e) in
       let c = go .counted in
@@ -237,18 +238,18 @@ pub ruleset finding = (finding-start, finding-done, finding-less, finding-found,
 
 -- the same from a place on
 unfoldable pub filledFrom : ℕ → List ℤ → List ℤ → List ℤ
-filledFrom zero ks s = filledWith ks s
+filledFrom zero ks s = keysWritten ks s
 filledFrom (suc n) ks [] = []
 filledFrom (suc n) ks (x ∷ s) = x ∷ filledFrom n ks s
 
 pub from-none : (n : ℕ) (s : List ℤ) → filledFrom n [] s ≡ s
-unfolding filledFrom filledWith
+unfolding filledFrom keysWritten
 from-none zero s = refl
 from-none (suc n) [] = refl
 from-none (suc n) (x ∷ s) = ap (λ l. x ∷ l) (from-none n s)
 
 pub from-full : (n : ℕ) (ks s : List ℤ) → length s ≤ n → filledFrom n ks s ≡ s
-unfolding filledFrom filledWith
+unfolding filledFrom keysWritten
 from-full zero [] [] h = refl
 from-full zero (k ∷ ks) [] h = refl
 from-full zero ks (x ∷ s) h = absurd (omega arith)
@@ -256,27 +257,27 @@ from-full (suc n) ks [] h = refl
 from-full (suc n) ks (x ∷ s) h = ap (λ l. x ∷ l) (from-full n ks s (omega arith))
 
 pub from-more : (n : ℕ) (a : ℤ) (ks s : List ℤ) → n < length s → filledFrom n (a ∷ ks) s ≡ filledFrom (suc n) ks (set s n a)
-unfolding filledFrom filledWith
+unfolding filledFrom keysWritten
 from-more zero a ks [] h = absurd (omega arith)
 from-more zero a ks (x ∷ s) h = refl
 from-more (suc n) a ks [] h = absurd (omega arith)
 from-more (suc n) a ks (x ∷ s) h = ap (λ l. x ∷ l) (from-more n a ks s (omega arith))
 
 pub record Writing (text : List ℕ) (at : ℕ) (s₀ s : List ℤ) (n : ℕ) (kid : Kid) : Type 0 where
-  pub so-far : filledWith (keysAt text at) s₀ ≡ filledFrom n (each (keyHere text) (row text kid)) s
+  pub so-far : keysWritten (tableKeysAt text at) s₀ ≡ filledFrom n (each (keyHere text) (row text kid)) s
   pub long : length s ≡ length s₀
 
 pub writing-start : (text : List ℕ) (at : ℕ) (s : List ℤ) {kid : Kid} → kid ≡ firstLabel text at → Writing text at s s 0 kid
-unfolding keysAt filledFrom
+unfolding tableKeysAt filledFrom
 writing-start text at s e =
-    record { so-far = ap (λ l. filledWith (each (keyHere text) l) s) (sym (row-first text at e)); long = refl }
+    record { so-far = ap (λ l. keysWritten (each (keyHere text) l) s) (sym (row-first text at e)); long = refl }
 
 module _ {text : List ℕ} {at : ℕ} {s₀ s : List ℤ} {n : ℕ} {kid : Kid} (go : Writing text at s₀ s n kid) where
-  pub writing-done : kid ≡ Done → s ≡ filledWith (keysAt text at) s₀
+  pub writing-done : kid ≡ Done → s ≡ keysWritten (tableKeysAt text at) s₀
   unfolding each
   writing-done e = sym (go .so-far ∙ ap (λ l. filledFrom n (each (keyHere text) l) s) (row-done text e) ∙ from-none n s)
 
-  pub writing-full : length s ≤ n → s ≡ filledWith (keysAt text at) s₀
+  pub writing-full : length s ≤ n → s ≡ keysWritten (tableKeysAt text at) s₀
   writing-full h = sym (go .so-far ∙ from-full n (each (keyHere text) (row text kid)) s h)
 
   module _ {k : ℕ} (is-child : kid ≡ Child k) {kid₁ : Kid} (e : kid₁ ≡ nextLabel text k) where

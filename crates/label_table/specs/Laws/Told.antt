@@ -20,8 +20,8 @@ use Rattle.inside.specs.Walked.{nthPlace}
 use Rattle.inside.specs.Laws.Walked.{Stood, none, one, children-stood, Agrees, not-there, stands-there}
 use Rattle.inside.specs.Treads.{called}
 use Rattle.inside.specs.Laws.Treads.{called-alike}
-use Rattle.cifti.specs.LabelTable.{labelsOf, keyOf, keysRight, tableKeys, keyTwice, labelsWith}
-use Rattle.label_table.specs.Labels.{labelsFrom, labels, orZero, keyHere, keysAt, filledWith, has-key, labelWith, twiceAt}
+use Rattle.cifti.specs.LabelTable.{labelsOf, labelKey, keysRight, tableKeys, keyTwiceIn, labelsWith}
+use Rattle.label_table.specs.Labels.{labelsFrom, labels, keyOrZero, keyHere, tableKeysAt, keysWritten, has-key, labelWith, twiceAt}
 
 -- the places that pass, and the elements that pass, where the tests agree
 passed : (t : ℕ → Bool) (p : Element → Bool) {text ks : List ℕ} {es : List Element} → Stood text ks es
@@ -41,12 +41,12 @@ labels-stood {text} st =
     passed (called text (ascii "Label")) (λ d. is "Label" (nameOf d)) (children-stood st) (λ k h. called-alike text "Label" k h)
 
 -- the key of a Label that is in form
-key-told : {text : List ℕ} {k : ℕ} → Stands text k → key (attr "Key" (the text k)) ≡ true → keyHere text k ≡ keyOf (the text k)
-unfolding keyHere keyOf orZero keyIn
+key-told : {text : List ℕ} {k : ℕ} → Stands text k → key (attr "Key" (the text k)) ≡ true → keyHere text k ≡ labelKey (the text k)
+unfolding keyHere labelKey keyOrZero keyIn
 key-told st f = rw (attr-law "Key" st, f) refl
 
 each-told : {text ks : List ℕ} {es : List Element} → Stood text ks es → all (λ l. key (attr "Key" l)) es ≡ true
-    → each (keyHere text) ks ≡ each keyOf es
+    → each (keyHere text) ks ≡ each labelKey es
 unfolding each all
 each-told none f = refl
 each-told {text} (one {k} {ks} {es} st s) f =
@@ -55,30 +55,30 @@ each-told {text} (one {k} {ks} {es} st s) f =
     rw (key-told st a, each-told s b) refl
 
 -- THE KEYS of the table at the place are those of the table
-pub keys-told : {text : List ℕ} {at : ℕ} → Stands text at → keysRight (the text at) ≡ true → keysAt text at ≡ tableKeys (the text at)
-unfolding keysAt keysRight tableKeys
+pub keys-told : {text : List ℕ} {at : ℕ} → Stands text at → keysRight (the text at) ≡ true → tableKeysAt text at ≡ tableKeys (the text at)
+unfolding tableKeysAt keysRight tableKeys
 keys-told st f = each-told (labels-stood st) f
 
 -- written over a list that has room for them
-pub filled-told : (ks s : List ℤ) → length ks ≤ length s → filledWith ks s ≡ ks ++ drop (length ks) s
-unfolding filledWith
+pub filled-told : (ks s : List ℤ) → length ks ≤ length s → keysWritten ks s ≡ ks ++ drop (length ks) s
+unfolding keysWritten
 filled-told [] s h = refl
 filled-told (k ∷ ks) [] h = absurd (omega arith)
 filled-told (k ∷ ks) (x ∷ s) h = ap (λ l. k ∷ l) (filled-told ks s (omega arith))
 
 -- THE LABEL of a key
 with-told : (key₁ : ℤ) {text ks : List ℕ} {es : List Element} → Stood text ks es → all (λ l. key (attr "Key" l)) es ≡ true
-    → Agrees text (nthPlace 0 (those (has-key key₁ text) ks)) (nth 0 (those (λ l. sameKey key₁ (keyOf l)) es))
+    → Agrees text (nthPlace 0 (those (has-key key₁ text) ks)) (nth 0 (those (λ l. sameKey key₁ (labelKey l)) es))
 unfolding those all nthPlace nth has-key
 with-told key₁ none f = not-there
 with-told key₁ {text} (one {k} {ks} {es} st s) f =
     let a = and-left (key (attr "Key" (the text k))) _ f in
     let b = and-right (key (attr "Key" (the text k))) _ f in
-    rw (key-told st a) (by (sameKey key₁ (keyOf (the text k))) (with-told key₁ s b))
+    rw (key-told st a) (by (sameKey key₁ (labelKey (the text k))) (with-told key₁ s b))
   where
-    by : (b : Bool) → Agrees text (nthPlace 0 (those (has-key key₁ text) ks)) (nth 0 (those (λ l. sameKey key₁ (keyOf l)) es))
+    by : (b : Bool) → Agrees text (nthPlace 0 (those (has-key key₁ text) ks)) (nth 0 (those (λ l. sameKey key₁ (labelKey l)) es))
         → Agrees text (nthPlace 0 (cond b (k ∷ those (has-key key₁ text) ks) (those (has-key key₁ text) ks)))
-        (nth 0 (cond b (the text k ∷ those (λ l. sameKey key₁ (keyOf l)) es) (those (λ l. sameKey key₁ (keyOf l)) es)))
+        (nth 0 (cond b (the text k ∷ those (λ l. sameKey key₁ (labelKey l)) es) (those (λ l. sameKey key₁ (labelKey l)) es)))
     by true r = stands-there st
     by false r = r
 
@@ -88,6 +88,6 @@ unfolding labelWith keysRight labelsWith
 label-told key₁ st f = with-told key₁ (labels-stood st) f
 
 -- A KEY TWICE
-pub twice-told : {text : List ℕ} {at : ℕ} → Stands text at → keysRight (the text at) ≡ true → twiceAt text at ≡ keyTwice (the text at)
-unfolding twiceAt keyTwice
+pub twice-told : {text : List ℕ} {at : ℕ} → Stands text at → keysRight (the text at) ≡ true → twiceAt text at ≡ keyTwiceIn (the text at)
+unfolding twiceAt keyTwiceIn
 twice-told st f = ap (twoOf sameKey) (keys-told st f)

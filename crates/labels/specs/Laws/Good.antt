@@ -6,7 +6,7 @@ use mathlib.Core.Bool.{true, false}
 use Rattle.grammar.specs.Bytes.{ascii}
 use Rattle.grammar.specs.Document.{Element}
 use Rattle.grammar.specs.Look.{is, nameOf, contentsOf, elements, children}
-use Rattle.grammar.specs.Parser.{same}
+use Rattle.grammar.specs.Parser.{sameBytes}
 use Rattle.schema.specs.Schema.{ChildRow, child, once, atMostOnce, always, kindOf, kindBy}
 use Rattle.schema.specs.Laws.Good as good
 pub use Rattle.schema.specs.Laws.Good.{no-good, also-good, those-good}
@@ -36,7 +36,7 @@ labelledRows = child "MapName" once (always words) ∷ child "LabelTable" once (
     ∷ child "MetaData" atMostOnce (always metaData) ∷ []
 
 name-table : is "MapName" (ascii "LabelTable") ≡ false
-unfolding is same
+unfolding is sameBytes
 name-table = refl
 
 table-kind : (e : Element) → GoodAs labelledRows e → is "LabelTable" (nameOf e) ≡ true → Good labelTable e

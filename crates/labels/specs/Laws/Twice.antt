@@ -12,7 +12,7 @@ use Rattle.grammar.specs.Document.{Element}
 use Rattle.grammar.specs.Look.{is, nameOf, children}
 use Rattle.numbers.specs.Numbers.{sameKey}
 use Rattle.nodes.specs.Places.{Stands, the}
-use Rattle.nodes.specs.Children.{first, next}
+use Rattle.nodes.specs.Children.{firstChild, next}
 use Rattle.nodes.specs.Names.{named}
 use Rattle.nodes.specs.declared.Kid.{Kid}
 use Rattle.nodes.specs.declared.Kid.the-variants.{Child, Done}
@@ -42,7 +42,7 @@ use Rattle.labels.specs.Twice.{childrenFrom, someChild, namedTwice, tabl
 pub record Asking (text word : List ℕ) (p : ℕ → Bool) (at : ℕ) (kid : Kid) : Type 0 where
   pub so-far : someChild text word p at ≡ any p (childrenFrom text word kid)
 
-pub asking-start : (text word : List ℕ) (p : ℕ → Bool) (at : ℕ) {kid : Kid} → kid ≡ first text at → Asking text word p at kid
+pub asking-start : (text word : List ℕ) (p : ℕ → Bool) (at : ℕ) {kid : Kid} → kid ≡ firstChild text at → Asking text word p at kid
 unfolding someChild
 asking-start text w p at e = record { so-far = ap (λ k. any p (childrenFrom text w k)) (sym e) }
 
@@ -101,7 +101,7 @@ those-called s {text} (one {k} {ks} {es} st r) = rw (called-alike text s k st) (
     by false h = h
 
 children-are : (s : String) {text : List ℕ} {at : ℕ} → Stands text at
-    → Stood text (childrenFrom text (ascii s) (first text at)) (children s (the text at))
+    → Stood text (childrenFrom text (ascii s) (firstChild text at)) (children s (the text at))
 unfolding childrenFrom children
 children-are s st = those-called s (children-stood st)
 
@@ -112,20 +112,20 @@ unfolding any
 any-stood p q h none no-good = refl
 any-stood p q h (one {k = i} {ks} {es} st s) (also-good g m) = rw (h i st g, any-stood p q h s m) refl
 
-table-so : {text : List ℕ} (at : ℕ) → Stands text at → Good labelTable (the text at) → twiceAt text at ≡ tables.keyTwice (the text at)
+table-so : {text : List ℕ} (at : ℕ) → Stands text at → Good labelTable (the text at) → twiceAt text at ≡ tables.keyTwiceIn (the text at)
 table-so at st g = twice-told st (keys-in-form g)
 
 named-so : {text : List ℕ} (at : ℕ) → Stands text at → Good labelledMap (the text at)
-    → namedTwice text at ≡ any tables.keyTwice (children "LabelTable" (the text at))
+    → namedTwice text at ≡ any tables.keyTwiceIn (children "LabelTable" (the text at))
 unfolding namedTwice someChild
-named-so {text} at st g = any-stood (twiceAt text) tables.keyTwice table-so (children-are "LabelTable" st) (good-tables g)
+named-so {text} at st g = any-stood (twiceAt text) tables.keyTwiceIn table-so (children-are "LabelTable" st) (good-tables g)
 
 tables-so : {text : List ℕ} (at : ℕ) → Stands text at → Good labels (the text at)
     → tablesTwice text at ≡ any (twoOf sameKey) (each tableKeys (tablesIn (the text at)))
-unfolding tablesTwice someChild tablesIn tables.keyTwice
+unfolding tablesTwice someChild tablesIn tables.keyTwiceIn
 tables-so {text} at st g =
-    any-stood (namedTwice text) (λ e. any tables.keyTwice (children "LabelTable" e)) named-so (children-are "NamedMap" st) (good-named g)
-    ∙ sym (any-in tables.keyTwice (children "LabelTable") (children "NamedMap" (the text at)))
+    any-stood (namedTwice text) (λ e. any tables.keyTwiceIn (children "LabelTable" e)) named-so (children-are "NamedMap" st) (good-named g)
+    ∙ sym (any-in tables.keyTwiceIn (children "LabelTable") (children "NamedMap" (the text at)))
     ∙ sym (any-each tableKeys (twoOf sameKey) (eachIn (children "LabelTable") (children "NamedMap" (the text at))))
 
 module _ {text : List ℕ} {n : MapNote} (m : Noted text n) {b : Bool} (e : b ≡ isLabels (n .kind)) where

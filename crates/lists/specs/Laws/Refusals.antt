@@ -9,7 +9,7 @@ use lib.ListN.{drop}
 use borrow.Author.Tests.{leb-true, ltb-true, eq-eqb, ne-eqb}
 use Rattle.lists.specs.Laws.Booleans.{and-left, and-right}
 use Rattle.lists.specs.Refusals.{Refusal, _when_, first, Applies, here, later, NoneApplies, none-left, passed, FirstOf, none-first}
-use Rattle.lists.specs.Refusals.{this-first, positive, rising, EitherOf, no-rows, row, sooner}
+use Rattle.lists.specs.Refusals.{this-first, positive, rising, EitherOf, no-rows, row, soonerRefusal}
 
 -- ---- What is given.
 
@@ -132,28 +132,28 @@ first-given n (k when false ∷ l) h = up (first-given k l (and-right (leb n k) 
 
 -- ---- Two lists, row by row.
 
-pub sooner-none : (a b : ℕ) → a ≡ 0 → b ≡ sooner a b
-unfolding sooner
+pub sooner-none : (a b : ℕ) → a ≡ 0 → b ≡ soonerRefusal a b
+unfolding soonerRefusal
 sooner-none a b e = rw (eq-eqb a 0 e)
 
-pub sooner-alone : (a b : ℕ) → (a ≡ 0 → ⊥) → b ≡ 0 → a ≡ sooner a b
-unfolding sooner
+pub sooner-alone : (a b : ℕ) → (a ≡ 0 → ⊥) → b ≡ 0 → a ≡ soonerRefusal a b
+unfolding soonerRefusal
 sooner-alone a b k e = rw (ne-eqb a 0 k, eq-eqb b 0 e)
 
-pub sooner-first : (a b : ℕ) → (a ≡ 0 → ⊥) → (b ≡ 0 → ⊥) → a ≤ b → a ≡ sooner a b
-unfolding sooner
+pub sooner-first : (a b : ℕ) → (a ≡ 0 → ⊥) → (b ≡ 0 → ⊥) → a ≤ b → a ≡ soonerRefusal a b
+unfolding soonerRefusal
 sooner-first a b k j h = rw (ne-eqb a 0 k, ne-eqb b 0 j) (omega arith)
 
-pub sooner-second : (a b : ℕ) → (a ≡ 0 → ⊥) → (b ≡ 0 → ⊥) → b ≤ a → b ≡ sooner a b
-unfolding sooner
+pub sooner-second : (a b : ℕ) → (a ≡ 0 → ⊥) → (b ≡ 0 → ⊥) → b ≤ a → b ≡ soonerRefusal a b
+unfolding soonerRefusal
 sooner-second a b k j h = rw (ne-eqb a 0 k, ne-eqb b 0 j) (omega arith)
 
 -- n against what is 0, or n or above
-lead : (n x : ℕ) → (n ≡ 0 → ⊥) → ((x ≡ 0 → ⊥) → n ≤ x) → n ≡ sooner n x
+lead : (n x : ℕ) → (n ≡ 0 → ⊥) → ((x ≡ 0 → ⊥) → n ≤ x) → n ≡ soonerRefusal n x
 lead n zero z u = sooner-alone n 0 z refl
 lead n (suc x) z u = sooner-first n (suc x) z (λ e. omega arith) (u (λ e. omega arith))
 
-follow : (n x : ℕ) → (n ≡ 0 → ⊥) → ((x ≡ 0 → ⊥) → n ≤ x) → n ≡ sooner x n
+follow : (n x : ℕ) → (n ≡ 0 → ⊥) → ((x ≡ 0 → ⊥) → n ≤ x) → n ≡ soonerRefusal x n
 follow n zero z u = sooner-none 0 n refl
 follow n (suc x) z u = sooner-second (suc x) n (λ e. omega arith) z (u (λ e. omega arith))
 
@@ -163,7 +163,7 @@ same-rising n no-rows h = refl
 same-rising n (row {n = m} {l = l} e) h = rw (and-left (leb n m) (rising m l) h) (same-rising m e (and-right (leb n m) (rising m l) h))
 
 -- THE FIRST OF TWO LISTS ROW BY ROW is the sooner of the two firsts, where the numbers rise.
-pub first-either : (n : ℕ) {l k j : List Refusal} → EitherOf l k j → rising n l ≡ true → 1 ≤ n → first j ≡ sooner (first l) (first k)
+pub first-either : (n : ℕ) {l k j : List Refusal} → EitherOf l k j → rising n l ≡ true → 1 ≤ n → first j ≡ soonerRefusal (first l) (first k)
 unfolding first rising
 first-either n no-rows h u = sooner-none 0 0 refl
 first-either n (row {n = m} {a} {b} {l} {k} {j} e) h u =
@@ -171,8 +171,8 @@ first-either n (row {n = m} {a} {b} {l} {k} {j} e) h u =
     let v = leb-true n m (and-left (leb n m) (rising m l) h) in
     go a b r v (first-either m e r (omega arith))
   where
-    go : (a b : Bool) → rising m l ≡ true → n ≤ m → first j ≡ sooner (first l) (first k)
-        → first (m when (a || b) ∷ j) ≡ sooner (first (m when a ∷ l)) (first (m when b ∷ k))
+    go : (a b : Bool) → rising m l ≡ true → n ≤ m → first j ≡ soonerRefusal (first l) (first k)
+        → first (m when (a || b) ∷ j) ≡ soonerRefusal (first (m when a ∷ l)) (first (m when b ∷ k))
     go true true r v ih = lead m m (λ z. omega arith) (λ z. omega arith)
     go true false r v ih = lead m (first k) (λ z. omega arith) (first-above m k (same-rising m e r))
     go false true r v ih = follow m (first l) (λ z. omega arith) (first-above m l r)

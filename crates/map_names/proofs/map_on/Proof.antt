@@ -1,11 +1,11 @@
-use Rattle.map_names.specs.Treads.{mapAt}
+use Rattle.map_names.specs.Treads.{mapListsAt}
 use Rattle.map_names.specs.Laws.Treads.{first-map}
 use Rattle.inside.specs.Laws.Treads.{Seeking, ahead}
 use Rattle.map_names.proofs.map_on.Statement.{statement}
 use Rattle.map_names.proofs.map_on.Tie as tie
 
 abbrev Inv-loop : tie.InvT-loop
-Inv-loop text at dimension kid₀ kid = Seeking (mapAt text dimension) 0 text at 0 kid
+Inv-loop text at dimension kid₀ kid = Seeking (mapListsAt text dimension) 0 text at 0 kid
 
 abbrev μ-loop : tie.MeasureT-loop
 μ-loop text at dimension kid₀ kid = ahead text kid

@@ -14,7 +14,7 @@ use Rattle.lists.specs.Lists.{all, count, each, those}
 use Rattle.lists.specs.Laws.Booleans.{never-some, and-left}
 use Rattle.grammar.specs.Document.{Element}
 use Rattle.grammar.specs.Look.{is, nameOf, contentsOf, elements, children}
-use Rattle.grammar.specs.Parser.{same}
+use Rattle.grammar.specs.Parser.{sameBytes}
 use Rattle.schema.specs.Schema.{ChildRow, child, once, anyTimes, always, kindOf, kindBy, childShaped, standsSo}
 use Rattle.schema.specs.Laws.Good.{count-those, single}
 use Rattle.cifti.specs.Rows.{ElementKind, rows, words, scalars, namedMap, labels, labelledMap, mapAttributes}
@@ -87,7 +87,7 @@ labels-children g = good-children g _ _ _ refl
 
 -- no kind without names has a NamedMap
 all-without : each (λ k. cond (hasNames k) false (namesChild "NamedMap" (rows (rowFor k)))) allKinds ≡ replicate (length allKinds) false
-unfolding allKinds kindWords caseKind each rowFor rows mapAttributes namesChild rowsName is same
+unfolding allKinds kindWords caseKind each rowFor rows mapAttributes namesChild rowsName is sameBytes
 all-without = refl
 
 pub no-named-maps : {e : Element} → GoodMap e → hasNames (kindOfMap e) ≡ false → children "NamedMap" e ≡ []

@@ -37,7 +37,7 @@ use Rattle.inside.specs.Laws.Treads.{Seeking, seeking-start, seeking-done, seek
 use Rattle.inside.specs.Treads.{childNamed, trod, trodFrom}
 use Rattle.inside.specs.Laws.Treads.{Alike, alike-none, alike-more, trod-way}
 use Rattle.map_names.specs.Way.{ofName, listsDimension, mapThatLists, mapWay, inMap, wayInMap, nameWay}
-use Rattle.map_names.specs.Treads.{some-of, listsBy, listsAt, mapAt, inMapTreads, nameTreads, mapTreads, mapThere, namedAt}
+use Rattle.map_names.specs.Treads.{some-of, listsBy, listsAt, mapListsAt, inMapTreads, nameTreads, mapTreads, mapThere, namedAt}
 
 module _ (text : List ℕ) (at : ℕ) (d : ℕ) {f : Found} (e : f ≡ place text at (ascii "AppliesToMatrixDimension")) where
   module _ {v : ℕ} (h : f ≡ At v) {w : Whole} (q : w ≡ betweenIn d d (value-there text v)) where
@@ -56,12 +56,12 @@ module _ (text : List ℕ) (at : ℕ) (d : ℕ) {f : Found} (e : f ≡ place tex
 pub ruleset listing = (lists-some, lists-bad, lists-missing, needs)
 
 module _ (text : List ℕ) (at : ℕ) (d : ℕ) {b : Bool} (e : b ≡ named text at (ascii "MatrixIndicesMap")) where
-  pub map-named : b ≡ true → {l : Bool} → l ≡ listsAt text d at → l ≡ mapAt text d at
-  unfolding mapAt called
+  pub map-named : b ≡ true → {l : Bool} → l ≡ listsAt text d at → l ≡ mapListsAt text d at
+  unfolding mapListsAt called
   map-named t h = rw (sym e ∙ t) h
 
-  pub map-other : b ≡ false → false ≡ mapAt text d at
-  unfolding mapAt called
+  pub map-other : b ≡ false → false ≡ mapListsAt text d at
+  unfolding mapListsAt called
   map-other f = rw (sym e ∙ f)
 
 pub ruleset mapping = (map-named, map-other, needs)
@@ -95,9 +95,9 @@ module _ (text : List ℕ) (d : ℕ) {kid : Kid} (e : kid ≡ root text) where
   root-none h = sym (rw (sym e ∙ h))
 
   module _ {r : ℕ} (h : kid ≡ Child r) {f : Found} (q : f ≡ childNamed (ascii "Matrix") 0 text r) where
-    pub root-found : {m : ℕ} → f ≡ At m → {x : Found} → x ≡ childAt (mapAt text d) 0 text m → x ≡ mapThere text d
+    pub root-found : {m : ℕ} → f ≡ At m → {x : Found} → x ≡ childAt (mapListsAt text d) 0 text m → x ≡ mapThere text d
     unfolding mapThere trodFrom mapTreads trod thence childNamed
-    root-found {m} k p = p ∙ sym (rw (sym e ∙ h, sym q ∙ k) (thence-at (childAt (mapAt text d) 0 text m)))
+    root-found {m} k p = p ∙ sym (rw (sym e ∙ h, sym q ∙ k) (thence-at (childAt (mapListsAt text d) 0 text m)))
 
     pub root-lost : f ≡ Nothing → Nothing ≡ mapThere text d
     unfolding mapThere trodFrom mapTreads trod thence childNamed
@@ -110,10 +110,10 @@ pub name-thence : (text w : List ℕ) (d i : ℕ) → namedAt text w d i ≡ the
 unfolding namedAt mapThere trodFrom nameTreads mapTreads trod thence
 name-thence text w d i = by (root text)
   where
-    from : (f : Found) → thence (λ m. thence (trod (inMapTreads text w i) text) (childAt (mapAt text d) 0 text m)) f
-        ≡ thence (trod (inMapTreads text w i) text) (thence (λ m. thence (λ k. At k) (childAt (mapAt text d) 0 text m)) f)
+    from : (f : Found) → thence (λ m. thence (trod (inMapTreads text w i) text) (childAt (mapListsAt text d) 0 text m)) f
+        ≡ thence (trod (inMapTreads text w i) text) (thence (λ m. thence (λ k. At k) (childAt (mapListsAt text d) 0 text m)) f)
     from Nothing = refl
-    from (At m) = ap (thence (trod (inMapTreads text w i) text)) (sym (thence-at (childAt (mapAt text d) 0 text m)))
+    from (At m) = ap (thence (trod (inMapTreads text w i) text)) (sym (thence-at (childAt (mapListsAt text d) 0 text m)))
 
     by : (kid : Kid) → trodFrom (nameTreads text w d i) text kid
         ≡ thence (trod (inMapTreads text w i) text) (trodFrom (mapTreads text d) text kid)
@@ -180,8 +180,8 @@ lists-alike text d k st = by (place text k (ascii "AppliesToMatrixDimension")) r
         nothing-listed d
         ∙ rw (sym (value-missing text k (ascii "AppliesToMatrixDimension") (sym e) refl) ∙ attr-law "AppliesToMatrixDimension" st)
 
-map-alike : (text : List ℕ) (d k : ℕ) → Stands text k → mapAt text d k ≡ mapThatLists d (the text k)
-unfolding mapAt mapThatLists
+map-alike : (text : List ℕ) (d k : ℕ) → Stands text k → mapListsAt text d k ≡ mapThatLists d (the text k)
+unfolding mapListsAt mapThatLists
 map-alike text d k st = rw (called-alike text "MatrixIndicesMap" k st, lists-alike text d k st)
 
 named-alike : (text : List ℕ) (s : String) (k : ℕ) → Stands text k → called text (ascii s) k ≡ ofName s (the text k)

@@ -20,11 +20,11 @@ use Rattle.maps.specs.MapKind.{GoodMap}
 use Rattle.maps.specs.Fields.{attributeWord}
 use Rattle.maps.specs.Laws.Fields.{word-at, found-value, found-none}
 use Rattle.maps.specs.Laws.Dimensions.{counted}
-use Rattle.maps.specs.Seen.{Lists}
+use Rattle.maps.specs.Seen.{CountsDigits}
 use Rattle.maps.specs.Laws.Seen.{none-yet}
 use Rattle.maps.specs.Sums.{MapAt}
 use Rattle.maps.specs.declared.dims.Dims.{Dims}
-use Rattle.maps.specs.Digits.{Tells}
+use Rattle.maps.specs.Digits.{CountsNumbers}
 
 dimension-count : (e : Element) (d : ℕ) → GoodMap e
     → count (eqb d) (dimensionsOf e) ≡ count (eqb (d + 48)) (attributeWord (ascii "AppliesToMatrixDimension") e)
@@ -32,19 +32,20 @@ unfolding dimensionsOf
 dimension-count e d g = counted (attr "AppliesToMatrixDimension" e) (map-dimensions g) d
     ∙ ap (count (eqb (d + 48))) (sym (word-at "AppliesToMatrixDimension" e))
 
-tells-by : (e : Element) → GoodMap e → (w : Word) → w ≡ attributeWord (ascii "AppliesToMatrixDimension") e → {r : Dims} → Lists w r
-    → Tells (dimensionsOf e) r
+tells-by : (e : Element) → GoodMap e → (w : Word) → w ≡ attributeWord (ascii "AppliesToMatrixDimension") e → {r : Dims} → CountsDigits w r
+    → CountsNumbers (dimensionsOf e) r
 tells-by e g w h l = record {
   ten = l .ten;
   tells = λ d u. (l .each-is d u ∙ ap (λ x. min 2 (count (eqb (d + 48)) x)) h ∙ ap (min 2) (sym (dimension-count e d g)));
 }
 
 module _ {text : List ℕ} {at : ℕ} (m : MapAt text at) {f : Found} (e : f ≡ place text at (ascii "AppliesToMatrixDimension")) where
-  pub dimensions-there : {v : ℕ} → f ≡ At v → {r : Dims} → Lists (value-there text v) r → Tells (dimensionsOf (the text at)) r
+  pub dimensions-there : {v : ℕ} → f ≡ At v → {r : Dims} → CountsDigits (value-there text v) r
+      → CountsNumbers (dimensionsOf (the text at)) r
   dimensions-there {v} h l = tells-by (the text at) (m .good) (value-there text v)
       (found-value (ascii "AppliesToMatrixDimension") (m .stands) e h) l
 
-  pub dimensions-missing : f ≡ Nothing → (r : Dims) → r .has ≡ replicate 10 0 → Tells (dimensionsOf (the text at)) r
+  pub dimensions-missing : f ≡ Nothing → (r : Dims) → r .has ≡ replicate 10 0 → CountsNumbers (dimensionsOf (the text at)) r
   dimensions-missing h r z = tells-by (the text at) (m .good) [] (sym (found-none (ascii "AppliesToMatrixDimension") (m .stands) e h))
       (none-yet r z)
 

@@ -9,7 +9,7 @@ use Prim.Native.String.{String}
 use Rattle.grammar.specs.Bytes.{ascii}
 use Rattle.grammar.specs.Document.{Element}
 use Rattle.grammar.specs.Look.{Word, attributesOf, orEmpty, attr, has, is}
-use Rattle.grammar.specs.Parser.{same}
+use Rattle.grammar.specs.Parser.{sameBytes}
 use Rattle.numbers.specs.Numbers.{whole, value, digits}
 use Rattle.lists.specs.Lists.{all}
 use borrow.Author.Needs.{needs}
@@ -68,14 +68,14 @@ module _ {text : List ℕ} {at : ℕ} (w : List ℕ) (st : Stands text at) {f : 
   seen-none lo hi h = rw (found-none h)
 
 -- what `attribute_is` of nodes says, of a standing element
-pub is-word : {text : List ℕ} {at : ℕ} (w word : List ℕ) → Stands text at → {b : Bool} → b ≡ same (value-at-name text at w) word
-    → b ≡ same (attributeWord w (the text at)) word
+pub is-word : {text : List ℕ} {at : ℕ} (w word : List ℕ) → Stands text at → {b : Bool} → b ≡ sameBytes (value-at-name text at w) word
+    → b ≡ sameBytes (attributeWord w (the text at)) word
 unfolding value-at-name attributeWord
-is-word w word st p = p ∙ ap (λ o. same (orEmpty o) word) (found-law w st)
+is-word w word st p = p ∙ ap (λ o. sameBytes (orEmpty o) word) (found-law w st)
 
 pub ruleset fieldSteps = (seen-is, seen-no, seen-none, is-word, needs)
 
 -- what `attribute_is` says, of words given in letters
-pub says-has : (a s : String) (e : Element) {b : Bool} → b ≡ same (attributeWord (ascii a) e) (ascii s) → b ≡ has a s e
+pub says-has : (a s : String) (e : Element) {b : Bool} → b ≡ sameBytes (attributeWord (ascii a) e) (ascii s) → b ≡ has a s e
 unfolding has is
-says-has a s e p = p ∙ ap (λ x. same x (ascii s)) (word-at a e)
+says-has a s e p = p ∙ ap (λ x. sameBytes x (ascii s)) (word-at a e)

@@ -15,7 +15,7 @@ use Rattle.grammar.specs.Bytes.{ascii}
 use Rattle.grammar.specs.Document.{Element}
 use Rattle.grammar.specs.Look.{Word, is, nameOf, attributesOf, contentsOf, valueIn, orEmpty, attr, has, elements}
 use Rattle.grammar.specs.Look.{textOf}
-use Rattle.grammar.specs.Parser.{same}
+use Rattle.grammar.specs.Parser.{sameBytes}
 use Rattle.grammar.specs.Laws.Facts.{and-left, and-right}
 use Rattle.numbers.specs.Numbers.{whole, volumeDimensions, exponent, decimal, wholes}
 use Rattle.schema.specs.Schema.{anyValue, word, number, AttributeRow, required, numbers, ChildRow, child}
@@ -65,11 +65,11 @@ chosen-model v = refl
 
 -- names that are apart
 meta-map : is "MetaData" (ascii "MatrixIndicesMap") ≡ false
-unfolding is same
+unfolding is sameBytes
 meta-map = refl
 
 model-volume : is "BrainModel" (ascii "Volume") ≡ false
-unfolding is same
+unfolding is sameBytes
 model-volume = refl
 
 -- the word that chooses the kind of a map
@@ -88,7 +88,7 @@ map-word e {k} q n = go (valueIn "IndicesMapToDataType" (attributesOf e)) refl
     go (some v) p r = record { word = v; said = p; chooses = r }
 
 surface-voxels : is "CIFTI_MODEL_TYPE_VOXELS" (ascii "CIFTI_MODEL_TYPE_SURFACE") ≡ false
-unfolding is same
+unfolding is sameBytes
 surface-voxels = refl
 
 pub good-model : (e : Element) → GoodAs brainRows e → is "BrainModel" (nameOf e) ≡ true → GoodModel e

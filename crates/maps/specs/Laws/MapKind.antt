@@ -15,7 +15,7 @@ use Rattle.lists.specs.Laws.Booleans.{never-some, clash, or-left, or-right}
 use Rattle.grammar.specs.Bytes.{ascii}
 use Rattle.grammar.specs.Document.{Element}
 use Rattle.grammar.specs.Look.{Word, is, nameOf, attributesOf, contentsOf, valueIn, orEmpty, attr, elements, children}
-use Rattle.grammar.specs.Parser.{same}
+use Rattle.grammar.specs.Parser.{sameBytes}
 use Rattle.nodes.specs.Places.{Stands, the}
 use Rattle.nodes.specs.Attributes.{place}
 use Rattle.nodes.specs.Values.{value-there}
@@ -26,7 +26,7 @@ use Rattle.schema.specs.Schema.{AttributeRow, required, number, Row, branch, le
 use Rattle.schema.specs.Schema.{kindAmong}
 use Rattle.cifti.specs.Words.{numberIn}
 use Rattle.cifti.specs.Rows.{ElementKind, brainModels, series, mapKinds, mapAttributes, rows}
-use Rattle.cifti.specs.Maps.{kindWords, kindIn, caseKind, wordsOfKinds, allKinds, kindPlace, same-kind, rowFor, kindOfMap, isBrain}
+use Rattle.cifti.specs.Maps.{kindWords, kindByWord, caseKind, wordsOfKinds, allKinds, kindPlace, same-kind, rowFor, kindOfMap, isBrain}
 use Rattle.cifti.specs.Maps.{isSeries}
 use Rattle.cifti.specs.Laws.Kinds.{kind-named, no-word}
 use Rattle.cifti.specs.declared.answer.Kind.{Kind}
@@ -51,14 +51,14 @@ unfolding each
 of-all f a (j ∷ l) h here = cc
 of-all f a (j ∷ l) h (further m) = of-all f a l (cc) m
 
-row-chosen : (l : List (Case Kind)) (v : Word) (r : ElementKind) → kindAmong (each rowed l) v ≡ some r → RowOf l (kindIn l v) r
-unfolding kindAmong each rowed caseKind kindIn
+row-chosen : (l : List (Case Kind)) (v : Word) (r : ElementKind) → kindAmong (each rowed l) v ≡ some r → RowOf l (kindByWord l v) r
+unfolding kindAmong each rowed caseKind kindByWord
 row-chosen [] v r h = never-some h
 row-chosen ((s ⇒ k) ∷ l) v r h = go (is s v) h (row-chosen l v r)
   where
     go : (b : Bool) → cond b (some (rowFor k)) (kindAmong (each rowed l) v) ≡ some r
-        → (kindAmong (each rowed l) v ≡ some r → RowOf l (kindIn l v) r)
-        → RowOf ((s ⇒ k) ∷ l) (cond b k (kindIn l v)) r
+        → (kindAmong (each rowed l) v ≡ some r → RowOf l (kindByWord l v) r)
+        → RowOf ((s ⇒ k) ∷ l) (cond b k (kindByWord l v)) r
     go true q ih = record { row = cc; known = here }
     go false q ih = let o = ih q in record { row = o .row; known = further (o .known) }
 
@@ -84,7 +84,7 @@ lists-first {k} {e} g h = go (rows k) refl h
     go (branch (a ∷ l) o r) q f = in-form g (a ∷ l) o r q 0 (omega arith) "AppliesToMatrixDimension" dimensionList f
     go (leaf a t) q f = clash (cc)
 
-kind-by : (e : Element) (v : Word) → valueIn "IndicesMapToDataType" (attributesOf e) ≡ some v → kindOfMap e ≡ kindIn kindWords v
+kind-by : (e : Element) (v : Word) → valueIn "IndicesMapToDataType" (attributesOf e) ≡ some v → kindOfMap e ≡ kindByWord kindWords v
 unfolding kindOfMap attr orEmpty
 kind-by e v p = rw p refl
 
@@ -150,7 +150,7 @@ childless s {k} {e} g h = go (rows k) refl h
     go (leaf a t) q f = absurd (true≢false f)
 
 all-without : each (λ k. cond (isBrain k) false (namesChild "BrainModel" (rows (rowFor k)))) allKinds ≡ replicate (length allKinds) false
-unfolding allKinds kindWords caseKind each rowFor rows mapAttributes namesChild rowsName is same
+unfolding allKinds kindWords caseKind each rowFor rows mapAttributes namesChild rowsName is sameBytes
 all-without = refl
 
 -- only a brain map has models
@@ -172,11 +172,11 @@ module _ {text : List ℕ} {at : ℕ} (st : Stands text at) {f : Found} (e : f �
       → kindPlace r ≡ min p (kindPlace None) → r ≡ kindOfMap (the text at)
   unfolding kindOfMap
   kind-there {v} h q z = kind-named _ q z
-      ∙ ap (kindIn kindWords) (found-value (ascii "IndicesMapToDataType") st e h ∙ word-at "IndicesMapToDataType" (the text at))
+      ∙ ap (kindByWord kindWords) (found-value (ascii "IndicesMapToDataType") st e h ∙ word-at "IndicesMapToDataType" (the text at))
 
   pub kind-missing : f ≡ Nothing → None ≡ kindOfMap (the text at)
   unfolding kindOfMap
-  kind-missing h = no-word ∙ ap (kindIn kindWords)
+  kind-missing h = no-word ∙ ap (kindByWord kindWords)
       (sym (sym (word-at "IndicesMapToDataType" (the text at)) ∙ found-none (ascii "IndicesMapToDataType") st e h))
 
 pub ruleset asking = (kind-there, kind-missing, needs)

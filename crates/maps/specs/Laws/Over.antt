@@ -14,7 +14,7 @@ use Rattle.nodes.specs.Places.{the}
 use Rattle.cifti.specs.Maps.{Map, mapOf}
 use Rattle.maps.specs.Sums.{MapAt}
 use Rattle.maps.specs.Survey.{Noted}
-use Rattle.maps.specs.Ready.{Ready, no-note, places, mapsAt}
+use Rattle.maps.specs.Ready.{Ready, no-note, mapPlaces, mapsAt}
 use Rattle.maps.specs.declared.survey.MapNote.{MapNote}
 use Rattle.maps.specs.declared.survey.Maps.{Maps}
 use Rattle.maps.specs.Over.{mapOn, noteAt}
@@ -42,7 +42,7 @@ pub ruleset noting-at = (note-in, note-past, mapped-long, needs)
 
 -- the maps from the i-th on
 abbrev pub from : List ℕ → Maps → ℕ → List Map
-from text maps i = each (λ p. mapOf (the text p)) (drop i (places maps))
+from text maps i = each (λ p. mapOf (the text p)) (drop i (mapPlaces maps))
 
 each-drop : {A B : Type 0} (f : A → B) (l : List A) (i : ℕ) → drop i (each f l) ≡ each f (drop i l)
 unfolding each
@@ -55,15 +55,16 @@ module _ {text : List ℕ} {maps : Maps} (r : Ready text maps) where
   many : length (take (maps .count) (maps .each)) ≡ maps .count
   many = let t = r .three in let f = r .few in length-take-le (maps .count) (maps .each) (omega arith)
 
-  places-none : (i : ℕ) → maps .count ≤ i → drop i (places maps) ≡ []
-  unfolding places
+  places-none : (i : ℕ) → maps .count ≤ i → drop i (mapPlaces maps) ≡ []
+  unfolding mapPlaces
   places-none i u =
       let s : length (each (λ (n : MapNote). n .at) (take (maps .count) (maps .each))) ≤ i =
       (let e = length-each (λ (n : MapNote). n .at) (take (maps .count) (maps .each)) in let m = many in omega arith) in
       drop-of-length-le (each (λ (n : MapNote). n .at) (take (maps .count) (maps .each))) s
 
-  pub places-one : (z : MapNote) (i : ℕ) → i < maps .count → drop i (places maps) ≡ (getD (maps .each) i z) .at ∷ drop (i + 1) (places maps)
-  unfolding places each
+  pub places-one : (z : MapNote) (i : ℕ) → i < maps .count
+      → drop i (mapPlaces maps) ≡ (getD (maps .each) i z) .at ∷ drop (i + 1) (mapPlaces maps)
+  unfolding mapPlaces each
   places-one z i u =
       let s : i < length (take (maps .count) (maps .each)) = (let m = many in omega arith) in
       each-drop (λ (n : MapNote). n .at) (take (maps .count) (maps .each)) i

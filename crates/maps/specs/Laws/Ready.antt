@@ -28,7 +28,7 @@ use Rattle.maps.specs.Laws.Dimensions.{Small, no-small, one-small, value
 use Rattle.maps.specs.Survey.{MapsAre}
 use Rattle.maps.specs.declared.survey.MapNote.{MapNote}
 use Rattle.maps.specs.declared.survey.Maps.{Maps}
-use Rattle.maps.specs.Ready.{matrixMaps, places, Ready, mapsAt, no-note}
+use Rattle.maps.specs.Ready.{matrixMaps, mapPlaces, Ready, mapsAt, no-note}
 
 -- every map is good
 pub data GoodMaps : List Element → Type 0 where
@@ -153,8 +153,8 @@ each-at [] i u = absurd (omega arith)
 each-at (n ∷ l) zero u = refl
 each-at (n ∷ l) (suc i) u = each-at l i (le-of-suc-le-suc u)
 
-pub met-is : {text : List ℕ} {m : ℕ} {r : Maps} (a : MapsAre text m r) → r .count ≤ 3 → places r ≡ a .met
-unfolding places
+pub met-is : {text : List ℕ} {m : ℕ} {r : Maps} (a : MapsAre text m r) → r .count ≤ 3 → mapPlaces r ≡ a .met
+unfolding mapPlaces
 met-is {r = r} a few =
     let h = a .holds .many in
     let t = a .holds .three in

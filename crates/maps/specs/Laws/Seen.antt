@@ -17,7 +17,7 @@ use Rattle.nodes.specs.Laws.NextBytes.{value-begins, tells-none, decoded-byte, 
 use Rattle.nodes.specs.declared.Char.{Char}
 use Rattle.nodes.specs.declared.Char.the-variants.{Byte, End}
 use Rattle.maps.specs.declared.dims.Dims.{Dims}
-use Rattle.maps.specs.Seen.{Lists, Grown}
+use Rattle.maps.specs.Seen.{CountsDigits, Grown}
 
 count-more : (p : ℕ → Bool) (w : Word) (b : ℕ) → count p (w ++ (b ∷ [])) ≡ count p w + cond (p b) 1 0
 unfolding count
@@ -80,14 +80,14 @@ module _ (b : ℕ) (low : 48 ≤ b) (high : b ≤ 57) (r : Dims) where
 
 pub record Reading (text : List ℕ) (v q : ℕ) (r : Dims) (i : ℕ) : Type 0 where
   pub done : Word
-  pub so-far : Lists done r
+  pub so-far : CountsDigits done r
   pub all : value-there text v ≡ done ++ tells q (drop i text)
 
-pub none-yet : (r : Dims) → r .has ≡ replicate 10 0 → Lists [] r
+pub none-yet : (r : Dims) → r .has ≡ replicate 10 0 → CountsDigits [] r
 unfolding count
 none-yet r e = record { ten = ap length e; each-is = λ d u. (ap (λ l. getD l d 0) e ∙ getD-replicate 10 d 0 0 u ∙ omega arith) }
 
-pub reading-none : (text : List ℕ) (v : ℕ) (r : Dims) → length text ≤ v → r .has ≡ replicate 10 0 → Lists (value-there text v) r
+pub reading-none : (text : List ℕ) (v : ℕ) (r : Dims) → length text ≤ v → r .has ≡ replicate 10 0 → CountsDigits (value-there text v) r
 reading-none text v r h e =
     let s : length text ≤ v + 1 = omega arith in
     let d : drop (v + 1) text ≡ [] = drop-of-length-le text s in
@@ -97,7 +97,7 @@ pub reading-start : (text : List ℕ) (v : ℕ) (r : Dims) → r .has ≡ replic
 reading-start text v r e = record { done = []; so-far = none-yet r e; all = value-begins text v }
 
 module _ {text : List ℕ} {v q i : ℕ} {r : Dims} (go : Reading text v q r i) {c : Char} (e : c ≡ decoded-at text i q) where
-  pub reading-done : c ≡ End → Lists (value-there text v) r
+  pub reading-done : c ≡ End → CountsDigits (value-there text v) r
   reading-done h =
       let z : value-there text v ≡ go .done = go .all ∙ ap (λ l. go .done ++ l) (decoded-end text q i e h) ∙ append-nil (go .done) in
       rw z (go .so-far)

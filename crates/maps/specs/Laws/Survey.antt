@@ -16,7 +16,7 @@ use Rattle.grammar.specs.Bytes.{ascii}
 use Rattle.grammar.specs.Document.{Element}
 use Rattle.grammar.specs.Look.{is, nameOf, children}
 use Rattle.nodes.specs.Places.{Stands, the}
-use Rattle.nodes.specs.Children.{kid-at, first, next}
+use Rattle.nodes.specs.Children.{kid-at, firstChild, next}
 use Rattle.nodes.specs.Laws.Children.{left}
 use Rattle.nodes.specs.Names.{named}
 use Rattle.nodes.specs.Laws.Names.{name-is-law}
@@ -32,12 +32,12 @@ use Rattle.maps.specs.Laws.MapKind.{good-map}
 use Rattle.nodes.specs.ElementEnd.{Behind}
 use Rattle.nodes.specs.Laws.ElementEnd.{next-behind}
 use Rattle.maps.specs.Sums.{MapAt, KindAt, Spanned}
-use Rattle.maps.specs.Digits.{Tells}
+use Rattle.maps.specs.Digits.{CountsNumbers}
 use Rattle.maps.specs.declared.dims.Dims.{Dims}
 use Rattle.maps.specs.declared.survey.MapNote.{MapNote}
 use Rattle.maps.specs.declared.survey.Measure.{Measure}
 use Rattle.maps.specs.declared.survey.Maps.{Maps}
-use Rattle.maps.specs.Survey.{Noted, NotedIf, Holds, NotedWith, AllStand, none-stands, one-stands, MatrixAt, MapsAre, NoneYet}
+use Rattle.maps.specs.Survey.{Noted, NotedIf, MapsKept, NotedWith, AllStand, none-stands, one-stands, MatrixAt, MapsAre, NoneYet}
 
 pub noted-kind-of : {text : List ℕ} {n : MapNote} → Noted text n → n .kind ≡ (mapOf (the text (n .at))) .kind
 unfolding mapOf
@@ -53,7 +53,8 @@ module _ {text : List ℕ} {at : ℕ} (m : MapAt text at) where
   pub note-kind : {k : Kind} → k ≡ kindOfMap (the text at) → KindAt text at k
   note-kind h = record { map = m; kind-is = h }
 
-  pub note-wanted : {w : Bool} → w ≡ true → {k : Kind} → k ≡ kindOfMap (the text at) → {d : Dims} → Tells (dimensionsOf (the text at)) d
+  pub note-wanted : {w : Bool} → w ≡ true → {k : Kind} → k ≡ kindOfMap (the text at) → {d : Dims}
+      → CountsNumbers (dimensionsOf (the text at)) d
       → {r : Measure} → Spanned text at k r
       → NotedIf w text at (record { at = at; behind = r .behind; kind = k; lists = d; length = r .length; volume = r .volume })
   note-wanted t h l s = record {
@@ -132,7 +133,7 @@ pub record Surveying (text : List ℕ) (matrix : ℕ) (r : Maps) (l : List Eleme
   pub good : AllGood matrixRows l
   pub short : length text ≤ 16777216
   pub met : List ℕ
-  pub holds : Holds text met r
+  pub holds : MapsKept text met r
   pub stand : AllStand text met
   pub so-far : children "MatrixIndicesMap" (the text matrix) ≡ each (the text) met ++ those isMap l
 
@@ -141,7 +142,7 @@ none-yet r a c = record { three = a; none = c }
 
 pub ruleset none-noted = (none-yet, needs)
 
-pub surveying-start : {text : List ℕ} {at : ℕ} {r : Maps} → NoneYet r → MatrixAt text at → {kid : Kid} → kid ≡ first text at
+pub surveying-start : {text : List ℕ} {at : ℕ} {r : Maps} → NoneYet r → MatrixAt text at → {kid : Kid} → kid ≡ firstChild text at
     → Along text (Surveying text at r) kid
 unfolding children each isMap
 surveying-start y m e =

@@ -19,15 +19,15 @@ use Rattle.cifti.specs.Laws.Meaning.{even-iff}
 use Rattle.cifti.specs.Laws.Repeats.{lists-count}
 use Rattle.maps.specs.Laws.Chain.{Counting, none-counts, one-counts, OnceBelow}
 use Rattle.maps.specs.Laws.Fill.{filled, entryAt, Fitting, none-fits, one-fits, filled-law, table-same}
-use Rattle.maps.specs.Table.{recordsOf}
+use Rattle.maps.specs.Table.{modelRecords}
 
-record-entry : (l : List Model) (n : ℕ) → entryAt recordsOf l n ≡ recordAt l n
-unfolding entryAt recordAt recordsOf
+record-entry : (l : List Model) (n : ℕ) → entryAt modelRecords l n ≡ recordAt l n
+unfolding entryAt recordAt modelRecords
 record-entry [] n = refl
 record-entry (m ∷ l) n = ap (cond (covers n m) (getD (each recordOf (locations m)) (n - m .offset) 0)) (record-entry l n)
 
-records-length : (m : Model) → listsCount (m .count) (m .listed) ≡ true → length (recordsOf m) ≡ m .count
-unfolding recordsOf locations
+records-length : (m : Model) → listsCount (m .count) (m .listed) ≡ true → length (modelRecords m) ≡ m .count
+unfolding modelRecords locations
 records-length m h = length-each recordOf (locationsBy (m .structure) (m .listed)) ∙ lists-count (m .structure) (m .count) (m .listed) h
 
 count-each-one : (b : Model) (l : List Model) → Counting l → (i : ℕ) → i < length l → 1 ≤ (getD l i b) .count
@@ -48,16 +48,16 @@ module _ (b : Model) (m : Map) (even : uneven m ≡ false) (counting : Counting 
   once : OnceBelow (m .models) (total (λ x. x .count) (m .models))
   once i u = count-one-iff b (covers i) (m .models) .1 (even-iff b m .0 even .one i (omega (arith, size)))
 
-  pub fitting : Fitting recordsOf (lengthOf m) (m .models)
+  pub fitting : Fitting modelRecords (lengthOf m) (m .models)
   fitting =
       let e = even-iff b m .0 even in
-      all-fit recordsOf b (lengthOf m) (m .models) (λ i u. records-length (getD (m .models) i b) (e .lists i u))
+      all-fit modelRecords b (lengthOf m) (m .models) (λ i u. records-length (getD (m .models) i b) (e .lists i u))
       (λ i u. (let w = ranges-within b (m .models) once i u (count-each-one b (m .models) counting i u) in omega (arith, size)))
 
   -- THE LAW: the models' records, one model after the other, are the stretch
   pub table-law : (start : ℕ) (s : List ℕ) → start + lengthOf m ≤ length s
-      → filled recordsOf start (m .models) s ≡ wrote start (stretch m) s
+      → filled modelRecords start (m .models) s ≡ wrote start (stretch m) s
   unfolding stretch
   table-law start s fits =
-      filled-law recordsOf start (lengthOf m) (m .models) s fitting fits (λ n u. once n (omega (arith, size)))
+      filled-law modelRecords start (lengthOf m) (m .models) s fitting fits (λ n u. once n (omega (arith, size)))
       ∙ ap (λ t. wrote start t s) (table-same (record-entry (m .models)) (lengthOf m))

@@ -11,10 +11,10 @@ use Rattle.lists.specs.Lists.{any, those}
 use Rattle.lists.specs.Laws.Lists.{any-in}
 use Rattle.grammar.specs.Bytes.{ascii}
 use Rattle.grammar.specs.Document.{Element}
-use Rattle.grammar.specs.Parser.{same}
+use Rattle.grammar.specs.Parser.{sameBytes}
 use Rattle.grammar.specs.Look.{Word, is, nameOf, has, contentsOf, elements, children}
 use Rattle.nodes.specs.Places.{Stands, the}
-use Rattle.nodes.specs.Children.{first, next}
+use Rattle.nodes.specs.Children.{firstChild, next}
 use Rattle.nodes.specs.Laws.Children.{left}
 use Rattle.nodes.specs.Names.{named}
 use Rattle.nodes.specs.Laws.Names.{name-is-law}
@@ -47,7 +47,7 @@ module _ {text : List ℕ} {at : ℕ} (st : Stands text at) {b : Bool} (nm : b �
   unfolding rootWrong
   root-other f = rw (sym root-name ∙ f)
 
-  pub root-version : b ≡ true → {c : Bool} → c ≡ same (value-at-name text at (ascii "Version")) (ascii "2")
+  pub root-version : b ≡ true → {c : Bool} → c ≡ sameBytes (value-at-name text at (ascii "Version")) (ascii "2")
       → not c ≡ rootWrong (the text at)
   unfolding rootWrong
   root-version t p = rw (sym root-name ∙ t) (ap not (p ∙ has-law "Version" "2" st))
@@ -58,20 +58,20 @@ unfoldable pub anyNotRead : Element → Bool
 anyNotRead e = any notRead (children "MatrixIndicesMap" e)
 
 unfoldable unreadWord : List ℕ → Bool
-unreadWord w = same w (ascii "CIFTI_INDEX_TYPE_PARCELS")
+unreadWord w = sameBytes w (ascii "CIFTI_INDEX_TYPE_PARCELS")
 
 module _ {text : List ℕ} {at : ℕ} (st : Stands text at) {f : Found} (e : f ≡ place text at (ascii "IndicesMapToDataType")) where
   not-read-so : notRead (the text at) ≡ unreadWord (value-at-name text at (ascii "IndicesMapToDataType"))
   unfolding notRead unreadWord has is
   not-read-so = rw (attr-law "IndicesMapToDataType" st)
 
-  pub unread-found : {v : ℕ} → f ≡ At v → {b : Bool} → b ≡ same (value-there text v) (ascii "CIFTI_INDEX_TYPE_PARCELS")
+  pub unread-found : {v : ℕ} → f ≡ At v → {b : Bool} → b ≡ sameBytes (value-there text v) (ascii "CIFTI_INDEX_TYPE_PARCELS")
       → b ≡ notRead (the text at)
   unfolding unreadWord
   unread-found h p = sym (not-read-so ∙ ap unreadWord (value-found text at (ascii "IndicesMapToDataType") e h) ∙ sym p)
 
   pub unread-missing : f ≡ Nothing → false ≡ notRead (the text at)
-  unfolding unreadWord same
+  unfolding unreadWord sameBytes
   unread-missing h = sym (not-read-so ∙ ap unreadWord (value-missing text at (ascii "IndicesMapToDataType") e h))
 
 pub ruleset unread-one = (unread-found, unread-missing, needs)
@@ -96,7 +96,7 @@ module _ (s : String) (p : Element → Bool) where
   abbrev pub Seeking : List ℕ → ℕ → Kid → Type 0
   Seeking text at kid = Along text (Sought text at) kid
 
-  pub seek-start : {text : List ℕ} {at : ℕ} → Stands text at → {kid : Kid} → kid ≡ first text at → Seeking text at kid
+  pub seek-start : {text : List ℕ} {at : ℕ} → Stands text at → {kid : Kid} → kid ≡ firstChild text at → Seeking text at kid
   unfolding children
   seek-start st e = along-start st (record { so-far = refl }) e
 
@@ -149,7 +149,7 @@ unfoldable caseUnread : Case ElementKind → Bool
 caseUnread (s ⇒ k) = isUnread (ascii s)
 
 none-unread : any caseUnread mapKinds ≡ false
-unfolding any caseUnread isUnread mapKinds is same
+unfolding any caseUnread isUnread mapKinds is sameBytes
 none-unread = refl
 
 chosen-in : (l : List (Case ElementKind)) (v : Word) {k : ElementKind} → kindAmong l v ≡ some k → any caseUnread l ≡ false

@@ -16,7 +16,7 @@ use Rattle.lists.specs.Lists.{any}
 use Rattle.lists.specs.Laws.Booleans.{and-right, never-some}
 use Rattle.grammar.specs.Bytes.{ascii}
 use Rattle.grammar.specs.Document.{Element}
-use Rattle.grammar.specs.Parser.{same}
+use Rattle.grammar.specs.Parser.{sameBytes}
 use Rattle.grammar.specs.Look.{is, nameOf, attributesOf, contentsOf, has, elements}
 use Rattle.schema.specs.Schema.{AttributeRow, TextForm, leaf, kindOf, shaped, attributesShaped, below}
 use Rattle.schema.specs.Laws.Everywhere.{called, below-children}
@@ -61,11 +61,11 @@ by-only : {s : String} {k : ElementKind} (e : Element) (c : OnlyChild s k (eleme
 by-only e c a t r b n = below-one needy e (c .one) (c .alone) b n (none-below needy (c .one) (leaf-bare (c .good) a t r))
 
 vertex-name : is needy (ascii "VertexIndices") ≡ false
-unfolding is same
+unfolding is sameBytes
 vertex-name = refl
 
 transform-name : is needy (ascii "TransformationMatrixVoxelIndicesIJKtoXYZ") ≡ false
-unfolding is same
+unfolding is sameBytes
 transform-name = refl
 
 below-model : {e : Element} → GoodModel e → below needy e ≡ has "ModelType" "CIFTI_MODEL_TYPE_VOXELS" e

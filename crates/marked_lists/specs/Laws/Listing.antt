@@ -25,7 +25,7 @@ use Rattle.marks.specs.Apart.{Marking}
 use Rattle.marks.specs.Laws.Apart.{all-stay, marking-start, marking-not, marking-none, marking-apart, marking-one}
 use Rattle.models.specs.Kind.{typeAndStructure, typeNumber}
 use Rattle.models.specs.Laws.Kind.{structure-small}
-use Rattle.models.specs.Listings.{numbersOf, StartOf, Known}
+use Rattle.models.specs.Listings.{listedNumbers, StartOf, ModelKnown}
 use Rattle.models.specs.Laws.ListingSteps.{list-numbers}
 use Rattle.models.specs.Numbers.{valuesAt, InForm, NextVoxel}
 use Rattle.models.specs.Laws.Numbers.{number-passes, number-ends, voxel-passes, voxels-end}
@@ -161,13 +161,13 @@ pub ruleset overVoxels = (threes-start, threes-kept, threes-done, threes-short, 
 -- ---- The list of a model.
 
 by-kind : (kind s : ℕ) (l : Listed) → kind ≡ typeNumber l + s → s < 32 → 32 ≤ kind
-    → (vertexNumbers l ≡ []) × (voxelsOf l ≡ threes (numbersOf l))
-unfolding typeNumber vertexNumbers voxelsOf numbersOf
+    → (vertexNumbers l ≡ []) × (voxelsOf l ≡ threes (listedNumbers l))
+unfolding typeNumber vertexNumbers voxelsOf listedNumbers
 by-kind kind s (vertices n l) e h k = absurd (omega arith)
 by-kind kind s (voxels l) e h k = (refl, refl)
 
-by-other : (kind s : ℕ) (l : Listed) → kind ≡ typeNumber l + s → kind < 32 → (vertexNumbers l ≡ numbersOf l) × (voxelsOf l ≡ [])
-unfolding typeNumber vertexNumbers voxelsOf numbersOf
+by-other : (kind s : ℕ) (l : Listed) → kind ≡ typeNumber l + s → kind < 32 → (vertexNumbers l ≡ listedNumbers l) × (voxelsOf l ≡ [])
+unfolding typeNumber vertexNumbers voxelsOf listedNumbers
 by-other kind s (vertices n l) e k = (refl, refl)
 by-other kind s (voxels l) e k = absurd (omega arith)
 
@@ -175,7 +175,7 @@ no-vertices : twoOf eqb [] ≡ false
 unfolding twoOf
 no-vertices = refl
 
-module _ (volume : Voxel) (grid : Grid) {text : List ℕ} {at size kind : ℕ} (k : Known text at size kind) {f : Found}
+module _ (volume : Voxel) (grid : Grid) {text : List ℕ} {at size kind : ℕ} (k : ModelKnown text at size kind) {f : Found}
     (st : StartOf text at f) where
   pub list-none : f ≡ Nothing → (work : List ℕ) (v : Verdict) → v .number ≡ 11 → v .apart ≡ false
       → ModelTold volume grid (modelOf (the text at)) work v work
@@ -190,7 +190,7 @@ module _ (volume : Voxel) (grid : Grid) {text : List ℕ} {at size kind : ℕ} (
   kind-of = k .kind-is
 
   module _ {i : ℕ} (q : f ≡ At i) where
-    numbers : numbersOf ((modelOf (the text at)) .listed) ≡ valuesAt text i
+    numbers : listedNumbers ((modelOf (the text at)) .listed) ≡ valuesAt text i
     numbers = list-numbers (st .told (k .model)) q
 
     pub list-voxels : 32 ≤ kind → {before : List ℕ} {v : Verdict} {after : List ℕ}

@@ -16,7 +16,7 @@ use Rattle.cifti.specs.Conditions.{repeats}
 use Rattle.marks.specs.Apart.{Marking}
 use Rattle.marks.specs.Laws.Apart.{marking-start, marking-apart, marking-list}
 use Rattle.maps.specs.declared.survey.Seen.{Seen}
-use Rattle.models.specs.Held.{Holding, modelAt, modelsAt}
+use Rattle.models.specs.Held.{Holding, heldModel, modelsAt}
 use Rattle.models.specs.Laws.Held.{held-models}
 use Rattle.models.specs.Judged.{ListsTold}
 use Rattle.models.specs.Ranges.{rangesOf}
@@ -25,7 +25,7 @@ use Rattle.models.specs.Laws.Judging.{ahead, ahead-all, ahead-one, ahead-none, 
 use Rattle.models.specs.Judging.{Listable}
 use Rattle.models.specs.Laws.Judging.{judging-known, judging-uneven, judging-on, rule-ranged, rule-volume, rule-holding}
 use Rattle.models.specs.Laws.Judging.{rule-untiled, rule-lists}
-use Rattle.models.specs.Listings.{Known}
+use Rattle.models.specs.Listings.{ModelKnown}
 use Rattle.models.specs.Verdicts.{verdictBy, listsVerdict, volumeFrom}
 use Rattle.models.specs.declared.gather.Models.{Models}
 use Rattle.models.specs.declared.volume.Sizes.{Sizes}
@@ -105,7 +105,7 @@ module _ {text : List ℕ} {m : Models} {volume : Voxel} {grid : Grid} {before n
     pub models-place : i < 64
     models-place = judging-place (go .judging) u
 
-    pub models-known : Known text (getD (m .at) i 0) (getD (m .length) i 0) (getD (m .kind) i 0)
+    pub models-known : ModelKnown text (getD (m .at) i 0) (getD (m .length) i 0) (getD (m .kind) i 0)
     models-known = judging-known (go .judging) u
 
     module _ {v : Verdict} {after : List ℕ} (t : ModelTold volume grid (modelOf (the text (getD (m .at) i 0))) now v after) where
@@ -118,7 +118,7 @@ module _ {text : List ℕ} {m : Models} {volume : Voxel} {grid : Grid} {before n
       }
 
       one : ahead text m i ≡ modelOf (the text (getD (m .at) i 0)) ∷ ahead text m (i + 1)
-      unfolding modelAt
+      unfolding heldModel
       one = ahead-one text m i u
 
       pub models-on : (v .number ≡ 11 → ⊥)

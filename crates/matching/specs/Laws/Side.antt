@@ -15,7 +15,7 @@ use Rattle.records.specs.Record.{carried}
 use Rattle.records.specs.Sheet.{countOf, widthOf, bare}
 use Rattle.records.specs.Laws.Sheet.{sheet-good, count-small}
 use Rattle.records.specs.Laws.Computed.{word-inside}
-use Rattle.comparison.specs.Compare.{recordsOf, wellFormed, countBelow, hasAt, has, sameAt, same}
+use Rattle.comparison.specs.Compare.{recordsOf, wellFormed, countBelow, hasAt, hasRecord, sameAt, same}
 use Rattle.comparison.specs.Matched.{matched}
 use Rattle.comparison.specs.Tagged.{tagged, placeIn}
 use Rattle.comparison.specs.Laws.Counts.{formed-most}
@@ -25,11 +25,11 @@ use Rattle.lists.specs.Laws.Lists.{count-most}
 use Rattle.comparison.specs.Laws.Pairs.{Side, side-start, side-room, first-aside, second-aside, pair-taken, side-end}
 use Rattle.matching.specs.declared.walking.Step.{Step}
 use Rattle.matching.specs.declared.walking.Step.the-variants.{Pair, First, Second}
-use Rattle.matching.specs.Side.{Within, Turning, Beside, Underway, Chosen, Walkable, Apart}
+use Rattle.matching.specs.Side.{HasIndex, StepAlong, Beside, Underway, Chosen, Walkable, SetAside}
 
 -- ---- The record of an index.
 
-module _ {s : List ℕ} {i : ℕ} (has-it : Within s i) {b : ℕ} (said : b ≡ getD s 0 0) where
+module _ {s : List ℕ} {i : ℕ} (has-it : HasIndex s i) {b : ℕ} (said : b ≡ getD s 0 0) where
   pub word-in : 4 + (widthSaid b) .bytes * (i + 1) ≤ length s
   word-in = subst (λ (n : ℕ). 4 + (widthSaid n) .bytes * (i + 1) ≤ length s) (sym said)
       (word-inside ((widthOf s) .bytes) (countOf s) i s (has-it .inside) (sheet-good ((widthOf s) .bytes) s (has-it .formed) .size))
@@ -42,7 +42,7 @@ module _ {s : List ℕ} {i : ℕ} (has-it : Within s i) {b : ℕ} (said : b ≡ 
       let h = held-small s i in
       (q, omega arith)
 
-pub first-byte : {s : List ℕ} {i : ℕ} → Within s i → 0 < length s
+pub first-byte : {s : List ℕ} {i : ℕ} → HasIndex s i → 0 < length s
 first-byte {s} w = let l = sheet-good ((widthOf s) .bytes) s (w .formed) .long in omega arith
 
 pub place-turned : (t : Bool) (n j : ℕ) → j < n → t ≡ true → (n - (j + 1) ≡ placeIn t n j) × (n - (j + 1) < n)
@@ -53,7 +53,7 @@ pub place-straight : (t : Bool) (n j : ℕ) → j < n → t ≡ false → (j ≡
 unfolding placeIn
 place-straight t n j h e = (rw e refl, h)
 
-pub turned-within : {s : List ℕ} {n j k : ℕ} → Turning s n j → k < n → Within s k
+pub turned-within : {s : List ℕ} {n j k : ℕ} → StepAlong s n j → k < n → HasIndex s k
 turned-within t h = let c = t .counts in record { formed = t .formed; inside = omega arith }
 
 -- ---- At the same index.
@@ -72,13 +72,13 @@ module _ {s t : List ℕ} {n m : ℕ} (both : Beside s t n m) where
   some-second = let c = both .ms in let h = count-small (countOf t) (sheet-good ((widthOf t) .bytes) t (both .two) .count) .0 in
       omega arith
 
-  pub within-first : {i : ℕ} → i < n → Within s i
+  pub within-first : {i : ℕ} → i < n → HasIndex s i
   within-first h = let c = both .ns in record { formed = both .one; inside = omega arith }
 
-  pub within-second : {j : ℕ} → j < m → Within t j
+  pub within-second : {j : ℕ} → j < m → HasIndex t j
   within-second h = let c = both .ms in record { formed = both .two; inside = omega arith }
 
-  pub turning-second : {j : ℕ} → j < m → Turning t m j
+  pub turning-second : {j : ℕ} → j < m → StepAlong t m j
   turning-second h = record { formed = both .two; counts = both .ms; inside = h }
 
   long-first : length (recordsOf s) ≡ n
@@ -240,7 +240,7 @@ module _ {s t : List ℕ} {n m : ℕ} {turned : Bool} {room : ℕ} {work : List 
               (q ∙ ap (λ (x : ℕ). getD (recordsOf t) x 0) (place-same turned both i j));
         }
 
-  pub going-end : n + m ≤ i + j → Apart s t work pairs k
+  pub going-end : n + m ≤ i + j → SetAside s t work pairs k
   going-end h =
       let l = long-first both in
       let q = long-second both in
@@ -251,16 +251,16 @@ module _ {s t : List ℕ} {n m : ℕ} {turned : Bool} {room : ℕ} {work : List 
       record { inside = omega arith; sum = side-end (recordsOf s) turned (recordsOf t) (go .side) (omega arith) (omega arith) }
 
 -- what they share: the pairs, and those set aside that match
-pub shared : {s t after : List ℕ} {pairs aside r : ℕ} → Apart s t after pairs aside → r ≡ matched (take aside after)
-    → pairs + r ≡ count (has (recordsOf t)) (recordsOf s)
+pub shared : {s t after : List ℕ} {pairs aside r : ℕ} → SetAside s t after pairs aside → r ≡ matched (take aside after)
+    → pairs + r ≡ count (hasRecord (recordsOf t)) (recordsOf s)
 shared {s} {t} {after} {pairs} {aside} {r} apart e = let z = apart .sum in omega arith
 
-pub shared-few : {s t after : List ℕ} {pairs aside r n m : ℕ} → Beside s t n m → Apart s t after pairs aside
+pub shared-few : {s t after : List ℕ} {pairs aside r n m : ℕ} → Beside s t n m → SetAside s t after pairs aside
     → r ≡ matched (take aside after) → pairs + r ≤ n
 shared-few {s} {t} {after} {pairs} {aside} {r} both apart e =
     let z = apart .sum in
     let l = long-first both in
-    let f = count-most (has (recordsOf t)) (recordsOf s) in
+    let f = count-most (hasRecord (recordsOf t)) (recordsOf s) in
     omega arith
 
 pub walkable-by : {s t : List ℕ} {n m n' m' room : ℕ} → Walkable s t n m room → n' ≡ n → m' ≡ m → Walkable s t n' m' room

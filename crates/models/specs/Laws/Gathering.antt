@@ -19,7 +19,7 @@ use Rattle.grammar.specs.Bytes.{ascii}
 use Rattle.grammar.specs.Document.{Element}
 use Rattle.grammar.specs.Look.{attr, children}
 use Rattle.nodes.specs.Places.{the}
-use Rattle.nodes.specs.Children.{first, next}
+use Rattle.nodes.specs.Children.{firstChild, next}
 use Rattle.nodes.specs.Names.{named}
 use Rattle.nodes.specs.Laws.Names.{name-is-law}
 use Rattle.nodes.specs.Laws.Along.{Along, along-start, along-done, along-stands, along-here, along-less, along-next}
@@ -35,7 +35,7 @@ use Rattle.models.specs.Brain.{BrainAt}
 use Rattle.models.specs.Laws.Brain.{map-models, isModel, models-are}
 use Rattle.models.specs.Kind.{typeAndStructure, ModelAt}
 use Rattle.models.specs.Laws.Kind.{alike-number, structure-small, kind-small}
-use Rattle.models.specs.Gathered.{Holds, HoldsAt, gathered, Sized, Gathers, Room, offsetSeen, lengthSeen, withModel}
+use Rattle.models.specs.Gathered.{Holds, HoldsAt, gathered, Sized, Gathers, ModelRoom, offsetSeen, lengthSeen, withModel}
 use Rattle.models.specs.declared.gather.Models.{Models}
 
 -- ---- A table of flags: as many are set as were found not set.
@@ -162,7 +162,7 @@ none-kept text =
       as-many = refl;
     }
 
-pub gathering-start : {text : List ℕ} {map : ℕ} {kid : Kid} → BrainAt text map → kid ≡ first text map
+pub gathering-start : {text : List ℕ} {map : ℕ} {kid : Kid} → BrainAt text map → kid ≡ firstChild text map
     → Along text (Gathering text map noModels (falses 64)) kid
 gathering-start {text} {map} b e =
     along-start (b .stands)
@@ -355,7 +355,7 @@ module _ {text : List ℕ} {map : ℕ} {m : Models} {seen : List Bool} {kid : Ki
             or-middle false z h = rw h
 
         module _ (s : getD seen q false ≡ false) where
-          pub gathering-room : Room text k m
+          pub gathering-room : ModelRoom text k m
           gathering-room =
               let h = along-here go is-child .kept in
               record { model = gathering-model; sized = h .sized; left = room-here h gathering-model eq s }

@@ -21,7 +21,7 @@ use Rattle.models.specs.Gathered.{gathered, Gathered}
 use Rattle.lists.specs.Laws.Tables.{each-take, each-table, table-below, size-of-table, entry-of-table}
 use Rattle.models.specs.Ranges.{ranging, rangeOf, rangesOf, Ranged}
 use Rattle.models.specs.declared.gather.Models.{Models}
-use Rattle.models.specs.Held.{Holding, BrainHeld, modelAt, modelsAt}
+use Rattle.models.specs.Held.{Holding, BrainHeld, heldModel, modelsAt}
 
 pub holding : {text : List ℕ} {map : ℕ} {m : Models} → Gathered text map m → Holding text m
 holding g = record { sized = g .sized; holds = g .holds }
@@ -29,7 +29,7 @@ holding g = record { sized = g .sized; holds = g .holds }
 -- THE LAWS of the gathered models
 module _ {text : List ℕ} {map : ℕ} {m : Models} (h : BrainHeld text map m) where
   pub held-models : (mapOf (the text map)) .models ≡ modelsAt text m
-  unfolding gathered modelsAt modelAt
+  unfolding gathered modelsAt heldModel
   held-models =
       map-models (the text map)
       ∙ ap (each modelOf) (sym (h .held .all-of-them)
@@ -38,11 +38,11 @@ module _ {text : List ℕ} {map : ℕ} {m : Models} (h : BrainHeld text map m) w
 
   pub held-count : length ((mapOf (the text map)) .models) ≡ m .count
   unfolding modelsAt
-  held-count = ap length held-models ∙ size-of-table (modelAt text m) (m .count)
+  held-count = ap length held-models ∙ size-of-table (heldModel text m) (m .count)
 
   pub held-at : (b : Model) (i : ℕ) → i < m .count → getD ((mapOf (the text map)) .models) i b ≡ modelOf (the text (getD (m .at) i 0))
-  unfolding modelsAt modelAt
-  held-at b i u = ap (λ l. getD l i b) held-models ∙ entry-of-table (modelAt text m) b (m .count) i u
+  unfolding modelsAt heldModel
+  held-at b i u = ap (λ l. getD l i b) held-models ∙ entry-of-table (heldModel text m) b (m .count) i u
 
 -- ---- The ranges.
 
@@ -82,7 +82,7 @@ plain-tiling l =
     ∙ below-same (total (λ x. x .count) l) (λ n. ap (λ c. eqb c 1) (plain-covers n l))
 
 held-plain : {text : List ℕ} {m : Models} → Holding text m → rangesOf m ≡ each plain (modelsAt text m)
-unfolding rangesOf modelsAt rangeOf plain modelAt
+unfolding rangesOf modelsAt rangeOf plain heldModel
 held-plain {text} {m} h =
     table-below (m .count) (λ k u. (let x = h .holds k u in ap₂ ranging (x .offset-is) (x .length-is)))
     ∙ sym (each-table plain (λ i. modelOf (the text (getD (m .at) i 0))) (m .count))
@@ -93,7 +93,7 @@ pub held-total : {text : List ℕ} {map : ℕ} {m : Models} → BrainHeld text m
 held-total {text} {map} h = brain-sum (the text map) (h .brain .is-brain)
 
 pub held-counting : {text : List ℕ} {map : ℕ} {m : Models} → BrainHeld text map m → Counting ((mapOf (the text map)) .models)
-unfolding modelsAt modelAt table
+unfolding modelsAt heldModel table
 held-counting {text} {map} {m} h =
     rw (held-models h) (counting-up (λ (x : Model). x .count) (λ i. modelOf (the text (getD (m .at) i 0))) 0 (m .count)
     (λ k u v. (let x = h .held .holds k (omega arith) in let w = held-ranged (holding (h .held)) .least k (omega arith) in

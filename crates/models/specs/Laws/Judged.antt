@@ -12,7 +12,7 @@ use borrow.Author.Needs.{needs}
 use borrow.Author.Tests.{ne-eqb}
 use Rattle.lists.specs.Lists.{any, those, twoOf, eachIn}
 use Rattle.lists.specs.Laws.Booleans.{and-left, and-right}
-use Rattle.lists.specs.Refusals.{rising, positive, EitherOf, no-rows, row, sooner}
+use Rattle.lists.specs.Refusals.{rising, positive, EitherOf, no-rows, row, soonerRefusal}
 use Rattle.lists.specs.Laws.Refusals.{sooner-none, sooner-alone, sooner-first, sooner-second, first-either, given-none, row-fails}
 use Rattle.lists.specs.Laws.Refusals.{rows-past}
 use Rattle.nodes.specs.Places.{the}
@@ -40,30 +40,31 @@ use Rattle.models.specs.declared.judge.Judged.{Judged}
 
 -- ---- The sooner of two numbers.
 
-pub sooner-less : (a b : ℕ) → (a ≡ 0 → ⊥) → (b ≡ 0 → ⊥) → a < b → a ≡ sooner a b
+pub sooner-less : (a b : ℕ) → (a ≡ 0 → ⊥) → (b ≡ 0 → ⊥) → a < b → a ≡ soonerRefusal a b
 sooner-less a b k j h = let u : a ≤ b = omega arith in sooner-first a b k j u
 
 pub ruleset choosing = (sooner-none, sooner-alone, sooner-less, sooner-second, needs)
 
-sooner-zero : (a : ℕ) → sooner a 0 ≡ a
+sooner-zero : (a : ℕ) → soonerRefusal a 0 ≡ a
 sooner-zero zero = sym (sooner-none 0 0 refl)
 sooner-zero (suc a) = sym (sooner-alone (suc a) 0 (λ e. omega arith) refl)
 
-sooner-both : (a b : ℕ) → sooner (suc a) (suc b) ≡ suc (min a b)
-unfolding sooner
+sooner-both : (a b : ℕ) → soonerRefusal (suc a) (suc b) ≡ suc (min a b)
+unfolding soonerRefusal
 sooner-both a b = rw (ne-eqb (suc a) 0 (λ e. omega arith), ne-eqb (suc b) 0 (λ e. omega arith)) (omega arith)
 
-sooner-assoc : (a b c : ℕ) → sooner a (sooner b c) ≡ sooner (sooner a b) c
-sooner-assoc zero b c = sym (sooner-none 0 (sooner b c) refl) ∙ ap (λ x. sooner x c) (sooner-none 0 b refl)
-sooner-assoc (suc a) zero c = ap (sooner (suc a)) (sym (sooner-none 0 c refl)) ∙ ap (λ x. sooner x c) (sym (sooner-zero (suc a)))
-sooner-assoc (suc a) (suc b) zero = ap (sooner (suc a)) (sooner-zero (suc b)) ∙ sym (sooner-zero (sooner (suc a) (suc b)))
+sooner-assoc : (a b c : ℕ) → soonerRefusal a (soonerRefusal b c) ≡ soonerRefusal (soonerRefusal a b) c
+sooner-assoc zero b c = sym (sooner-none 0 (soonerRefusal b c) refl) ∙ ap (λ x. soonerRefusal x c) (sooner-none 0 b refl)
+sooner-assoc (suc a) zero c = ap (soonerRefusal (suc a)) (sym (sooner-none 0 c refl))
+    ∙ ap (λ x. soonerRefusal x c) (sym (sooner-zero (suc a)))
+sooner-assoc (suc a) (suc b) zero = ap (soonerRefusal (suc a)) (sooner-zero (suc b)) ∙ sym (sooner-zero (soonerRefusal (suc a) (suc b)))
 sooner-assoc (suc a) (suc b) (suc c) =
     let e : suc (min a (min b c)) ≡ suc (min (min a b) c) = omega arith in
-    ap (sooner (suc a)) (sooner-both b c) ∙ sooner-both a (min b c) ∙ e
-    ∙ sym (ap (λ x. sooner x (suc c)) (sooner-both a b) ∙ sooner-both (min a b) c)
+    ap (soonerRefusal (suc a)) (sooner-both b c) ∙ sooner-both a (min b c) ∙ e
+    ∙ sym (ap (λ x. soonerRefusal x (suc c)) (sooner-both a b) ∙ sooner-both (min a b) c)
 
 -- there is neither where there is no sooner
-sooner-neither : (a b : ℕ) → sooner a b ≡ 0 → (a ≡ 0) × (b ≡ 0)
+sooner-neither : (a b : ℕ) → soonerRefusal a b ≡ 0 → (a ≡ 0) × (b ≡ 0)
 sooner-neither zero b e = (refl, sooner-none 0 b refl ∙ e)
 sooner-neither (suc a) zero e = let z : suc a ≡ 0 = sym (sooner-zero (suc a)) ∙ e in absurd (omega arith)
 sooner-neither (suc a) (suc b) e = let z : suc (min a b) ≡ 0 = sym (sooner-both a b) ∙ e in absurd (omega arith)
@@ -74,7 +75,7 @@ rows-more : (m : Map) (l : List Map) → EitherOf (mapRows m) (modelRows l) (mod
 unfolding modelsShare numbersOutside any
 rows-more m l = rw (ranges-more m l) (row (row (row no-rows)))
 
-pub refusal-more : (m : Map) (l : List Map) → modelRefusal (m ∷ l) ≡ sooner (mapRefusal m) (modelRefusal l)
+pub refusal-more : (m : Map) (l : List Map) → modelRefusal (m ∷ l) ≡ soonerRefusal (mapRefusal m) (modelRefusal l)
 unfolding modelRefusal mapRefusal rising
 refusal-more m l = first-either 10 (rows-more m l) refl (omega arith)
 
@@ -152,7 +153,7 @@ pub ruleset ruling = (rule-other, rule-brain, rule-shared, rule-held, rule-lists
 
 -- ---- Map after map.
 
-pub with-number : (j : Judged) (i : ℕ) (r : Ruling) {n : ℕ} → n ≡ sooner (j .number) (r .number)
+pub with-number : (j : Judged) (i : ℕ) (r : Ruling) {n : ℕ} → n ≡ soonerRefusal (j .number) (r .number)
     → _≡_ {A = Judged} (record { number = n; apart = j .apart && r .apart; each = set (j .each) i (r .models) }) (withRuling j i r)
 with-number j i r e = rw e refl
 
@@ -160,7 +161,7 @@ pub ruleset with-ruling = (with-number, needs)
 
 -- the first of all is the sooner of what was found and the first of those that are left; and 14 is decided by those that are left
 pub record Judge (all : List Map) (found : ℕ) (apart : Bool) (l : List Map) : Type 0 where
-  pub so-far : modelRefusal all ≡ sooner found (modelRefusal l)
+  pub so-far : modelRefusal all ≡ soonerRefusal found (modelRefusal l)
   pub apart-so-far : apart ≡ true → locationTwice all ≡ locationTwice l
 
 -- and of the maps before the i-th the models are held
@@ -177,7 +178,7 @@ module _ {text : List ℕ} {maps : Maps} where
   judging-start r work j z t = record {
     over-maps = over-start r (record {
       so-far = sooner-none 0 (modelRefusal (mapsAt text maps)) refl
-          ∙ ap (λ x. sooner x (modelRefusal (mapsAt text maps))) (sym z);
+          ∙ ap (λ x. soonerRefusal x (modelRefusal (mapsAt text maps))) (sym z);
       apart-so-far = λ _. refl;
     });
     long = refl;
@@ -194,7 +195,7 @@ module _ {text : List ℕ} {maps : Maps} where
     unfolding locationTwice any
     judging-done h = record {
       judges = record {
-        number-is = sym (over-done (go .over-maps) h .so-far ∙ ap (sooner (j .number)) refusal-none ∙ sooner-zero (j .number));
+        number-is = sym (over-done (go .over-maps) h .so-far ∙ ap (soonerRefusal (j .number)) refusal-none ∙ sooner-zero (j .number));
         held = λ z. record { held = λ k u. go .held z k (omega arith) };
         apart-is = over-done (go .over-maps) h .apart-so-far;
       };
@@ -209,7 +210,7 @@ module _ {text : List ℕ} {maps : Maps} where
         pub judging-note : Noted text n
         judging-note = over-note (go .over-maps) u e
 
-        held-more : {r : Ruling} → Rules text n r → sooner (j .number) (r .number) ≡ 0 → (k : ℕ) → k < i + 1 → Dec (k < i)
+        held-more : {r : Ruling} → Rules text n r → soonerRefusal (j .number) (r .number) ≡ 0 → (k : ℕ) → k < i + 1 → Dec (k < i)
             → HeldFor text (noteAt maps k) (modelsHeld (withRuling j i r) k)
         unfolding modelsHeld
         held-more {r} s z k v (yes h) = rw (getD-set-other (j .each) i k (r .models) no-models (λ q. omega arith))
@@ -228,8 +229,8 @@ module _ {text : List ℕ} {maps : Maps} where
             → Judging text maps before j₁ (i + 1) after
         judging-more {r} rl q = let s = rl .rules in rw q (record {
           over-maps = over-next (go .over-maps) u e (λ l h. record {
-            so-far = h .so-far ∙ ap (sooner (j .number))
-                (refusal-more (mapOf (the text (n .at))) l ∙ ap (λ x. sooner x (modelRefusal l)) (sym (s .number-is)))
+            so-far = h .so-far ∙ ap (soonerRefusal (j .number))
+                (refusal-more (mapOf (the text (n .at))) l ∙ ap (λ x. soonerRefusal x (modelRefusal l)) (sym (s .number-is)))
                 ∙ sooner-assoc (j .number) (r .number) (modelRefusal l);
             apart-so-far = λ y. h .apart-so-far (and-left (j .apart) (r .apart) y) ∙ apart-more s l y;
           });

@@ -17,9 +17,9 @@ use Rattle.maps.specs.declared.survey.Seen.{Seen}
 use Rattle.models.specs.Sizes.{VolumeNoted}
 use Rattle.lists.specs.Laws.Tables.{up-one, up-done, up-all}
 use Rattle.models.specs.Ranges.{rangesOf, Ranged}
-use Rattle.models.specs.Held.{Holding, BrainHeld, modelAt, modelsAt}
+use Rattle.models.specs.Held.{Holding, BrainHeld, heldModel, modelsAt}
 use Rattle.models.specs.Laws.Held.{holding, held-models, held-ranged, held-tiling}
-use Rattle.models.specs.Listings.{Known}
+use Rattle.models.specs.Listings.{ModelKnown}
 use Rattle.models.specs.Verdicts.{verdictBy, listVerdict, listsVerdict, listsRule, volumeFrom}
 use Rattle.models.specs.declared.gather.Models.{Models}
 use Rattle.models.specs.declared.volume.Sizes.{Sizes}
@@ -54,19 +54,19 @@ told-even true false h = (refl, refl)
 told-even false out h = absurd (h refl)
 
 pub ahead : List ℕ → Models → ℕ → List Model
-ahead text m i = countUp (modelAt text m) i (m .count - i)
+ahead text m i = countUp (heldModel text m) i (m .count - i)
 
 pub ahead-all : (text : List ℕ) (m : Models) → ahead text m 0 ≡ modelsAt text m
 unfolding ahead modelsAt
-ahead-all text m = up-all (modelAt text m) (m .count)
+ahead-all text m = up-all (heldModel text m) (m .count)
 
-pub ahead-one : (text : List ℕ) (m : Models) (i : ℕ) → i < m .count → ahead text m i ≡ modelAt text m i ∷ ahead text m (i + 1)
+pub ahead-one : (text : List ℕ) (m : Models) (i : ℕ) → i < m .count → ahead text m i ≡ heldModel text m i ∷ ahead text m (i + 1)
 unfolding ahead
-ahead-one text m i h = up-one (modelAt text m) i (m .count) h
+ahead-one text m i h = up-one (heldModel text m) i (m .count) h
 
 pub ahead-none : (text : List ℕ) (m : Models) (i : ℕ) → m .count ≤ i → ahead text m i ≡ []
 unfolding ahead
-ahead-none text m i h = up-done (modelAt text m) i (m .count) h
+ahead-none text m i h = up-done (heldModel text m) i (m .count) h
 
 all-one : (b : Model) (l : List Model) → all evenIn (b ∷ l) ≡ (evenIn b && all evenIn l)
 unfolding all
@@ -119,37 +119,37 @@ module _ {text : List ℕ} {m : Models} {volume : Voxel} {out : Bool} {i : ℕ} 
     pub judging-place : i < 64
     judging-place = omega (arith, go .holding-all .sized .few)
 
-    pub judging-known : Known text (getD (m .at) i 0) (getD (m .length) i 0) (getD (m .kind) i 0)
+    pub judging-known : ModelKnown text (getD (m .at) i 0) (getD (m .length) i 0) (getD (m .kind) i 0)
     judging-known = let x = go .holding-all .holds i u in record { model = x .model; length-is = x .length-is; kind-is = x .kind-is }
 
-    one : ahead text m i ≡ modelAt text m i ∷ ahead text m (i + 1)
+    one : ahead text m i ≡ heldModel text m i ∷ ahead text m (i + 1)
     one = ahead-one text m i u
 
     module _ {v : ℕ} (e : v ≡ listVerdict volume (modelOf (the text (getD (m .at) i 0)))) where
-      is : v ≡ verdictBy (evenIn (modelAt text m i)) (pastIn volume (modelAt text m i))
-      unfolding modelAt
+      is : v ≡ verdictBy (evenIn (heldModel text m i)) (pastIn volume (heldModel text m i))
+      unfolding heldModel
       is = e ∙ verdict-is volume (modelOf (the text (getD (m .at) i 0)))
 
-      evens : all evenIn (modelsAt text m) ≡ (evenIn (modelAt text m i) && all evenIn (ahead text m (i + 1)))
-      evens = go .even ∙ ap (all evenIn) one ∙ all-one (modelAt text m i) (ahead text m (i + 1))
+      evens : all evenIn (modelsAt text m) ≡ (evenIn (heldModel text m i) && all evenIn (ahead text m (i + 1)))
+      evens = go .even ∙ ap (all evenIn) one ∙ all-one (heldModel text m i) (ahead text m (i + 1))
 
       pub judging-uneven : v ≡ 11 → 11 ≡ listsVerdict volume (modelsAt text m)
       unfolding verdictBy
       judging-uneven h =
-          let f = told-11 (evenIn (modelAt text m i)) (pastIn volume (modelAt text m i)) (sym is ∙ h) in
+          let f = told-11 (evenIn (heldModel text m i)) (pastIn volume (heldModel text m i)) (sym is ∙ h) in
           let z : all evenIn (modelsAt text m) ≡ false = evens ∙ rw f in
           sym (verdicts-are volume (modelsAt text m) ∙ rw z)
 
       pub judging-on : (v ≡ 11 → ⊥) → Judging text m volume (out || eqb v 12) (i + 1)
       judging-on h =
-          let (x, y) = told-even (evenIn (modelAt text m i)) (pastIn volume (modelAt text m i)) (λ z. h (is ∙ z)) in
-          let p : pastIn volume (modelAt text m i) ≡ eqb v 12 = sym (ap (λ k. eqb k 12) is ∙ y) in
+          let (x, y) = told-even (evenIn (heldModel text m i)) (pastIn volume (heldModel text m i)) (λ z. h (is ∙ z)) in
+          let p : pastIn volume (heldModel text m i) ≡ eqb v 12 = sym (ap (λ k. eqb k 12) is ∙ y) in
           record {
             holding-all = go .holding-all;
             within = omega arith;
             even = evens ∙ rw x;
             past = go .past ∙ ap (λ l. out || any (pastIn volume) l) one
-                ∙ ap (λ b. out || b) (any-one volume (modelAt text m i) (ahead text m (i + 1)))
+                ∙ ap (λ b. out || b) (any-one volume (heldModel text m i) (ahead text m (i + 1)))
                 ∙ ap (λ b. out || (b || any (pastIn volume) (ahead text m (i + 1)))) p
                 ∙ or-assoc out (eqb v 12) (any (pastIn volume) (ahead text m (i + 1)));
           }

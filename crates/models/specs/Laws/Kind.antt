@@ -22,7 +22,7 @@ use Prim.Native.Nat.{_^_}
 use borrow.Author.Needs.{needs}
 use Rattle.grammar.specs.Bytes.{ascii}
 use Rattle.grammar.specs.Look.{is, has}
-use Rattle.grammar.specs.Parser.{same}
+use Rattle.grammar.specs.Parser.{sameBytes}
 use Rattle.cifti.specs.Words.{structures, numberIn}
 use Rattle.cifti.specs.Maps.{listedBy}
 use Rattle.maps.specs.Fields.{attributeWord}
@@ -74,11 +74,11 @@ module _ {text : List ℕ} {at : ℕ} (m : ModelAt text at) {s : ℕ} (es : s �
   pub kind-stands : Stands text at
   kind-stands = m .stands
 
-  module _ {b : Bool} (eb : b ≡ same (attributeWord (ascii "ModelType") (the text at)) (ascii "CIFTI_MODEL_TYPE_VOXELS")) where
+  module _ {b : Bool} (eb : b ≡ sameBytes (attributeWord (ascii "ModelType") (the text at)) (ascii "CIFTI_MODEL_TYPE_VOXELS")) where
     type : typeNumber ((modelOf (the text at)) .listed) ≡ cond b 32 0
     unfolding has is
     type = type-is (the text at) ∙ ap (λ t. cond t 32 0)
-        (sym (eb ∙ ap (λ w. same w (ascii "CIFTI_MODEL_TYPE_VOXELS")) (word-at "ModelType" (the text at))))
+        (sym (eb ∙ ap (λ w. sameBytes w (ascii "CIFTI_MODEL_TYPE_VOXELS")) (word-at "ModelType" (the text at))))
 
     pub kind-voxels : b ≡ true → 32 + s ≡ typeAndStructure (modelOf (the text at))
     unfolding typeAndStructure modelOf

@@ -12,7 +12,7 @@ use Rattle.grammar.specs.Laws.Facts.{and-left, and-right}
 use Rattle.grammar.specs.Look.{Word, attr, contentsOf, elements, children, textOf}
 use Rattle.numbers.specs.Numbers.{digits, value, whole, wholes, words, values}
 use Rattle.nodes.specs.Places.{the}
-use Rattle.nodes.specs.Children.{first}
+use Rattle.nodes.specs.Children.{firstChild}
 use Rattle.nodes.specs.Laws.Along.{Along, along-start, along-done, along-stands, along-here}
 use Rattle.nodes.specs.Texts.{saysAt, inside, text-from, text-of}
 use Rattle.nodes.specs.Laws.TextSteps.{text-law, from-at}
@@ -28,7 +28,7 @@ use Rattle.maps.specs.Kinds.{GoodModel, surface-model, voxel-model}
 use Rattle.maps.specs.Laws.Kinds.{surface-size}
 use Rattle.models.specs.Kind.{ModelAt}
 use Rattle.models.specs.Numbers.{valuesAt, InForm}
-use Rattle.models.specs.Listings.{numbersOf, OnlyText, ListAt}
+use Rattle.models.specs.Listings.{listedNumbers, OnlyText, ListAt}
 
 -- ---- A good model has one child, whose text is the list.
 
@@ -64,18 +64,18 @@ model-lists {e} (voxel-model g h) =
     (rw h (ap voxels (only-text "VoxelIndicesIJK" _ e o)))
 
 pub model-text : {e : Element} → GoodModel e → OnlyText e
-unfolding numbersOf
+unfolding listedNumbers
 model-text {e} g = go (model-lists g)
   where
     go : Lists e → OnlyText e
-    go (lists-vertices o a f n s) = record { one = o; alone = a; form = f; numbers = ap numbersOf n }
-    go (lists-voxels o a f n) = record { one = o; alone = a; form = f; numbers = ap numbersOf n }
+    go (lists-vertices o a f n s) = record { one = o; alone = a; form = f; numbers = ap listedNumbers n }
+    go (lists-voxels o a f n) = record { one = o; alone = a; form = f; numbers = ap listedNumbers n }
 
 pub listed-is : (e : Element) → (modelOf e) .listed ≡ listedBy e
 unfolding modelOf
 listed-is e = refl
 
-module _ {text : List ℕ} {at : ℕ} (m : ModelAt text at) {kid : Kid} (e : kid ≡ first text at) where
+module _ {text : List ℕ} {at : ℕ} (m : ModelAt text at) {kid : Kid} (e : kid ≡ firstChild text at) where
   only : OnlyText (the text at)
   only = model-text (m .good)
 
@@ -95,7 +95,7 @@ module _ {text : List ℕ} {at : ℕ} (m : ModelAt text at) {kid : Kid} (e : kid
         let t : text-from text f ≡ textOf (only .one) = ap (text-from text) x ∙ text-law (along-stands go q) ∙ ap textOf there in
         record {
           form = rw t (only .form);
-          numbers = ap values t ∙ sym (only .numbers) ∙ ap numbersOf (sym (listed-is (the text at)));
+          numbers = ap values t ∙ sym (only .numbers) ∙ ap listedNumbers (sym (listed-is (the text at)));
         }
 
 -- the numbers from there on
@@ -106,6 +106,6 @@ module _ {text : List ℕ} {at : ℕ} {f : Found} (x : ListAt text at f) {i : �
   pub list-form : InForm text i
   list-form = record { all-digits = sym (ap (λ w. all (digits 1 7) (words w)) here) ∙ x .form }
 
-  pub list-numbers : numbersOf ((modelOf (the text at)) .listed) ≡ valuesAt text i
+  pub list-numbers : listedNumbers ((modelOf (the text at)) .listed) ≡ valuesAt text i
   unfolding valuesAt
   list-numbers = sym (x .numbers) ∙ ap values here

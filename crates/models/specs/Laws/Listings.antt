@@ -28,7 +28,7 @@ use Rattle.models.specs.Kind.{typeAndStructure, typeNumber}
 use Rattle.models.specs.Laws.Kind.{structure-small}
 use Rattle.models.specs.Numbers.{valuesAt, InForm}
 use Rattle.models.specs.Verdicts.{verdictBy, listVerdict, verticesVerdict, voxelsVerdict}
-use Rattle.models.specs.Listings.{numbersOf, ListAt, StartOf, Known}
+use Rattle.models.specs.Listings.{listedNumbers, ListAt, StartOf, ModelKnown}
 use Rattle.models.specs.Laws.ListingSteps.{Lists, lists-vertices, lists-voxels, model-lists, list-none}
 use Rattle.models.specs.Laws.ListingSteps.{list-there, list-form, list-numbers, listed-is}
 
@@ -38,8 +38,8 @@ values-none : values [] ≡ []
 unfolding values words each parts those filled
 values-none = refl
 
-counts-none : (n : ℕ) (l : Listed) → 1 ≤ n → numbersOf l ≡ [] → listsCount n l ≡ false
-unfolding listsCount numbersOf
+counts-none : (n : ℕ) (l : Listed) → 1 ≤ n → listedNumbers l ≡ [] → listsCount n l ≡ false
+unfolding listsCount listedNumbers
 counts-none n (vertices s l) h e = ne-eqb (length l) n (λ z. omega (arith, ap length e))
 counts-none n (voxels l) h e = ne-eqb (length l) (3 * n) (λ z. omega (arith, ap length e))
 
@@ -57,7 +57,7 @@ vertices-said : (volume : Voxel) (size surface : ℕ) (l : List ℕ)
 unfolding listsCount beyond verticesVerdict
 vertices-said volume size surface l = refl
 
-module _ (volume : Voxel) {text : List ℕ} {at size kind : ℕ} (k : Known text at size kind) {f : Found} (st : StartOf text at f) where
+module _ (volume : Voxel) {text : List ℕ} {at size kind : ℕ} (k : ModelKnown text at size kind) {f : Found} (st : StartOf text at f) where
   x : ListAt text at f
   x = st .told (k .model)
 
@@ -67,7 +67,7 @@ module _ (volume : Voxel) {text : List ℕ} {at size kind : ℕ} (k : Known text
   pub judge-none : f ≡ Nothing → 11 ≡ listVerdict volume (modelOf (the text at))
   unfolding listVerdict verdictBy
   judge-none q =
-      let e : numbersOf ((modelOf (the text at)) .listed) ≡ [] = sym (x .numbers) ∙ ap (λ g. values (text-from text g)) q
+      let e : listedNumbers ((modelOf (the text at)) .listed) ≡ [] = sym (x .numbers) ∙ ap (λ g. values (text-from text g)) q
       ∙ ap values (from-none text) ∙ values-none in
       let c = counts-none ((modelOf (the text at)) .count) ((modelOf (the text at)) .listed) (count-some (k .model .good)) e in
       sym (rw c)
@@ -76,16 +76,16 @@ module _ (volume : Voxel) {text : List ℕ} {at size kind : ℕ} (k : Known text
     pub judge-form : InForm text i
     judge-form = list-form x q
 
-    numbers : numbersOf ((modelOf (the text at)) .listed) ≡ valuesAt text i
+    numbers : listedNumbers ((modelOf (the text at)) .listed) ≡ valuesAt text i
     numbers = list-numbers x q
 
     pub judge-voxels : 32 ≤ kind → {r : ℕ} → r ≡ voxelsVerdict size volume (valuesAt text i)
         → r ≡ listVerdict volume (modelOf (the text at))
-    unfolding listVerdict typeAndStructure typeNumber numbersOf
+    unfolding listVerdict typeAndStructure typeNumber listedNumbers
     judge-voxels h {r} y = y ∙ sym (go ((modelOf (the text at)) .listed) refl (sym (k .kind-is)) numbers)
       where
         go : (l : Listed) → (modelOf (the text at)) .listed ≡ l → typeNumber l + (modelOf (the text at)) .structure ≡ kind
-            → numbersOf l ≡ valuesAt text i
+            → listedNumbers l ≡ valuesAt text i
             → verdictBy (listsCount ((modelOf (the text at)) .count) l) (beyond volume l) ≡ voxelsVerdict size volume (valuesAt text i)
         go (vertices s l) p e n = absurd (omega (arith, structure-small (k .model .good)))
         go (voxels l) p e n = voxels-said volume ((modelOf (the text at)) .count) l
@@ -94,7 +94,7 @@ module _ (volume : Voxel) {text : List ℕ} {at size kind : ℕ} (k : Known text
     pub judge-vertices : kind < 32 → {surface r : ℕ}
         → surface ≡ numberSeen 1 1048576 (attributeWord (ascii "SurfaceNumberOfVertices") (the text at))
         → r ≡ verticesVerdict size surface (valuesAt text i) → r ≡ listVerdict volume (modelOf (the text at))
-    unfolding listVerdict typeAndStructure typeNumber numbersOf
+    unfolding listVerdict typeAndStructure typeNumber listedNumbers
     judge-vertices h {surface} {r} s y = y ∙ sym (go (model-lists (k .model .good)))
       where
         wide : (l : Listed) → (modelOf (the text at)) .listed ≡ l → kind ≡ typeNumber l + (modelOf (the text at)) .structure
@@ -108,7 +108,7 @@ module _ (volume : Voxel) {text : List ℕ} {at size kind : ℕ} (k : Known text
             let seen : surface ≡ value (attr "SurfaceNumberOfVertices" (the text at)) =
             s ∙ ap (numberSeen 1 1048576) (word-at "SurfaceNumberOfVertices" (the text at))
             ∙ number-seen 1 1048576 (attr "SurfaceNumberOfVertices" (the text at)) w in
-            let same : values (textOf o) ≡ valuesAt text i = sym (ap numbersOf p) ∙ numbers in
+            let same : values (textOf o) ≡ valuesAt text i = sym (ap listedNumbers p) ∙ numbers in
             ap (λ l. verdictBy (listsCount ((modelOf (the text at)) .count) l) (beyond volume l)) p
             ∙ vertices-said volume ((modelOf (the text at)) .count) (value (attr "SurfaceNumberOfVertices" (the text at)))
             (values (textOf o))

@@ -13,7 +13,7 @@ use mathlib.Core.Path.{sym, ap, _∙_}
 use borrow.Author.Needs.{needs}
 use Rattle.grammar.specs.Bytes.{ascii}
 use Rattle.grammar.specs.Look.{attr}
-use Rattle.grammar.specs.Parser.{same}
+use Rattle.grammar.specs.Parser.{sameBytes}
 use Rattle.nodes.specs.Places.{Stands, the}
 use Rattle.nodes.specs.Attributes.{place}
 use Rattle.nodes.specs.Values.{value-there}
@@ -41,11 +41,11 @@ pub structure-below : (w : Word) → any (λ s. is s w) structures ≡ true → 
 structure-below w h = omega (arith, number-below structures w h, thirty-two)
 
 no-structure : numberIn structures [] ≡ 32
-unfolding structures numberIn is same
+unfolding structures numberIn is sameBytes
 no-structure = refl
 
 no-unit : numberIn units [] ≡ 4
-unfolding units numberIn is same
+unfolding units numberIn is sameBytes
 no-unit = refl
 
 module _ {text : List ℕ} {at : ℕ} (st : Stands text at) (s : String) (l : List String) {f : Found} (e : f ≡ place text at (ascii s)) where

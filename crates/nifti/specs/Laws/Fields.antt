@@ -13,7 +13,7 @@ use lib.Seq.{take-at, drop-append-add, length-take-le}
 use borrow.Author.Tests.{ltb-true, ltb-false, lt-ltb, ne-eqb}
 use Rattle.records.specs.Bytes.{bytesOf, numberWritten, Below}
 use Rattle.records.specs.Laws.Bytes.{length-bytesOf, bytes-back, bytes-whole, number-back, take-below, drop-below}
-use Rattle.nifti.specs.Fields.{ordered, field, numberAt, signed, isNumber, atLeast, natural}
+use Rattle.nifti.specs.Fields.{ordered, field, numberAt, signed, fieldIs, fieldAtLeast, natural}
 use Rattle.nifti.specs.declared.Order.{Order}
 use Rattle.nifti.specs.declared.Order.the-variants.{MostFirst, LeastFirst}
 
@@ -101,24 +101,24 @@ module _ (w n : ℕ) where
   abbrev Half : ℕ
   Half = 2 ^ (8 * w - 1)
 
-  pub least-signed : (b : ℕ) → atLeast b (signed w n) ≡ (ltb n Half && leb b n)
-  unfolding atLeast signed
+  pub least-signed : (b : ℕ) → fieldAtLeast b (signed w n) ≡ (ltb n Half && leb b n)
+  unfolding fieldAtLeast signed
   least-signed b = go (ltb n Half)
     where
-      go : (t : Bool) → atLeast b (cond t (pos n) (negsuc (2 ^ (8 * w) - (n + 1)))) ≡ (t && leb b n)
+      go : (t : Bool) → fieldAtLeast b (cond t (pos n) (negsuc (2 ^ (8 * w) - (n + 1)))) ≡ (t && leb b n)
       go true = refl
       go false = refl
 
-  pub is-signed : (b : ℕ) → isNumber b (signed w n) ≡ (ltb n Half && eqb n b)
-  unfolding isNumber signed
+  pub is-signed : (b : ℕ) → fieldIs b (signed w n) ≡ (ltb n Half && eqb n b)
+  unfolding fieldIs signed
   is-signed b = go (ltb n Half)
     where
-      go : (t : Bool) → isNumber b (cond t (pos n) (negsuc (2 ^ (8 * w) - (n + 1)))) ≡ (t && eqb n b)
+      go : (t : Bool) → fieldIs b (cond t (pos n) (negsuc (2 ^ (8 * w) - (n + 1)))) ≡ (t && eqb n b)
       go true = refl
       go false = refl
 
   -- a small number is the one of its bits
-  pub is-bits : (b : ℕ) → b < Half → isNumber b (signed w n) ≡ eqb n b
+  pub is-bits : (b : ℕ) → b < Half → fieldIs b (signed w n) ≡ eqb n b
   is-bits b h = is-signed b ∙ go (ltb n Half) refl
     where
       go : (t : Bool) → ltb n Half ≡ t → (t && eqb n b) ≡ eqb n b

@@ -14,7 +14,7 @@ use borrow.Author.Tests.{eqb-true, eqb-false, leb-true, le-leb, eq-eqb, ne-eqb}
 use Rattle.lists.specs.Laws.Booleans.{never-some}
 use Rattle.records.specs.Bytes.{Below}
 use Rattle.records.specs.Laws.Bytes.{take-below, drop-below}
-use Rattle.nifti.specs.Extensions.{Extension, Listed}
+use Rattle.nifti.specs.Extensions.{Extension, ExtensionList}
 use Rattle.nifti.specs.File.{orderOf, offset, extender, listStart, HasList, empty, listed, ListOf, list, unlisted, frontTo}
 use Rattle.nifti.specs.File.{Fronts, FrontPart, partOf}
 use Rattle.nifti.specs.Model.{cut, cutTo, listIn, frontOf}

@@ -18,15 +18,16 @@ use Rattle.lists.specs.Laws.Booleans.{and-left, and-right, or-right, both-ways,
 use Rattle.lists.specs.Refusals.{_when_, first, positive}
 use Rattle.lists.specs.Laws.Refusals.{given-none, row-fails}
 use Rattle.records.specs.Bytes.{Below}
-use Rattle.nifti.specs.Fields.{numberAt, signed, atLeast}
-use Rattle.nifti.specs.Extensions.{Extension, sizeOf, written, Good, Listed, nothing, next, Body, firstText, withoutZeros}
+use Rattle.nifti.specs.Fields.{numberAt, signed, fieldAtLeast}
+use Rattle.nifti.specs.Extensions.{Extension, sizeOf, written, GoodExtension, ExtensionList, nothing, next, Body, firstText}
+use Rattle.nifti.specs.Extensions.{withoutZeros}
 use Rattle.nifti.specs.File.{orderOf, offset, extender, listStart, HasList, empty, listed, ListOf, list, unlisted, sizeStands}
-use Rattle.nifti.specs.File.{magicAt, offsetStands, frontStands, noFront, dimsStand, textOf, conditionsOfFile, frontWith}
+use Rattle.nifti.specs.File.{magicAt, offsetStands, frontStands, noFront, dimsStand, textBody, conditionsOfFront, frontWith}
 use Rattle.nifti.specs.File.{lengthCount, lengthAt, refusedFront, acceptedFront, frontBy, frontTo, Fronts, FrontPart, partOf}
 use Rattle.nifti.specs.Model.{notListed, cut, cutTo, taken, takenBy, listIn, frontOf}
 use Rattle.nifti.specs.Laws.File.{fronts-by, listing}
 use Rattle.nifti.specs.Laws.Header.{count-few}
-use Rattle.nifti.specs.Header.{Told, acceptedWith}
+use Rattle.nifti.specs.Header.{OrderKnown, frontAccepted}
 use Rattle.nifti.specs.Laws.Fields.{least-signed, signed-pos}
 use Rattle.nifti.specs.Laws.Lists.{written-size, behind-eight}
 use Rattle.nifti.specs.Laws.Walk.{take-within}
@@ -36,10 +37,10 @@ use Rattle.nifti.specs.declared.Taken.{Taken}
 use Rattle.nifti.specs.declared.Front.{Front}
 use Rattle.nifti.specs.Front.{Standing, Bodied}
 
-pub told-so : {file : List ℕ} {o : Order} → 544 ≤ length file → o ≡ orderOf file → Told file o
+pub told-so : {file : List ℕ} {o : Order} → 544 ≤ length file → o ≡ orderOf file → OrderKnown file o
 told-so h e = record { long = h; is = e }
 
-pub standing-so : {file : List ℕ} {o : Order} → Told file o → frontStands file ≡ true → Standing file o
+pub standing-so : {file : List ℕ} {o : Order} → OrderKnown file o → frontStands file ≡ true → Standing file o
 standing-so t h = record { told = t; stands = h }
 
 -- bytes are below 256
@@ -66,7 +67,7 @@ module _ {file : List ℕ} {o : Order} (s : Standing file o) {n : ℕ} (e : n �
 
   stands-so : (ltb n 9223372036854775808 && leb 544 n) ≡ true
   unfolding offsetStands
-  stands-so = sym (ap (atLeast 544) offset-at ∙ least-signed 8 n 544) ∙ offset-there file (s .stands)
+  stands-so = sym (ap (fieldAtLeast 544) offset-at ∙ least-signed 8 n 544) ∙ offset-there file (s .stands)
 
   pub end-low : 544 ≤ n
   end-low = leb-true 544 n (and-right (ltb n 9223372036854775808) (leb 544 n) stands-so)
@@ -120,7 +121,8 @@ pub record Inside (file : List ℕ) (end : ℕ) (b : Body) : Type 0 where
   pub is : b .bytes ≡ take (length (b .bytes)) (drop (b .start) file)
 
 -- the first of a list
-module _ (o : Order) (file : List ℕ) (at end : ℕ) (e : Extension) (g : Good e) (t : List ℕ) (h : written o e ++ t ≡ slice at end file)
+module _ (o : Order) (file : List ℕ) (at end : ℕ) (e : Extension) (g : GoodExtension e) (t : List ℕ)
+    (h : written o e ++ t ≡ slice at end file)
     (k : at ≤ end) (u : end ≤ length file) where
   spans : at + sizeOf e ≤ end
   spans =
@@ -147,7 +149,7 @@ module _ (o : Order) (file : List ℕ) (at end : ℕ) (e : Extension) (g : Good 
             ∙ take-append-seam (e .body) t);
       }
 
-pub first-inside : {o : Order} {es : List Extension} {s : List ℕ} (file : List ℕ) (at end : ℕ) (b : Body) → Listed o es s
+pub first-inside : {o : Order} {es : List Extension} {s : List ℕ} (file : List ℕ) (at end : ℕ) (b : Body) → ExtensionList o es s
     → s ≡ slice at end file → at ≤ end → end ≤ length file → firstText at es ≡ some b → Inside file end b
 unfolding firstText
 first-inside file at end b nothing h k u f = never-some f
@@ -165,28 +167,28 @@ first-inside {o} file at end b (next {e} {es} {s} g l) h k u f =
 -- of a file
 has-inside : {file : List ℕ} {es : List Extension} {b : Body} → HasList file es → offsetStands file ≡ true → firstText listStart es ≡ some b
     → Inside file (length file) b
-unfolding firstText offsetStands atLeast
+unfolding firstText offsetStands fieldAtLeast
 has-inside (empty z) p f = never-some f
 has-inside {file} {b = b} (listed {end} z e i l) p f =
-    let low : 544 ≤ end = leb-true 544 end (ap (atLeast 544) (sym e) ∙ p) in
+    let low : 544 ≤ end = leb-true 544 end (ap (fieldAtLeast 544) (sym e) ∙ p) in
     let r = first-inside file 544 end b l refl low i f in
     let w = r .within in
     record { behind = r .behind; within = omega arith; is = r .is }
 
-list-inside : {file : List ℕ} {l : Option (List Extension)} {b : Body} → ListOf file l → offsetStands file ≡ true → textOf l ≡ some b
+list-inside : {file : List ℕ} {l : Option (List Extension)} {b : Body} → ListOf file l → offsetStands file ≡ true → textBody l ≡ some b
     → Inside file (length file) b
-unfolding textOf
+unfolding textBody
 list-inside (list h) p f = has-inside h p f
 list-inside (unlisted h) p f = never-some f
 
 -- ---- The part of a front, refused or not, lies inside the file.
 
-stands-first : (file : List ℕ) (l : Option (List Extension)) → first (conditionsOfFile file l) ≡ 0 → offsetStands file ≡ true
-unfolding conditionsOfFile noFront positive
+stands-first : (file : List ℕ) (l : Option (List Extension)) → first (conditionsOfFront file l) ≡ 0 → offsetStands file ≡ true
+unfolding conditionsOfFront noFront positive
 stands-first file l h =
     offset-there file
     (not-false (frontStands file)
-    (or-right (ltb (length file) 544) (not (frontStands file)) (row-fails (given-none (conditionsOfFile file l) refl h))))
+    (or-right (ltb (length file) 544) (not (frontStands file)) (row-fails (given-none (conditionsOfFront file l) refl h))))
 
 accepted-inside : (file : List ℕ) (o : Option Body) → ((b : Body) → o ≡ some b → Inside file (length file) b)
     → (acceptedFront file o) .start + (acceptedFront file o) .length ≤ length file
@@ -200,11 +202,11 @@ accepted-inside file (some b) h =
 
 to-inside : (file : List ℕ) (l : Option (List Extension)) → ListOf file l → (frontTo file l) .start + (frontTo file l) .length ≤ length file
 unfolding frontTo frontBy
-to-inside file l w = go (first (conditionsOfFile file l)) refl
+to-inside file l w = go (first (conditionsOfFront file l)) refl
   where
-    go : (n : ℕ) → first (conditionsOfFile file l) ≡ n
-        → (frontBy n file (textOf l)) .start + (frontBy n file (textOf l)) .length ≤ length file
-    go zero e = accepted-inside file (textOf l) (λ b q. list-inside w (stands-first file l e) q)
+    go : (n : ℕ) → first (conditionsOfFront file l) ≡ n
+        → (frontBy n file (textBody l)) .start + (frontBy n file (textBody l)) .length ≤ length file
+    go zero e = accepted-inside file (textBody l) (λ b q. list-inside w (stands-first file l e) q)
     go (suc n) e = omega arith
 
 -- three lengths, and not more of them told
@@ -220,7 +222,7 @@ shaped-by (suc n) file o = record { few = omega arith; three = refl }
 
 pub front-shaped : {file : List ℕ} {f : Front} → Fronts file f → Shaped f
 unfolding frontTo
-front-shaped {file} r = rw (r .answered) (shaped-by (first (conditionsOfFile file (r .extensions))) file (textOf (r .extensions)))
+front-shaped {file} r = rw (r .answered) (shaped-by (first (conditionsOfFront file (r .extensions))) file (textBody (r .extensions)))
 
 pub part-inside : {file : List ℕ} {f : Front} → Fronts file f → f .start + f .length ≤ length file
 part-inside {file} r = rw (r .answered) (to-inside file (r .extensions) (r .of))
@@ -234,8 +236,8 @@ part-cut {file} {f} r =
 
 pub accepted-so : (file : List ℕ) (start size : ℕ) {count a b c m : ℕ} → count ≡ lengthCount file → a ≡ lengthAt file 0
     → b ≡ lengthAt file 1 → c ≡ lengthAt file 2 → m ≡ length (withoutZeros (take size (drop start file)))
-    → frontWith 0 count a b c start m ≡ acceptedWith file start size
-unfolding acceptedWith
+    → frontWith 0 count a b c start m ≡ frontAccepted file start size
+unfolding frontAccepted
 accepted-so file start size e p q r h = rw (e, p, q, r, h)
 
 -- ---- The front, by what the code finds.
@@ -246,23 +248,23 @@ acceptedBy file start s =
 
 module _ (file : List ℕ) (k : Bytes file) where
   pub front-short : {f : Front} → length file < 544 → f ≡ refusedFront 20 → Fronts file f
-  unfolding frontOf frontTo conditionsOfFile noFront first frontBy
+  unfolding frontOf frontTo conditionsOfFront noFront first frontBy
   front-short h e = fronts-by file (k .known) (e ∙ sym (rw (lt-ltb (length file) 544 h)))
 
   module _ (long : 544 ≤ length file) where
     pub no-front : {f : Front} → frontStands file ≡ false → f ≡ refusedFront 20 → Fronts file f
-    unfolding frontOf frontTo conditionsOfFile noFront first frontBy
+    unfolding frontOf frontTo conditionsOfFront noFront first frontBy
     no-front h e = fronts-by file (k .known) (e ∙ sym (rw (le-ltb (length file) 544 long, h)))
 
     module _ (stands : frontStands file ≡ true) where
       pub no-dims : {f : Front} → dimsStand file ≡ false → f ≡ refusedFront 21 → Fronts file f
-      unfolding frontOf frontTo conditionsOfFile noFront first frontBy
+      unfolding frontOf frontTo conditionsOfFront noFront first frontBy
       no-dims h e = fronts-by file (k .known) (e ∙ sym (rw (le-ltb (length file) 544 long, stands, h)))
 
       module _ (dims : dimsStand file ≡ true) where
         later : (l : Option (List Extension)) → frontTo file l
-            ≡ frontBy (first (22 when not (isSome l) ∷ 23 when not (isSome (textOf l)) ∷ [])) file (textOf l)
-        unfolding frontTo conditionsOfFile noFront first
+            ≡ frontBy (first (22 when not (isSome l) ∷ 23 when not (isSome (textBody l)) ∷ [])) file (textBody l)
+        unfolding frontTo conditionsOfFront noFront first
         later l = rw (le-ltb (length file) 544 long, stands, dims)
 
         module _ {r : Taken} (taken-is : r ≡ takenBy 0 0 544 (listIn file)) where
@@ -277,7 +279,7 @@ module _ (file : List ℕ) (k : Bytes file) where
 
           none-there : (l : Option (List Extension)) → takenBy 0 0 544 l .listed ≡ true → takenBy 0 0 544 l .start ≡ 0
               → ListOf file l → frontTo file l ≡ refusedFront 23
-          unfolding takenBy isSome textOf first frontBy
+          unfolding takenBy isSome textBody first frontBy
           none-there Option.none h z w = both-ways h refl
           none-there (some es) h z w = go (firstText 544 es) refl
             where
@@ -296,11 +298,11 @@ module _ (file : List ℕ) (k : Bytes file) where
 
           record Found (l : Option (List Extension)) (x : Taken) : Type 0 where
             within : x .start + x .length ≤ length file
-            is : frontTo file l ≡ acceptedWith file (x .start) (x .length)
+            is : frontTo file l ≡ frontAccepted file (x .start) (x .length)
 
           one-there : (l : Option (List Extension)) → takenBy 0 0 544 l .listed ≡ true → (takenBy 0 0 544 l .start ≡ 0 → ⊥)
               → ListOf file l → Found l (takenBy 0 0 544 l)
-          unfolding takenBy isSome textOf first frontBy acceptedFront acceptedWith
+          unfolding takenBy isSome textBody first frontBy acceptedFront frontAccepted
           one-there Option.none h z w = both-ways h refl
           one-there (some es) h z w = go (firstText 544 es) refl
             where
@@ -318,10 +320,10 @@ module _ (file : List ℕ) (k : Bytes file) where
           found h z = subst (Found (listIn file)) (sym taken-is) (one-there (listIn file) (ap (λ (x : Taken). x .listed) (sym taken-is) ∙ h)
               (λ y. z (ap (λ (x : Taken). x .start) taken-is ∙ y)) (listing file (k .known)))
 
-          pub text-inside : {o : Order} → Told file o → r .listed ≡ true → (r .start ≡ 0 → ⊥) → Bodied file o (r .start) (r .length)
+          pub text-inside : {o : Order} → OrderKnown file o → r .listed ≡ true → (r .start ≡ 0 → ⊥) → Bodied file o (r .start) (r .length)
           text-inside t h z = record { told = t; inside = found h z .within }
 
-          pub a-text : {f : Front} → r .listed ≡ true → (r .start ≡ 0 → ⊥) → f ≡ acceptedWith file (r .start) (r .length) → Fronts file f
+          pub a-text : {f : Front} → r .listed ≡ true → (r .start ≡ 0 → ⊥) → f ≡ frontAccepted file (r .start) (r .length) → Fronts file f
           unfolding frontOf
           a-text h z e = fronts-by file (k .known) (e ∙ sym (found h z .is))
 

@@ -11,13 +11,13 @@ use lib.Seq.{drop-cons, take-add, drop-drop}
 use borrow.Author.Tests.{lt-ltb, le-ltb, eq-eqb, ne-eqb, not-true, not-false}
 use Rattle.lists.specs.Lists.{allBelow}
 use Rattle.records.specs.Bytes.{numberWritten, byteWords}
-use Rattle.nifti.specs.Fields.{ordered, numberAt, signed, isNumber, atLeast, natural}
+use Rattle.nifti.specs.Fields.{ordered, numberAt, signed, fieldIs, fieldAtLeast, natural}
 use Rattle.nifti.specs.File.{orderOf, dim, offset, sizeStands, magicAt, offsetStands, frontStands, lengthCount, oneAt, lengthStands}
 use Rattle.nifti.specs.File.{dimsStand, lengthAt, magic}
 use Rattle.nifti.specs.Laws.Fields.{least-signed, is-bits, natural-signed}
 use Rattle.nifti.specs.declared.Order.{Order}
 use Rattle.nifti.specs.declared.Order.the-variants.{MostFirst, LeastFirst}
-use Rattle.nifti.specs.Header.{Told, Asked, Counted, Looked}
+use Rattle.nifti.specs.Header.{OrderKnown, LengthAsked, FewLengths, Looked}
 
 -- ---- Four bytes, and eight.
 
@@ -91,7 +91,7 @@ four-joined a b c d = omega arith
 
 -- ---- The tests.
 
-module _ {file : List ℕ} {o : Order} (t : Told file o) where
+module _ {file : List ℕ} {o : Order} (t : OrderKnown file o) where
   pub size-test : {n : ℕ} → n ≡ numberAt o 4 0 file → eqb n 540 ≡ sizeStands file
   unfolding sizeStands
   size-test e = rw (e, t .is)
@@ -106,15 +106,15 @@ module _ {file : List ℕ} {o : Order} (t : Told file o) where
 
   pub offset-low : {n : ℕ} → n ≡ numberAt o 8 168 file → n < 9223372036854775808 → leb 544 n ≡ offsetStands file
   unfolding offsetStands
-  offset-low {n} e h = sym (ap (atLeast 544) (offset-is e) ∙ least-signed 8 n 544 ∙ rw (lt-ltb n 9223372036854775808 h))
+  offset-low {n} e h = sym (ap (fieldAtLeast 544) (offset-is e) ∙ least-signed 8 n 544 ∙ rw (lt-ltb n 9223372036854775808 h))
 
   pub offset-high : {n : ℕ} → n ≡ numberAt o 8 168 file → 9223372036854775808 ≤ n → false ≡ offsetStands file
   unfolding offsetStands
-  offset-high {n} e h = sym (ap (atLeast 544) (offset-is e) ∙ least-signed 8 n 544 ∙ rw (le-ltb n 9223372036854775808 h))
+  offset-high {n} e h = sym (ap (fieldAtLeast 544) (offset-is e) ∙ least-signed 8 n 544 ∙ rw (le-ltb n 9223372036854775808 h))
 
   one-test : (i : ℕ) {n : ℕ} → n ≡ numberAt o 8 (16 + 8 * (1 + i)) file → eqb n 1 ≡ oneAt file i
   unfolding oneAt
-  one-test i {n} e = sym (ap (isNumber 1) (dim-is (1 + i) e) ∙ is-bits 8 n 1 (omega arith))
+  one-test i {n} e = sym (ap (fieldIs 1) (dim-is (1 + i) e) ∙ is-bits 8 n 1 (omega arith))
 
   pub one-yes : (i : ℕ) {n : ℕ} → n ≡ numberAt o 8 (16 + 8 * (1 + i)) file → n ≡ 1 → oneAt file i ≡ true
   one-yes i {n} e h = sym (one-test i e) ∙ eq-eqb n 1 h
@@ -124,11 +124,11 @@ module _ {file : List ℕ} {o : Order} (t : Told file o) where
 
   pub length-low : (i : ℕ) {n : ℕ} → n ≡ numberAt o 8 (16 + 8 * (5 + i)) file → n < 9223372036854775808 → leb 1 n ≡ lengthStands file i
   unfolding lengthStands
-  length-low i {n} e h = sym (ap (atLeast 1) (dim-is (5 + i) e) ∙ least-signed 8 n 1 ∙ rw (lt-ltb n 9223372036854775808 h))
+  length-low i {n} e h = sym (ap (fieldAtLeast 1) (dim-is (5 + i) e) ∙ least-signed 8 n 1 ∙ rw (lt-ltb n 9223372036854775808 h))
 
   pub length-high : (i : ℕ) {n : ℕ} → n ≡ numberAt o 8 (16 + 8 * (5 + i)) file → 9223372036854775808 ≤ n → false ≡ lengthStands file i
   unfolding lengthStands
-  length-high i {n} e h = sym (ap (atLeast 1) (dim-is (5 + i) e) ∙ least-signed 8 n 1 ∙ rw (le-ltb n 9223372036854775808 h))
+  length-high i {n} e h = sym (ap (fieldAtLeast 1) (dim-is (5 + i) e) ∙ least-signed 8 n 1 ∙ rw (le-ltb n 9223372036854775808 h))
 
   -- dim[0]
   count-is : {n : ℕ} → n ≡ numberAt o 8 16 file → lengthCount file ≡ cond (eqb n 6) 2 (cond (eqb n 7) 3 0)
@@ -161,22 +161,22 @@ module _ {file : List ℕ} {o : Order} {count i : ℕ} (l : Looked file o count 
   unfolding lengthAt
   length-none h = let c = l .counted in let u : lengthCount file ≤ i = omega arith in sym (rw (le-ltb i (lengthCount file) u))
 
-pub looked : {file : List ℕ} {o : Order} {count i : ℕ} → Told file o → count ≡ lengthCount file → i < 3 → Looked file o count i
+pub looked : {file : List ℕ} {o : Order} {count i : ℕ} → OrderKnown file o → count ≡ lengthCount file → i < 3 → Looked file o count i
 looked t c h = record { told = t; counted = c; small = h }
 
 pub count-few : (file : List ℕ) → lengthCount file ≤ 3
 unfolding lengthCount
-count-few file = go (isNumber 6 (dim file 0)) (isNumber 7 (dim file 0))
+count-few file = go (fieldIs 6 (dim file 0)) (fieldIs 7 (dim file 0))
   where
     go : (a b : Bool) → cond a 2 (cond b 3 0) ≤ 3
     go true b = omega arith
     go false true = omega arith
     go false false = omega arith
 
-pub counted-so : {file : List ℕ} {o : Order} {count : ℕ} → Told file o → count ≡ lengthCount file → Counted file o count
+pub counted-so : {file : List ℕ} {o : Order} {count : ℕ} → OrderKnown file o → count ≡ lengthCount file → FewLengths file o count
 counted-so {file} t c = record { told = t; few = rw c (count-few file) }
 
-pub asked-so : {file : List ℕ} {o : Order} {count i : ℕ} → Counted file o count → i < count → Asked file o i
+pub asked-so : {file : List ℕ} {o : Order} {count i : ℕ} → FewLengths file o count → i < count → LengthAsked file o i
 asked-so c h = let f = c .few in record { told = c .told; small = omega arith }
 
 -- ---- The magic, and all together.

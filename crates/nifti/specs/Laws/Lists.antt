@@ -15,8 +15,8 @@ use Rattle.lists.specs.Laws.Booleans.{and-left, and-right, and-both, never-some
 use Rattle.records.specs.Bytes.{Below}
 use Rattle.records.specs.Laws.Bytes.{drop-below}
 use Rattle.nifti.specs.Fields.{field, numberAt}
-use Rattle.nifti.specs.Extensions.{Extension, sizeOf, written, Good, Listed, nothing, next}
-use Rattle.nifti.specs.Model.{goodSize, extensionIn, onward, cutBy, cut}
+use Rattle.nifti.specs.Extensions.{Extension, sizeOf, written, GoodExtension, ExtensionList, nothing, next}
+use Rattle.nifti.specs.Model.{goodSize, extensionIn, oneMoreIf, cutBy, cut}
 use Rattle.nifti.specs.Laws.Fields.{length-field, number-first, number-past, number-drop, field-of, number-below}
 use Rattle.nifti.specs.declared.Order.{Order}
 
@@ -49,7 +49,7 @@ fits-size {size} {left} f =
 -- ---- Fuel: as much as there are bytes is enough.
 
 enough : (o : Order) (m n : ℕ) (s : List ℕ) → length s ≤ m → length s ≤ n → cutBy m o s ≡ cutBy n o s
-unfolding cutBy onward
+unfolding cutBy oneMoreIf
 enough o zero zero s h k = refl
 enough o zero (suc n) s h k = let e : length s ≡ 0 = omega arith in rw (eq-eqb (length s) 0 e)
 enough o (suc m) zero s h k = let e : length s ≡ 0 = omega arith in rw (eq-eqb (length s) 0 e)
@@ -58,14 +58,14 @@ enough o (suc m) (suc n) s h k = go (goodSize (numberAt o 4 0 s) (length s)) ref
     go : (t : Bool) → goodSize (numberAt o 4 0 s) (length s) ≡ t
         → (length (drop (numberAt o 4 0 s) s) ≤ m → length (drop (numberAt o 4 0 s) s) ≤ n
         → cutBy m o (drop (numberAt o 4 0 s) s) ≡ cutBy n o (drop (numberAt o 4 0 s) s))
-        → cond (eqb (length s) 0) (some []) (onward t (extensionIn o s) (cutBy m o (drop (numberAt o 4 0 s) s)))
-        ≡ cond (eqb (length s) 0) (some []) (onward t (extensionIn o s) (cutBy n o (drop (numberAt o 4 0 s) s)))
+        → cond (eqb (length s) 0) (some []) (oneMoreIf t (extensionIn o s) (cutBy m o (drop (numberAt o 4 0 s) s)))
+        ≡ cond (eqb (length s) 0) (some []) (oneMoreIf t (extensionIn o s) (cutBy n o (drop (numberAt o 4 0 s) s)))
     go false e ih = refl
     go true e ih =
         let f = size-fits (numberAt o 4 0 s) (length s) e in
         let l = f .low in
         let u = length-drop (numberAt o 4 0 s) s in
-        ap (λ r. cond (eqb (length s) 0) (some []) (onward true (extensionIn o s) r)) (ih (omega arith) (omega arith))
+        ap (λ r. cond (eqb (length s) 0) (some []) (oneMoreIf true (extensionIn o s) r)) (ih (omega arith) (omega arith))
 
 -- ---- One step.
 
@@ -79,11 +79,11 @@ unfolding cut
 cut-step o s h = enough o (length s) (suc (length s)) s (omega arith) (omega arith)
 
 pub cut-bad : (o : Order) (s : List ℕ) → (length s ≡ 0 → ⊥) → goodSize (numberAt o 4 0 s) (length s) ≡ false → cut o s ≡ Option.none
-unfolding cutBy onward
+unfolding cutBy oneMoreIf
 cut-bad o s h e = cut-step o s h ∙ rw (ne-eqb (length s) 0 h, e)
 
 pub cut-good : (o : Order) (s : List ℕ) → goodSize (numberAt o 4 0 s) (length s) ≡ true
-    → cut o s ≡ onward true (extensionIn o s) (cut o (drop (numberAt o 4 0 s) s))
+    → cut o s ≡ oneMoreIf true (extensionIn o s) (cut o (drop (numberAt o 4 0 s) s))
 unfolding cutBy cut
 cut-good o s e =
     let f = size-fits (numberAt o 4 0 s) (length s) e in
@@ -93,12 +93,12 @@ cut-good o s e =
     let z : length s ≡ 0 → ⊥ = λ q. omega arith in
     cut-step o s z
     ∙ rw (ne-eqb (length s) 0 z, e)
-    (ap (onward true (extensionIn o s))
+    (ap (oneMoreIf true (extensionIn o s))
     (enough o (length s) (length (drop (numberAt o 4 0 s) s)) (drop (numberAt o 4 0 s) s) (omega arith) (omega arith)))
 
 -- ---- What is written is found.
 
-module _ (o : Order) (e : Extension) (g : Good e) (t : List ℕ) where
+module _ (o : Order) (e : Extension) (g : GoodExtension e) (t : List ℕ) where
   size-below : sizeOf e < 2 ^ 32
   size-below = let h = g .high in omega arith
 
@@ -150,18 +150,18 @@ module _ (o : Order) (e : Extension) (g : Good e) (t : List ℕ) where
       let b = written-size in
       rw size-read (fits-size (record { low = g .low; inside = omega arith; high = g .high; whole = g .whole }))
 
-  pub found-next : cut o (written o e ++ t) ≡ onward true e (cut o t)
+  pub found-next : cut o (written o e ++ t) ≡ oneMoreIf true e (cut o t)
   found-next =
       cut-good o (written o e ++ t) good-read
-      ∙ rw (read-back, size-read) (ap (λ l. onward true e (cut o l)) (drop-at (written o e) t (sizeOf e) written-size))
+      ∙ rw (read-back, size-read) (ap (λ l. oneMoreIf true e (cut o l)) (drop-at (written o e) t (sizeOf e) written-size))
 
-pub list-found : {o : Order} {es : List Extension} {s : List ℕ} → Listed o es s → cut o s ≡ some es
-unfolding onward
+pub list-found : {o : Order} {es : List Extension} {s : List ℕ} → ExtensionList o es s → cut o s ≡ some es
+unfolding oneMoreIf
 list-found {o} nothing = cut-none o [] refl
-list-found {o} (next {e} {es} {s} g l) = found-next o e g s ∙ ap (onward true e) (list-found l)
+list-found {o} (next {e} {es} {s} g l) = found-next o e g s ∙ ap (oneMoreIf true e) (list-found l)
 
 -- ---- LIST-UNIQUE: no two lists of extensions are written alike.
-pub list-unique : {o : Order} {es fs : List Extension} {s : List ℕ} → Listed o es s → Listed o fs s → es ≡ fs
+pub list-unique : {o : Order} {es fs : List Extension} {s : List ℕ} → ExtensionList o es s → ExtensionList o fs s → es ≡ fs
 list-unique h k = let p = list-found h in let q = list-found k in cc
 
 -- ---- What is found is written.
@@ -182,7 +182,7 @@ module _ (o : Order) (s : List ℕ) (f : Fits (numberAt o 4 0 s) (length s)) whe
   size-is = let e = body-length in let l = f .low in omega arith
 
 module _ (o : Order) (s : List ℕ) (b : Below 256 s) (f : Fits (numberAt o 4 0 s) (length s)) where
-  pub found-good : Good (extensionIn o s)
+  pub found-good : GoodExtension (extensionIn o s)
   unfolding extensionIn
   found-good =
       let e = size-is o s f in
@@ -223,44 +223,44 @@ record Onward (t : Bool) (e : Extension) (l : Option (List Extension)) (es : Lis
   is : l ≡ some rest
   joined : es ≡ e ∷ rest
 
-onward-some : (t : Bool) (e : Extension) (l : Option (List Extension)) {es : List Extension} → onward t e l ≡ some es → Onward t e l es
-unfolding onward
+onward-some : (t : Bool) (e : Extension) (l : Option (List Extension)) {es : List Extension} → oneMoreIf t e l ≡ some es → Onward t e l es
+unfolding oneMoreIf
 onward-some false e l h = never-some h
 onward-some true e Option.none h = never-some h
 onward-some true e (some fs) h = record { good = refl; rest = fs; is = refl; joined = cc }
 
-nothing-listed : (o : Order) (s : List ℕ) {es : List Extension} → length s ≡ 0 → some [] ≡ some es → Listed o es s
+nothing-listed : (o : Order) (s : List ℕ) {es : List Extension} → length s ≡ 0 → some [] ≡ some es → ExtensionList o es s
 nothing-listed o [] {es} e q = let z : es ≡ [] = cc in rw z nothing
 nothing-listed o (x ∷ s) e q = absurd (omega arith)
 
 next-listed : (o : Order) (s : List ℕ) {es : List Extension} {l : Option (List Extension)} → Below 256 s
-    → ((fs : List Extension) → Below 256 (drop (numberAt o 4 0 s) s) → l ≡ some fs → Listed o fs (drop (numberAt o 4 0 s) s))
-    → Onward (goodSize (numberAt o 4 0 s) (length s)) (extensionIn o s) l es → Listed o es s
+    → ((fs : List Extension) → Below 256 (drop (numberAt o 4 0 s) s) → l ≡ some fs → ExtensionList o fs (drop (numberAt o 4 0 s) s))
+    → Onward (goodSize (numberAt o 4 0 s) (length s)) (extensionIn o s) l es → ExtensionList o es s
 next-listed o s {es} b ih w =
     let f = size-fits (numberAt o 4 0 s) (length s) (w .good) in
-    let r : Listed o (extensionIn o s ∷ w .rest) (written o (extensionIn o s) ++ drop (numberAt o 4 0 s) s) =
+    let r : ExtensionList o (extensionIn o s ∷ w .rest) (written o (extensionIn o s) ++ drop (numberAt o 4 0 s) s) =
     next (found-good o s b f) (ih (w .rest) (drop-below 256 (numberAt o 4 0 s) s b) (w .is)) in
-    rw (w .joined) (subst (Listed o (extensionIn o s ∷ w .rest)) (found-joined o s b f) r)
+    rw (w .joined) (subst (ExtensionList o (extensionIn o s ∷ w .rest)) (found-joined o s b f) r)
 
-found-by : (o : Order) (n : ℕ) (s : List ℕ) {es : List Extension} → Below 256 s → cutBy n o s ≡ some es → Listed o es s
+found-by : (o : Order) (n : ℕ) (s : List ℕ) {es : List Extension} → Below 256 s → cutBy n o s ≡ some es → ExtensionList o es s
 unfolding cutBy
 found-by o zero s {es} b h = go (eqb (length s) 0) refl h
   where
-    go : (t : Bool) → eqb (length s) 0 ≡ t → cond t (some []) Option.none ≡ some es → Listed o es s
+    go : (t : Bool) → eqb (length s) 0 ≡ t → cond t (some []) Option.none ≡ some es → ExtensionList o es s
     go true e q = nothing-listed o s (eqb-true _ _ e) q
     go false e q = never-some q
 found-by o (suc n) s {es} b h = go (eqb (length s) 0) refl (λ fs. found-by o n (drop (numberAt o 4 0 s) s) {es = fs}) h
   where
     go : (t : Bool) → eqb (length s) 0 ≡ t
         → ((fs : List Extension) → Below 256 (drop (numberAt o 4 0 s) s) → cutBy n o (drop (numberAt o 4 0 s) s) ≡ some fs
-        → Listed o fs (drop (numberAt o 4 0 s) s))
-        → cond t (some []) (onward (goodSize (numberAt o 4 0 s) (length s)) (extensionIn o s) (cutBy n o (drop (numberAt o 4 0 s) s)))
+        → ExtensionList o fs (drop (numberAt o 4 0 s) s))
+        → cond t (some []) (oneMoreIf (goodSize (numberAt o 4 0 s) (length s)) (extensionIn o s) (cutBy n o (drop (numberAt o 4 0 s) s)))
         ≡ some es
-        → Listed o es s
+        → ExtensionList o es s
     go true e ih q = nothing-listed o s (eqb-true _ _ e) q
     go false e ih q = next-listed o s b ih (onward-some _ (extensionIn o s) (cutBy n o (drop (numberAt o 4 0 s) s)) q)
 
 -- ---- LISTED-IFF: what is found is that a list is written.
-pub listed-iff : (o : Order) (s : List ℕ) (es : List Extension) → Below 256 s → (cut o s ≡ some es) ↔ Listed o es s
+pub listed-iff : (o : Order) (s : List ℕ) (es : List Extension) → Below 256 s → (cut o s ≡ some es) ↔ ExtensionList o es s
 unfolding cut
 listed-iff o s es b = (found-by o (length s) s b, list-found)

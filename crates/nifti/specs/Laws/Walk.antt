@@ -14,7 +14,7 @@ use Rattle.lists.specs.Laws.Booleans.{and-no, refute}
 use Rattle.records.specs.Bytes.{numberWritten}
 use Rattle.nifti.specs.Fields.{ordered, numberAt}
 use Rattle.nifti.specs.Extensions.{Extension, sizeOf, Body, firstText}
-use Rattle.nifti.specs.Model.{goodSize, extensionIn, onward, cut, notListed, taken, takenBy}
+use Rattle.nifti.specs.Model.{goodSize, extensionIn, oneMoreIf, cut, notListed, taken, takenBy}
 use Rattle.nifti.specs.Laws.Lists.{Fits, size-fits, cut-none, cut-bad, cut-good, size-is, body-length}
 use Rattle.nifti.specs.declared.Order.{Order}
 use Rattle.nifti.specs.declared.Taken.{Taken}
@@ -40,14 +40,14 @@ number-slice o w at place end s h =
 -- ---- One step of the answer.
 
 take-on : (start size place : ℕ) (e : Extension) (l : Option (List Extension)) → start ≡ 0 → e .code ≡ 32
-    → takenBy start size place (onward true e l) ≡ takenBy (place + 8) (length (e .body)) (place + sizeOf e) l
-unfolding takenBy taken onward
+    → takenBy start size place (oneMoreIf true e l) ≡ takenBy (place + 8) (length (e .body)) (place + sizeOf e) l
+unfolding takenBy taken oneMoreIf
 take-on start size place e Option.none z c = refl
 take-on start size place e (some es) z c = rw (eq-eqb start 0 z, eq-eqb (e .code) 32 c)
 
 skip-on : (start size place : ℕ) (e : Extension) (l : Option (List Extension)) → (eqb start 0 && eqb (e .code) 32) ≡ false
-    → takenBy start size place (onward true e l) ≡ takenBy start size (place + sizeOf e) l
-unfolding takenBy taken onward
+    → takenBy start size place (oneMoreIf true e l) ≡ takenBy start size (place + sizeOf e) l
+unfolding takenBy taken oneMoreIf
 skip-on start size place e Option.none h = refl
 skip-on start size place e (some es) h = rw h
 
@@ -134,14 +134,14 @@ module _ {file : List ℕ} {o : Order} {end start size place left : ℕ} (w : Wa
       unfolding the extensionIn
       the-body = body-length o (slice place end file) fits ∙ ap (λ k. k - 8) here
 
-      stepped : cut o (slice place end file) ≡ onward true the (cut o (slice (place + n) end file))
+      stepped : cut o (slice place end file) ≡ oneMoreIf true the (cut o (slice (place + n) end file))
       unfolding the
       stepped =
           cut-good o (slice place end file) good-here
-          ∙ ap (λ l. onward true (extensionIn o (slice place end file)) (cut o l))
+          ∙ ap (λ l. oneMoreIf true (extensionIn o (slice place end file)) (cut o l))
           (ap (λ k. drop k (slice place end file)) here ∙ drop-drop n place (take end file))
 
-      goes : (start₁ size₁ : ℕ) → takenBy start size place (onward true the (cut o (slice (place + n) end file)))
+      goes : (start₁ size₁ : ℕ) → takenBy start size place (oneMoreIf true the (cut o (slice (place + n) end file)))
           ≡ takenBy start₁ size₁ (place + sizeOf the) (cut o (slice (place + n) end file))
           → Walking file o end start₁ size₁ (place + n) (left - n)
       goes start₁ size₁ q =

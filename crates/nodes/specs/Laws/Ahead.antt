@@ -22,8 +22,8 @@ use Rattle.nodes.specs.Laws.Places.{tail-of}
 use Rattle.nodes.specs.Laws.Depth.{comment-eats}
 use Rattle.nodes.specs.Scan.{to-tag, past-tag, tag-from, tag-at, InTag}
 use Rattle.nodes.specs.Laws.Scanned.{tag-from-less}
-use Rattle.nodes.specs.ScanSteps.{tagged}
-use Rattle.nodes.specs.Ahead.{afterGap, past-gap, ending, ahead-then, ahead-by, ahead-at, first-by}
+use Rattle.nodes.specs.ScanSteps.{tagTold}
+use Rattle.nodes.specs.Ahead.{afterGap, past-gap, ending, ahead-then, ahead-by, ahead-at, first-ahead-by}
 use Rattle.nodes.specs.Laws.AheadSteps.{gap-short, ahead-step}
 use Rattle.nodes.specs.Ahead.{first-ahead, ahead-in-tag, gap-data}
 use Rattle.nodes.specs.Laws.AheadSteps.{gap-data-eats}
@@ -183,20 +183,20 @@ pub ruleset heading = (
 )
 
 -- from a place in a start tag
-module _ (text : List ℕ) (at : ℕ) (words : Bool) {x : Tag} (k : x ≡ tagged (length text) (tag-from 0 (drop at text))) where
+module _ (text : List ℕ) (at : ℕ) (words : Bool) {x : Tag} (k : x ≡ tagTold (length text) (tag-from 0 (drop at text))) where
   pub ahead-none : x ≡ tag-is.No → Stray ≡ ahead-in-tag words text at
-  unfolding ahead-in-tag first-by
+  unfolding ahead-in-tag first-ahead-by
   ahead-none z = rw (none-so (length text) (tag-from 0 (drop at text)) (sym k ∙ z))
 
   pub ahead-bare : {j : ℕ} → x ≡ tag-is.Bare j → End j ≡ ahead-in-tag words text at
-  unfolding ahead-in-tag first-by
+  unfolding ahead-in-tag first-ahead-by
   ahead-bare {j} z =
       let b = bare-so text at (tag-from 0 (drop at text)) (tag-from-less 0 (drop at text)) (sym k ∙ z) in
       rw (b .reads, place text j (b .inside))
 
   pub ahead-open : {j : ℕ} → x ≡ tag-is.Open j → {r : Ahead} → r ≡ ahead-at words (length text) (drop j text)
       → r ≡ ahead-in-tag words text at
-  unfolding ahead-in-tag first-by
+  unfolding ahead-in-tag first-ahead-by
   ahead-open z w = w ∙ sym (rw (opens-so text at (tag-from 0 (drop at text)) (tag-from-less 0 (drop at text)) (sym k ∙ z) .reads))
 
 pub ruleset in-tag-ahead = (ahead-none, ahead-bare, ahead-open, needs)
@@ -208,7 +208,7 @@ in-tag-first t words = rw (t .same-tag)
 
 module _ (text : List ℕ) (at : ℕ) (words : Bool) where
   pub first-past : length text ≤ at → Stray ≡ first-ahead words text at
-  unfolding first-ahead first-by tag-at
+  unfolding first-ahead first-ahead-by tag-at
   first-past h = rw (at-end text at h)
 
   pub first-behind : at < length text → {r : Ahead} → r ≡ ahead-in-tag words text (at + 1) → r ≡ first-ahead words text at

@@ -30,7 +30,7 @@ use Rattle.nodes.specs.Scan.{to-tag, past-tag, tag-at, scan-by, scan}
 use Rattle.nodes.specs.Laws.Scanned.{to-tag-tail, past-tag-less, Less, tag-less, scan-step}
 use Rattle.nodes.specs.Scan.{leave-at, passed, skip-at}
 use Rattle.nodes.specs.Laws.Skipping.{tag-here, no-text, no-text-comment, no-text-data, no-text-element, scan-element, skip-element}
-use Rattle.nodes.specs.Children.{kid-then, kid-by, kid-at, first, first-by}
+use Rattle.nodes.specs.Children.{kid-then, kid-by, kid-at, firstChild, first-by}
 use Rattle.nodes.specs.Laws.Children.{kid-step, left}
 use Rattle.nodes.specs.ElementEnd.{Behind}
 use Rattle.nodes.specs.TextBytes.{outside, Move, referring, past, bare-char, step-by, step, say, saysFrom}
@@ -303,14 +303,14 @@ module _ (text : List ℕ) (words : Bool) where
   facing i = faces (suc (length (drop i text))) (drop i text) (omega arith) (tail-of text i)
 
   -- and from the start of an element's contents
-  pub facing-first : (at : ℕ) → Facing text words (all blank (text-of text at)) (skip-at (drop at text)) (first text at)
+  pub facing-first : (at : ℕ) → Facing text words (all blank (text-of text at)) (skip-at (drop at text)) (firstChild text at)
       (first-ahead words text at)
-  unfolding first first-ahead skip-at text-of inside inside-by text-from passed bind first-by Ahead-of.first-by all
+  unfolding firstChild first-ahead skip-at text-of inside inside-by text-from passed bind first-by Ahead-of.first-ahead-by all
   facing-first at = go (tag-at (drop at text)) (tag-less (drop at text))
     where
       go : (m : Read Bool) → Ok (Less (drop at text)) m
           → Facing text words (all blank (text-from text (inside-by (length text) m))) (bind m (λ wide r. passed wide r))
-          (first-by (length text) m) (Ahead-of.first-by words (length text) m)
+          (first-by (length text) m) (Ahead-of.first-ahead-by words (length text) m)
       go fail h = stray (λ r z. clash (cc))
       go (got true r) (good h) =
           let u : Tail text r = tail-more (h .front) r (h .whole) (tail-of text at) in

@@ -14,7 +14,7 @@ use Rattle.grammar.specs.Read.{Read}
 use Rattle.nodes.specs.Places.{Stands, the}
 use Rattle.nodes.specs.Scan.{skip-at, leave-at}
 use Rattle.nodes.specs.Laws.Skipping.{skip-element}
-use Rattle.nodes.specs.Children.{first, next}
+use Rattle.nodes.specs.Children.{firstChild, next}
 use Rattle.nodes.specs.Laws.Children.{left, Siblings, no-more, one-more, children}
 use Rattle.nodes.specs.ElementEnd.{Behind}
 use Rattle.nodes.specs.Laws.ElementEnd.{next-behind}
@@ -37,7 +37,7 @@ row-few no-more = omega arith
 row-few (one-more st f r) = omega (arith, row-few r)
 
 pub children-few : {text : List ℕ} {at : ℕ} → Stands text at → length (elements (contentsOf (the text at))) ≤ length text
-children-few {text} {at} st = omega (arith, row-few (children st), left-fits text (first text at))
+children-few {text} {at} st = omega (arith, row-few (children st), left-fits text (firstChild text at))
 
 -- ---- By the first child and the next.
 
@@ -47,7 +47,7 @@ pub record Along (text : List ℕ) (P : List Element → Type 0) (kid : Kid) : T
   pub ahead : P (kids text kid)
 
 module _ {text : List ℕ} {P : List Element → Type 0} where
-  pub along-start : {at : ℕ} → Stands text at → P (elements (contentsOf (the text at))) → {kid : Kid} → kid ≡ first text at
+  pub along-start : {at : ℕ} → Stands text at → P (elements (contentsOf (the text at))) → {kid : Kid} → kid ≡ firstChild text at
       → Along text P kid
   along-start st p e = rw e (record { walk = walk-children st; ahead = rw (kids-children st) p })
 
@@ -91,7 +91,7 @@ module _ {text : List ℕ} {at : ℕ} {words : Bool} {P : List Element → Type 
   ahead-start st p e =
       rw e (record {
         stands = st;
-        kid = first text at;
+        kid = firstChild text at;
         blanks = all blank (text-of text at);
         leaves = skip-at (drop at text);
         facing = facing-first text words at;

@@ -9,7 +9,7 @@ use lib.ListN.{length, drop, length-drop}
 use Rattle.lists.specs.Laws.Booleans.{clash}
 use Rattle.grammar.specs.Read.{Read, fail, got, bind, byte}
 use Rattle.grammar.specs.Laws.Read.{ok-got}
-use Rattle.grammar.specs.Parser.{name-at, gap-at, equals-at, value-at, ends, closing, same}
+use Rattle.grammar.specs.Parser.{name-at, gap-at, equals-at, value-at, ends, closing, sameBytes}
 use Rattle.grammar.specs.Laws.Sound.{attribute-sound}
 use Rattle.steps.specs.Step.{stepped, Went}
 use Rattle.steps.specs.Laws.Step.{at-end, fell, went}
@@ -119,7 +119,7 @@ none-in : (word : List ℕ) → place-in word [] ≡ Nothing
 unfolding place-in
 none-in word = refl
 
-one-in : (word n : List ℕ) (v : ℕ) (l : List node-keys.Key) → place-in word (key n v ∷ l) ≡ pick (same n word) (At v) (place-in word l)
+one-in : (word n : List ℕ) (v : ℕ) (l : List node-keys.Key) → place-in word (key n v ∷ l) ≡ pick (sameBytes n word) (At v) (place-in word l)
 unfolding place-in
 one-in word n v l = refl
 
@@ -131,7 +131,7 @@ module _ (text word : List ℕ) (at i : ℕ) (go : Placing text word at i) {b : 
     pub placing-none : k ≡ key-is.No → Nothing ≡ place-in word (keys-at (length text) (drop at text))
     placing-none z = sym (go .same-place ∙ rw (keys-none text i eb on ek z) (none-in word))
 
-    module _ {from to end : ℕ} (z : k ≡ key-is.Is from to end) {t : Bool} (et : t ≡ same (part from to text) word) where
+    module _ {from to end : ℕ} (z : k ≡ key-is.Is from to end) {t : Bool} (et : t ≡ sameBytes (part from to text) word) where
       pub placing-hit : t ≡ true → At end ≡ place-in word (keys-at (length text) (drop at text))
       placing-hit h = sym (go .same-place ∙ rw (keys-more text i eb on ek z, one-in word, sym et ∙ h))
 

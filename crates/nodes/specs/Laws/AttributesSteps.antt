@@ -17,7 +17,7 @@ use Rattle.grammar.specs.Look.{attributesOf, valueIn, is}
 use Rattle.grammar.specs.Read.{Read, fail, got, Reader, bind, _>>=_, _>>_, test, all-of, many-step}
 use Rattle.grammar.specs.Laws.Read.{Ok, good, ok-got, bind-ok}
 use Rattle.grammar.specs.Laws.Read.{test-sound}
-use Rattle.grammar.specs.Parser.{name-at, gap-at, equals-at, value-at, attribute-at, attributes-at, ends, closing, same, distinct}
+use Rattle.grammar.specs.Parser.{name-at, gap-at, equals-at, value-at, attribute-at, attributes-at, ends, closing, sameBytes, distinct}
 use Rattle.grammar.specs.Laws.Sound.{attribute-sound, gap-sound, name-sound, equals-sound, value-sound}
 use Rattle.grammar.specs.Laws.Tokens.{attribute-long}
 use Rattle.grammar.specs.Laws.Unfuelled.{less, no-more-than, all-of-step}
@@ -211,7 +211,7 @@ keys-law {text} {at} st =
 pub lookup-is : (s : String) (l : List Attribute) → lookup (ascii s) l ≡ valueIn s l
 unfolding lookup valueIn is
 lookup-is s [] = refl
-lookup-is s (attribute n v ∷ l) = ap (λ o. cond (same n (ascii s)) (some v) o) (lookup-is s l)
+lookup-is s (attribute n v ∷ l) = ap (λ o. cond (sameBytes n (ascii s)) (some v) o) (lookup-is s l)
 
 -- what was found, and what the document has
 pub data Held (text : List ℕ) : Found → Option (List ℕ) → Type 0 where
@@ -221,7 +221,7 @@ pub data Held (text : List ℕ) : Found → Option (List ℕ) → Type 0 where
 held-place : {text : List ℕ} (w : List ℕ) {ks : List Key} {l : List Attribute} → Hold text ks l → Held text (place-in w ks) (lookup w l)
 unfolding place-in lookup
 held-place w no-key = missing
-held-place {text} w (one-key {n} {v} {x} {ks} {l} k h) = go (same n w) (held-place w h)
+held-place {text} w (one-key {n} {v} {x} {ks} {l} k h) = go (sameBytes n w) (held-place w h)
   where
     go : (t : Bool) → Held text (place-in w ks) (lookup w l) → Held text (pick t (At v) (place-in w ks)) (cond t (some x) (lookup w l))
     go true r = held k

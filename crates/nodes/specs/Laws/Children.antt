@@ -27,7 +27,7 @@ use Rattle.nodes.specs.Laws.Skipping.{tag-filled}
 use Rattle.nodes.specs.Laws.Skipping.{skip-element}
 use Rattle.nodes.specs.declared.Kid.{Kid}
 use Rattle.nodes.specs.declared.Kid.the-variants.{Child, Done}
-use Rattle.nodes.specs.Children.{kid-then, kid-by, kid-within, kid-at, first-by, first, next}
+use Rattle.nodes.specs.Children.{kid-then, kid-by, kid-within, kid-at, first-by, firstChild, next}
 use mathlib.Core.Path.{ap}
 use borrow.Author.Needs.{needs}
 use Rattle.lists.specs.Laws.Booleans.{clash}
@@ -38,7 +38,7 @@ use Rattle.steps.specs.Laws.Step.{fell, Tails, went}
 use Rattle.steps.specs.declared.Step.{Step}
 use Rattle.steps.specs.declared.Step.the-variants.{To, No}
 use Rattle.nodes.specs.Laws.Scanned.{skip-less, less-tails}
-use Rattle.nodes.specs.ScanSteps.{tagged}
+use Rattle.nodes.specs.ScanSteps.{tagTold}
 use Rattle.steps.specs.Prologue.{preamble-at}
 use Rattle.nodes.specs.Root.{root, root-by}
 use Rattle.steps.specs.Pieces.{front}
@@ -220,8 +220,8 @@ tail-behind {text} p t =
     tail-read (span-tails blank (p .behind-all)) (p .blank-so) t₃
 
 -- THE LAW OF CHILDREN: where an element stands, the row from its first child on is its children
-pub children : {text : List ℕ} {at : ℕ} → Stands text at → Siblings text (first text at) (elements (contentsOf (the text at)))
-unfolding first
+pub children : {text : List ℕ} {at : ℕ} → Stands text at → Siblings text (firstChild text at) (elements (contentsOf (the text at)))
+unfolding firstChild
 children {text} {at} st =
     let p = spelled (drop at text) (the text at) (st .rest) (st .reads) in
     rw (tag-read p) (behind-row text (p .name) (tail-behind p (tail-of text at)) (p .ending))
@@ -233,8 +233,8 @@ first-left text s fail h k = k
 first-left text s (got true r) (good h) k = omega (arith, kid-left text r, h .falls)
 first-left text s (got false r) h k = k
 
-pub first-falls : {text : List ℕ} {at : ℕ} → Stands text at → left text (first text at) < left text (Child at)
-unfolding first
+pub first-falls : {text : List ℕ} {at : ℕ} → Stands text at → left text (firstChild text at) < left text (Child at)
+unfolding firstChild
 first-falls {text} {at} st =
     let h = st .here in
     let n : length (drop at text) ≡ length text - at = length-drop at text in
@@ -332,17 +332,17 @@ pub ruleset going = (
   needs,
 )
 
-module _ (text : List ℕ) (at : ℕ) {x : Tag} (k : x ≡ tagged (length text) (tag-at (drop at text))) where
-  pub first-none : x ≡ tag-is.No → Done ≡ first text at
-  unfolding first first-by
+module _ (text : List ℕ) (at : ℕ) {x : Tag} (k : x ≡ tagTold (length text) (tag-at (drop at text))) where
+  pub first-none : x ≡ tag-is.No → Done ≡ firstChild text at
+  unfolding firstChild first-by
   first-none z = rw (no-tag text at k z)
 
-  pub first-bare : {j : ℕ} → x ≡ tag-is.Bare j → Done ≡ first text at
-  unfolding first first-by
+  pub first-bare : {j : ℕ} → x ≡ tag-is.Bare j → Done ≡ firstChild text at
+  unfolding firstChild first-by
   first-bare z = rw (bare-at text at k z .reads)
 
-  pub first-open : {j : ℕ} → x ≡ tag-is.Open j → {r : Kid} → r ≡ kid-at (length text) (drop j text) → r ≡ first text at
-  unfolding first first-by
+  pub first-open : {j : ℕ} → x ≡ tag-is.Open j → {r : Kid} → r ≡ kid-at (length text) (drop j text) → r ≡ firstChild text at
+  unfolding firstChild first-by
   first-open z w = w ∙ sym (rw (opens-at text at k z .reads))
 
 module _ (text : List ℕ) (at : ℕ) {x : Step} (k : x ≡ stepped (length text) (skip-at (drop at text))) where

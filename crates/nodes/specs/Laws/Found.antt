@@ -7,7 +7,7 @@ use Prim.Native.Nat.{ℕ}
 use Prim.Native.String.{String}
 use Rattle.grammar.specs.Bytes.{ascii}
 use Rattle.grammar.specs.Look.{attributesOf, valueIn, orEmpty, attr, has, is}
-use Rattle.grammar.specs.Parser.{same}
+use Rattle.grammar.specs.Parser.{sameBytes}
 use Rattle.nodes.specs.Places.{the, Stands}
 use Rattle.nodes.specs.Attributes.{place, lookup}
 use Rattle.nodes.specs.Laws.AttributesSteps.{lookup-is, Held, missing, held, attribute-law}
@@ -36,9 +36,9 @@ unfolding value-at-name attr
 attr-law s st = ap orEmpty (valueIn-law s st)
 
 pub has-law : {text : List ℕ} {at : ℕ} (s v : String) → Stands text at
-    → same (value-at-name text at (ascii s)) (ascii v) ≡ has s v (the text at)
+    → sameBytes (value-at-name text at (ascii s)) (ascii v) ≡ has s v (the text at)
 unfolding has is
-has-law s v st = ap (λ x. same x (ascii v)) (attr-law s st)
+has-law s v st = ap (λ x. sameBytes x (ascii v)) (attr-law s st)
 
 -- by the answer of the program
 module _ (text : List ℕ) (at : ℕ) (w : List ℕ) {f : Found} (e : f ≡ place text at w) where

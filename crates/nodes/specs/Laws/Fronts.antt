@@ -10,7 +10,7 @@ use borrow.Author.Tests.{eq-eqb, ne-eqb, eqb-true, le-leb, lt-leb, leb-true}
 use lib.ListN.{length, drop, getD, List·getD-eq-default}
 use Rattle.lists.specs.Laws.Booleans.{clash}
 use Rattle.grammar.specs.Bytes.{begins}
-use Rattle.grammar.specs.Parser.{same}
+use Rattle.grammar.specs.Parser.{sameBytes}
 use Rattle.steps.specs.Laws.Step.{at-byte, at-end}
 use Rattle.nodes.specs.Places.{pick}
 use Rattle.nodes.specs.Values.{decoded-at, value-there, tells}
@@ -44,8 +44,8 @@ value-behind text v = value-begins text v ∙ ap (tells (getD text v 0)) (go (le
     go false e = refl
 
 pub value-rest : (text : List ℕ) (v : ℕ) (word : List ℕ) {q : ℕ} → q ≡ getD text v 0 → {i : ℕ} → i ≡ behind-quote text v → {r : Bool}
-    → r ≡ same (tells q (drop i text)) word → r ≡ same (value-there text v) word
-value-rest text v word e f h = h ∙ rw (e, f) (ap (λ x. same x word) (sym (value-behind text v)))
+    → r ≡ sameBytes (tells q (drop i text)) word → r ≡ sameBytes (value-there text v) word
+value-rest text v word e f h = h ∙ rw (e, f) (ap (λ x. sameBytes x word) (sym (value-behind text v)))
 
 pub ruleset valued = (quote-none, quote-past, quote-inside, value-rest, needs)
 

@@ -8,7 +8,7 @@ use lib.ListN.{drop}
 use Rattle.grammar.specs.Bytes.{ascii}
 use Rattle.grammar.specs.Document.{Attribute, Element}
 use Rattle.grammar.specs.Look.{nameOf, attributesOf, is}
-use Rattle.grammar.specs.Parser.{name-at, same}
+use Rattle.grammar.specs.Parser.{name-at, sameBytes}
 use Rattle.nodes.specs.Places.{the, Stands}
 use Rattle.nodes.specs.Laws.ReadSteps.{Ending, bare, filled, spelled}
 use Rattle.nodes.specs.Names.{named-in, named-by, named}
@@ -41,7 +41,7 @@ ending-attributes (bare _ q) = rw q
 ending-attributes (filled _ _ _ q) = rw q
 
 -- THE LAW OF NAMES
-pub name-law : {text : List ℕ} {at : ℕ} (w : List ℕ) → Stands text at → named text at w ≡ same (nameOf (the text at)) w
+pub name-law : {text : List ℕ} {at : ℕ} (w : List ℕ) → Stands text at → named text at w ≡ sameBytes (nameOf (the text at)) w
 unfolding named named-by named-in
 name-law {text} {at} w st =
     let p = spelled (drop at text) (the text at) (st .rest) (st .reads) in
@@ -82,9 +82,9 @@ module _ (text : List ℕ) (at : ℕ) (word : List ℕ) where
       read : Went name-at text (at + 1) e
       read = went name-at text (at + 1) e (name-tails (drop (at + 1) text)) (sym z ∙ k)
 
-      pub name-read : {r : Bool} → r ≡ same (part (at + 1) e text) word → r ≡ named text at word
+      pub name-read : {r : Bool} → r ≡ sameBytes (part (at + 1) e text) word → r ≡ named text at word
       unfolding named-in
-      name-read w = w ∙ sym (opened ∙ rw (read .reads) (ap (λ n. same n word) (sym (part-is read (omega arith)))))
+      name-read w = w ∙ sym (opened ∙ rw (read .reads) (ap (λ n. sameBytes n word) (sym (part-is read (omega arith)))))
 
 pub name-ahead : (text : List ℕ) (at : ℕ) {x : Step} {e : ℕ} → at < length text
     → x ≡ stepped (length text) (name-at (drop (at + 1) text)) → x ≡ To e → at + 1 ≤ e

@@ -16,7 +16,7 @@ use Rattle.steps.specs.declared.Step.the-variants.{To, No}
 use Rattle.steps.specs.Blocks.{Through, other}
 use Rattle.steps.specs.Laws.Blocks.{through-passed}
 use Rattle.nodes.specs.Scan.{to-tag, Quoted, past-tag, quoting, finishes, finish, tag-from, tag-at, InTag}
-use Rattle.nodes.specs.ScanSteps.{tagged}
+use Rattle.nodes.specs.ScanSteps.{tagTold}
 use Rattle.steps.specs.Pieces.{front}
 use Rattle.steps.specs.Laws.Pieces.{front-is}
 use Rattle.steps.specs.declared.pieces.Front.{Front}
@@ -104,25 +104,25 @@ module _ (text : List ℕ) (at : ℕ) (here : at < length text) where
   place : (k : ℕ) → k ≤ length text → length text - length (drop k text) ≡ k
   place k h = simp length-drop (omega arith)
 
-  pub finish-open : getD text at 0 ≡ 62 → tag-is.Open (at + 1) ≡ tagged (length text) (finish (getD text at 0) (drop (at + 1) text))
-  unfolding finish tagged
+  pub finish-open : getD text at 0 ≡ 62 → tag-is.Open (at + 1) ≡ tagTold (length text) (finish (getD text at 0) (drop (at + 1) text))
+  unfolding finish tagTold
   finish-open e = rw (eq-eqb _ _ e, place (at + 1) (omega arith))
 
   pub finish-short : (getD text at 0 ≡ 62 → ⊥) → length text ≤ at + 1
-      → tag-is.No ≡ tagged (length text) (finish (getD text at 0) (drop (at + 1) text))
-  unfolding finish tagged bind mark
+      → tag-is.No ≡ tagTold (length text) (finish (getD text at 0) (drop (at + 1) text))
+  unfolding finish tagTold bind mark
   finish-short f h = rw (ne-eqb _ _ f, at-end text (at + 1) h)
 
   pub finish-bare : (getD text at 0 ≡ 62 → ⊥) → at + 1 < length text → getD text (at + 1) 0 ≡ 62
-      → tag-is.Bare (at + 2) ≡ tagged (length text) (finish (getD text at 0) (drop (at + 1) text))
-  unfolding finish tagged bind mark test
+      → tag-is.Bare (at + 2) ≡ tagTold (length text) (finish (getD text at 0) (drop (at + 1) text))
+  unfolding finish tagTold bind mark test
   finish-bare f h e =
       let z : at + 1 + 1 ≡ at + 2 = omega arith in
       rw (ne-eqb _ _ f, at-byte text (at + 1) h, eq-eqb _ _ e, z, place (at + 2) (omega arith))
 
   pub finish-bad : (getD text at 0 ≡ 62 → ⊥) → at + 1 < length text → (getD text (at + 1) 0 ≡ 62 → ⊥)
-      → tag-is.No ≡ tagged (length text) (finish (getD text at 0) (drop (at + 1) text))
-  unfolding finish tagged bind mark test
+      → tag-is.No ≡ tagTold (length text) (finish (getD text at 0) (drop (at + 1) text))
+  unfolding finish tagTold bind mark test
   finish-bad f h e = rw (ne-eqb _ _ f, at-byte text (at + 1) h, ne-eqb _ _ e)
 
 pub ruleset finishing = (finish-open, finish-short, finish-bare, finish-bad, needs)
@@ -134,13 +134,13 @@ pub tag-start : (text : List ℕ) (at : ℕ) → Tagging text at 0 at
 tag-start text at = record { same-rest = refl }
 
 module _ (text : List ℕ) (at q i : ℕ) (go : Tagging text at q i) where
-  pub tag-none : length text ≤ i → tag-is.No ≡ tagged (length text) (tag-from 0 (drop at text))
-  unfolding tag-from tagged
+  pub tag-none : length text ≤ i → tag-is.No ≡ tagTold (length text) (tag-from 0 (drop at text))
+  unfolding tag-from tagTold
   tag-none h = rw (go .same-rest, at-end text i h)
 
   module _ (h : i < length text) {t : Bool} (e : t ≡ finishes q (getD text i 0)) where
-    pub tag-stops : t ≡ true → {r : Tag} → r ≡ tagged (length text) (finish (getD text i 0) (drop (i + 1) text))
-        → r ≡ tagged (length text) (tag-from 0 (drop at text))
+    pub tag-stops : t ≡ true → {r : Tag} → r ≡ tagTold (length text) (finish (getD text i 0) (drop (i + 1) text))
+        → r ≡ tagTold (length text) (tag-from 0 (drop at text))
     unfolding tag-from
     tag-stops y z = z ∙ sym (rw (go .same-rest, at-byte text i h, sym e ∙ y))
 
@@ -170,16 +170,16 @@ tag-jumps t k = record { same-rest = t .same-rest ∙ k .same }
 
 -- THE WHOLE TAG
 module _ (text : List ℕ) (at : ℕ) where
-  pub tag-past : length text ≤ at → tag-is.No ≡ tagged (length text) (tag-at (drop at text))
-  unfolding tag-at tagged
+  pub tag-past : length text ≤ at → tag-is.No ≡ tagTold (length text) (tag-at (drop at text))
+  unfolding tag-at tagTold
   tag-past h = rw (at-end text at h)
 
   pub tag-opens : at < length text → InTag text at (at + 1)
   unfolding tag-at
   tag-opens h = record { same-tag = rw (at-byte text at h) }
 
-  pub tag-whole : at < length text → {r : Tag} → r ≡ tagged (length text) (tag-from 0 (drop (at + 1) text))
-      → r ≡ tagged (length text) (tag-at (drop at text))
+  pub tag-whole : at < length text → {r : Tag} → r ≡ tagTold (length text) (tag-from 0 (drop (at + 1) text))
+      → r ≡ tagTold (length text) (tag-at (drop at text))
   tag-whole h e = rw (tag-opens h .same-tag) e
 
 pub ruleset whole-tag = (tag-past, tag-whole, needs)

@@ -7,7 +7,7 @@ use mathlib.Core.Bool.{Bool, true, false, not, _&&_, _||_}
 use lib.Dec.{eqb}
 use borrow.Author.Tests.{eq-eqb, ne-eqb, not-true}
 use Rattle.lists.specs.Laws.Booleans.{or-elim, and-right, or-left, clash, not-so}
-use Rattle.grammar.specs.Bytes.{Row, none-more, and-more, parted}
+use Rattle.grammar.specs.Bytes.{SequenceUnless, none-more, and-more, parted}
 use Rattle.grammar.specs.Bytes.{blank, letter, nameStart, nameByte, quote, special, Each, no-byte, a-byte, Sequence, no-more, one-more}
 use Rattle.grammar.specs.Characters.{Character, utf8-1, utf8-2, utf8-3, utf8-4, continues, lead3, lead4}
 use Rattle.grammar.specs.Document.{Attribute}
@@ -179,7 +179,8 @@ module _ (q : ℕ) (h : quote q ≡ true) where
   quoted-free no-byte r = refl
   quoted-free (a-byte {a} {w} e k) r = quoted-on a (w ++ r) e ∙ quoted-free k r
 
-  values-free : {bs : List (List ℕ)} {w : List ℕ} → Row (ValueCharacter q) parted bs w → (r : List ℕ) → tag-from q (w ++ r) ≡ tag-from q r
+  values-free : {bs : List (List ℕ)} {w : List ℕ} → SequenceUnless (ValueCharacter q) parted bs w → (r : List ℕ)
+      → tag-from q (w ++ r) ≡ tag-from q r
   values-free none-more r = refl
   values-free (and-more {w = w} {s} k _ t) r = ap (tag-from q) (append-assoc w s r) ∙ quoted-free (value-other q h k) (s ++ r)
       ∙ values-free t r

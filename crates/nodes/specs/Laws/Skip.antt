@@ -21,7 +21,7 @@ use Rattle.nodes.specs.Scan.{to-tag, past-tag, tag-at, scan, skip-at, pa
 use Rattle.nodes.specs.Laws.Scanned.{to-tag-tail, to-tag-short, past-tag-less, tag-less}
 use Rattle.nodes.specs.Scan.{leave-at}
 use Rattle.nodes.specs.Laws.Scanned.{scan-tails, Less, less-tails, less-falls}
-use Rattle.nodes.specs.ScanSteps.{tagged, Mark, closes, opens, flat, none, flat-of, mark-of, sign-by, sign, signed}
+use Rattle.nodes.specs.ScanSteps.{tagTold, Mark, closes, opens, flat, none, flat-of, mark-of, sign-by, sign, signTold}
 use Rattle.nodes.specs.Laws.ScanSteps.{go-on, scan-on}
 use Rattle.nodes.specs.declared.scan.Tag.{Tag}
 use Rattle.nodes.specs.declared.scan.Tag.the-variants as tag-is
@@ -93,23 +93,23 @@ module _ (text s : List ℕ) (t : Tail text s) where
       let l = lies u e in
       record { inside = l .inside; is = ap made (l .rest); falls = omega (arith, u .fits, k .falls) }
 
-  told-open : (m : Mark) {j : ℕ} → Leaves s m → signed (length text) m ≡ sign-is.Open j → Told text s m j opens
-  unfolding signed
+  told-open : (m : Mark) {j : ℕ} → Leaves s m → signTold (length text) m ≡ sign-is.Open j → Told text s m j opens
+  unfolding signTold
   told-open (closes r) k e = clash (cc)
   told-open (opens r) {j} (leaves-open k) e = told-of r j opens k (let q : length text - length r ≡ j = cc in q)
   told-open (flat r) k e = clash (cc)
   told-open none k e = clash (cc)
 
-  told-flat : (m : Mark) {j : ℕ} → Leaves s m → signed (length text) m ≡ sign-is.Flat j → Told text s m j flat
-  unfolding signed
+  told-flat : (m : Mark) {j : ℕ} → Leaves s m → signTold (length text) m ≡ sign-is.Flat j → Told text s m j flat
+  unfolding signTold
   told-flat (closes r) k e = clash (cc)
   told-flat (opens r) k e = clash (cc)
   told-flat (flat r) {j} (leaves-flat k) e = told-of r j flat k (let q : length text - length r ≡ j = cc in q)
   told-flat none k e = clash (cc)
 
-  told-close : (m : Mark) {j : ℕ} → Leaves s m → signed (length text) m ≡ sign-is.Close j → (m ≡ closes (drop j text))
+  told-close : (m : Mark) {j : ℕ} → Leaves s m → signTold (length text) m ≡ sign-is.Close j → (m ≡ closes (drop j text))
       × (length text - j ≤ length s)
-  unfolding signed
+  unfolding signTold
   told-close (closes _) {j} leaves-close e =
       let q : length text - length s ≡ j = cc in
       let l = lies t q in
@@ -118,8 +118,8 @@ module _ (text s : List ℕ) (t : Tail text s) where
   told-close (flat r) k e = clash (cc)
   told-close none k e = clash (cc)
 
-  told-none : (m : Mark) → signed (length text) m ≡ sign-is.No → m ≡ none
-  unfolding signed
+  told-none : (m : Mark) → signTold (length text) m ≡ sign-is.No → m ≡ none
+  unfolding signTold
   told-none (closes r) e = clash (cc)
   told-none (opens r) e = clash (cc)
   told-none (flat r) e = clash (cc)
@@ -134,7 +134,7 @@ pub scan-start : (text : List ℕ) (at : ℕ) → Scanning text at 0 at
 scan-start text at = record { same-end = refl; small = omega arith }
 
 module _ (text : List ℕ) (at depth i : ℕ) (go : Scanning text at depth i) {t : ℕ}
-    (et : t ≡ length text - length (to-tag (drop i text))) {g : Sign} (eg : g ≡ signed (length text) (sign (drop t text))) where
+    (et : t ≡ length text - length (to-tag (drop i text))) {g : Sign} (eg : g ≡ signTold (length text) (sign (drop t text))) where
   abbrev s : List ℕ
   s = drop t text
 
@@ -180,10 +180,10 @@ module _ (text : List ℕ) (at depth i : ℕ) (go : Scanning text at depth i) {t
     closed = told-close text s (tail-of text t) (sign s) (sign-leaves s) (sym eg ∙ z)
 
     inside : j ≤ length text
-    unfolding signed
+    unfolding signTold
     inside = go-in (sign s) (sym eg ∙ z)
       where
-        go-in : (m : Mark) → signed (length text) m ≡ sign-is.Close j → j ≤ length text
+        go-in : (m : Mark) → signTold (length text) m ≡ sign-is.Close j → j ≤ length text
         go-in (closes r) e = let q : length text - length r ≡ j = cc in omega arith
         go-in (opens r) e = clash (cc)
         go-in (flat r) e = clash (cc)
@@ -250,25 +250,25 @@ module _ (text : List ℕ) (at : ℕ) where
       let u = lies (tail-more (l .front) r (l .whole) (tail-of text at)) w in
       record { inside = u .inside; reads = ap (got wide) (u .rest) }
 
-  pub opens-so : (m : Read Bool) → Ok (Less (drop at text)) m → {j : ℕ} → tagged (length text) m ≡ tag-is.Open j → Opens text m j true
-  unfolding tagged
+  pub opens-so : (m : Read Bool) → Ok (Less (drop at text)) m → {j : ℕ} → tagTold (length text) m ≡ tag-is.Open j → Opens text m j true
+  unfolding tagTold
   opens-so fail h q = clash (cc)
   opens-so (got true r) (good h) {j} q = read-so r h (let w : length text - length r ≡ j = cc in w)
   opens-so (got false r) h q = clash (cc)
 
-  pub bare-so : (m : Read Bool) → Ok (Less (drop at text)) m → {j : ℕ} → tagged (length text) m ≡ tag-is.Bare j → Opens text m j false
-  unfolding tagged
+  pub bare-so : (m : Read Bool) → Ok (Less (drop at text)) m → {j : ℕ} → tagTold (length text) m ≡ tag-is.Bare j → Opens text m j false
+  unfolding tagTold
   bare-so fail h q = clash (cc)
   bare-so (got true r) h q = clash (cc)
   bare-so (got false r) (good h) {j} q = read-so r h (let w : length text - length r ≡ j = cc in w)
 
-pub none-so : (n : ℕ) (m : Read Bool) → tagged n m ≡ tag-is.No → m ≡ fail
-unfolding tagged
+pub none-so : (n : ℕ) (m : Read Bool) → tagTold n m ≡ tag-is.No → m ≡ fail
+unfolding tagTold
 none-so n fail q = refl
 none-so n (got true r) q = clash (cc)
 none-so n (got false r) q = clash (cc)
 
-module _ (text : List ℕ) (at : ℕ) {x : Tag} (k : x ≡ tagged (length text) (tag-at (drop at text))) where
+module _ (text : List ℕ) (at : ℕ) {x : Tag} (k : x ≡ tagTold (length text) (tag-at (drop at text))) where
   pub opens-at : {j : ℕ} → x ≡ tag-is.Open j → Opens text (tag-at (drop at text)) j true
   opens-at z = opens-so text at (tag-at (drop at text)) (tag-less (drop at text)) (sym k ∙ z)
 

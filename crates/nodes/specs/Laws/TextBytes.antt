@@ -8,7 +8,7 @@ use lib.Dec.{eqb}
 use borrow.Author.Tests.{ne-eqb}
 use lib.ListN.{length, length-append}
 use Rattle.lists.specs.Laws.Booleans.{or-right, or-left}
-use Rattle.grammar.specs.Bytes.{ascii, special, parted, closed, begins, Row, none-more, and-more}
+use Rattle.grammar.specs.Bytes.{ascii, special, parted, closed, begins, SequenceUnless, none-more, and-more}
 use Rattle.grammar.specs.Characters.{Character, utf8-1, utf8-2, utf8-3, utf8-4}
 use Rattle.grammar.specs.Document.{Element, Contents, nothing, child, run, merged, together}
 use Rattle.grammar.specs.Grammar
@@ -199,7 +199,7 @@ data-character-says (DataCharacter.line-end {w} k) s e =
     let z = line-end-returns k s (or-left (parted w s) _ e) in
     ap saysIn (z .whole) ∙ in-return (z .behind) ∙ ap (λ r. 10 ∷ saysIn r) (z .leaves)
 
-row-says : {bs : List (List ℕ)} {w : List ℕ} → Row DataCharacter closed bs w → (r : List ℕ)
+row-says : {bs : List (List ℕ)} {w : List ℕ} → SequenceUnless DataCharacter closed bs w → (r : List ℕ)
     → saysIn (w ++ (ascii "]]>" ++ r)) ≡ together bs ++ says r
 row-says none-more r = in-end r
 row-says (and-more {a = b} {l} {w} {s} k e t) r =

@@ -30,14 +30,15 @@ use Rattle.nodes.specs.Laws.TextBytes.{says, says-from, Shorter, skip-sh
 use Rattle.nodes.specs.declared.Found.the-variants.{At, Nothing}
 use Rattle.nodes.specs.declared.Text.{Text}
 use Rattle.nodes.specs.declared.Text.the-variants.{Stop, Skip, Letter}
-use Rattle.nodes.specs.Texts.{inside-by, inside, rest-by, rest-at, place-of, saysAt, left, text-from, text-of, as-text, text-step}
+use Rattle.nodes.specs.Texts.{inside-by, inside, rest-from-by, rest-from, place-of, saysAt, left, text-from, text-of, as-text}
+use Rattle.nodes.specs.Texts.{text-step}
 
-pub rest-outside : (text : List ℕ) (i : ℕ) → i ≤ length text → rest-at text i ≡ outside (drop i text)
-unfolding rest-at rest-by
+pub rest-outside : (text : List ℕ) (i : ℕ) → i ≤ length text → rest-from text i ≡ outside (drop i text)
+unfolding rest-from rest-from-by
 rest-outside text i h = rw (le-leb i (length text) h)
 
-pub rest-within : (text : List ℕ) (i : ℕ) → length text < i → rest-at text i ≡ within (drop (i - suc (length text)) text)
-unfolding rest-at rest-by
+pub rest-within : (text : List ℕ) (i : ℕ) → length text < i → rest-from text i ≡ within (drop (i - suc (length text)) text)
+unfolding rest-from rest-from-by
 rest-within text i h = rw (lt-leb i (length text) h)
 
 -- up to the end of the text a place is a byte of it
@@ -49,11 +50,11 @@ pub left-outside : (text : List ℕ) (i : ℕ) → i ≤ length text → left te
 unfolding left
 left-outside text i h = rw (rest-outside text i h) (length-drop i text)
 
-rest-tail : (text : List ℕ) (i : ℕ) → Tail text (bytes (rest-at text i))
-unfolding rest-at rest-by
+rest-tail : (text : List ℕ) (i : ℕ) → Tail text (bytes (rest-from text i))
+unfolding rest-from rest-from-by
 rest-tail text i = go (leb i (length text))
   where
-    go : (t : Bool) → Tail text (bytes (rest-by t text i))
+    go : (t : Bool) → Tail text (bytes (rest-from-by t text i))
     go true = tail-of text i
     go false = tail-of text (i - suc (length text))
 
@@ -62,7 +63,7 @@ unfolding left
 left-most text i = rest-tail text i .fits
 
 -- a rest of the text is what stands at its place
-rest-place : (text : List ℕ) (x : Rest) → Tail text (bytes x) → rest-at text (place-of (length text) x) ≡ x
+rest-place : (text : List ℕ) (x : Rest) → Tail text (bytes x) → rest-from text (place-of (length text) x) ≡ x
 unfolding place-of
 rest-place text (outside r) t = rest-outside text (length text - length r) (omega arith) ∙ ap outside (t .stands)
 rest-place text (within r) t =
@@ -148,52 +149,52 @@ steps-by : (text : List ℕ) (i : ℕ) (front : List ℕ) (r : Rest) (j : ℕ) �
     → length (bytes r) < left text i → saysAt text i ≡ front ++ saysFrom r → Steps text i front j
 unfolding saysAt left
 steps-by text i front r j p t s e =
-    let there : rest-at text j ≡ r = rw p at (rest-place text r t) in
+    let there : rest-from text j ≡ r = rw p at (rest-place text r t) in
     record { inside-text = rw p at (place-fits (length text) r); ahead = rw there s; splits = rw there e }
 
 module _ (text : List ℕ) (i : ℕ) where
-  letter-law : (x : Move) → step (rest-at text i) ≡ x → Tailed text x → Shorter (left text i) x → {b j : ℕ}
+  letter-law : (x : Move) → step (rest-from text i) ≡ x → Tailed text x → Shorter (left text i) x → {b j : ℕ}
       → as-text (length text) x ≡ Letter b j → Steps text i (b ∷ []) j
   unfolding as-text say saysAt
   letter-law stop e t s h = clash (cc)
   letter-law (skip r) e t s h = clash (cc)
   letter-law (char c r) e (char-tailed t) (char-short s) {b} {j} h =
       let w : c ≡ b = cc in
-      steps-by text i (b ∷ []) r j (cc) t s (rw (says-from (rest-at text i), e, w))
+      steps-by text i (b ∷ []) r j (cc) t s (rw (says-from (rest-from text i), e, w))
 
-  skip-law : (x : Move) → step (rest-at text i) ≡ x → Tailed text x → Shorter (left text i) x → {j : ℕ}
+  skip-law : (x : Move) → step (rest-from text i) ≡ x → Tailed text x → Shorter (left text i) x → {j : ℕ}
       → as-text (length text) x ≡ Skip j → Steps text i [] j
   unfolding as-text say saysAt
   skip-law stop e t s h = clash (cc)
   skip-law (char c r) e t s h = clash (cc)
   skip-law (skip r) e (skip-tailed t) (skip-short s) {j} h =
-      steps-by text i [] r j (cc) t s (rw (says-from (rest-at text i), e))
+      steps-by text i [] r j (cc) t s (rw (says-from (rest-from text i), e))
 
-  stop-law : (x : Move) → step (rest-at text i) ≡ x → as-text (length text) x ≡ Stop → saysAt text i ≡ []
+  stop-law : (x : Move) → step (rest-from text i) ≡ x → as-text (length text) x ≡ Stop → saysAt text i ≡ []
   unfolding as-text say saysAt
-  stop-law stop e h = rw (says-from (rest-at text i), e)
+  stop-law stop e h = rw (says-from (rest-from text i), e)
   stop-law (skip r) e h = clash (cc)
   stop-law (char b r) e h = clash (cc)
 
-  tailed : Tailed text (step (rest-at text i))
-  tailed = step-tailed text (rest-at text i) (rest-tail text i)
+  tailed : Tailed text (step (rest-from text i))
+  tailed = step-tailed text (rest-from text i) (rest-tail text i)
 
-  shorter : Shorter (left text i) (step (rest-at text i))
+  shorter : Shorter (left text i) (step (rest-from text i))
   unfolding left
-  shorter = step-short (rest-at text i)
+  shorter = step-short (rest-from text i)
 
   module _ {a : Text} (e : a ≡ text-step text i) where
     pub text-letter : {b j : ℕ} → a ≡ Letter b j → Steps text i (b ∷ []) j
     unfolding text-step
-    text-letter z = letter-law (step (rest-at text i)) refl tailed shorter (sym e ∙ z)
+    text-letter z = letter-law (step (rest-from text i)) refl tailed shorter (sym e ∙ z)
 
     pub text-skip : {j : ℕ} → a ≡ Skip j → Steps text i [] j
     unfolding text-step
-    text-skip z = skip-law (step (rest-at text i)) refl tailed shorter (sym e ∙ z)
+    text-skip z = skip-law (step (rest-from text i)) refl tailed shorter (sym e ∙ z)
 
     pub text-stop : a ≡ Stop → saysAt text i ≡ []
     unfolding text-step
-    text-stop z = stop-law (step (rest-at text i)) refl (sym e ∙ z)
+    text-stop z = stop-law (step (rest-from text i)) refl (sym e ∙ z)
 
 pub from-none : (text : List ℕ) → text-from text Nothing ≡ []
 unfolding text-from

@@ -29,7 +29,7 @@ use Rattle.steps.specs.declared.characters.Reference.{Reference}
 use Rattle.steps.specs.declared.characters.Reference.the-variants as reference-is
 use Rattle.nodes.specs.Scan.{tag-at, skip-at, scan}
 use Rattle.nodes.specs.Laws.Scanned.{tag-less, Less, scan-tails}
-use Rattle.nodes.specs.ScanSteps.{tagged}
+use Rattle.nodes.specs.ScanSteps.{tagTold}
 use Rattle.nodes.specs.TextBytes.{Rest, outside, within, Move, char, past, referring, bare-char, step-by, step-in, step}
 use Rattle.nodes.specs.Texts.{inside, inside-by, place-of, as-text, text-step}
 use Rattle.nodes.specs.Laws.TextSteps.{rest-outside, rest-within}
@@ -47,7 +47,7 @@ use Rattle.nodes.specs.Laws.Scan.{looks-close, looks-comment, looks-data
 use Rattle.nodes.specs.Laws.Skip.{opens-at, bare-at, no-tag, lies}
 
 -- WHERE CONTENTS BEGIN
-module _ (text : List ℕ) (at : ℕ) {x : Tag} (k : x ≡ tagged (length text) (tag-at (drop at text))) where
+module _ (text : List ℕ) (at : ℕ) {x : Tag} (k : x ≡ tagTold (length text) (tag-at (drop at text))) where
   pub inside-none : x ≡ tag-is.No → Nothing ≡ inside text at
   unfolding inside inside-by
   inside-none z = rw (no-tag text at k z)

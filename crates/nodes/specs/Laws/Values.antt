@@ -11,7 +11,7 @@ use lib.ListN.{length, drop, getD, length-drop}
 use Rattle.lists.specs.Laws.Booleans.{clash}
 use Rattle.grammar.specs.Bytes.{ascii, blank}
 use Rattle.grammar.specs.Read.{Read, fail, got}
-use Rattle.grammar.specs.Parser.{reference-at, feed-at, line-end-at, same}
+use Rattle.grammar.specs.Parser.{reference-at, feed-at, line-end-at, sameBytes}
 use Rattle.grammar.specs.Laws.Tokens.{reference-other, line-end-other}
 use Rattle.steps.specs.Step.{stepped}
 use Rattle.steps.specs.Laws.Step.{at-byte, at-end}
@@ -109,26 +109,26 @@ module _ (text : List ℕ) (at q : ℕ) (h : at < length text) (nq : getD text a
 pub ruleset decoding = (decode-past, decode-quote, decode-reference, decode-ampersand, decode-return, decode-blank, decode-plain, needs)
 
 -- DECODED BYTES UP TO A QUOTE, AND A WORD
-same-empty : (w : List ℕ) → same [] w ≡ eqb (length w) 0
-unfolding same
+same-empty : (w : List ℕ) → sameBytes [] w ≡ eqb (length w) 0
+unfolding sameBytes
 same-empty [] = refl
 same-empty (a ∷ w) = sym (ne-eqb (length (a ∷ w)) 0 (λ e. omega arith))
 
 pub record Wording (text : List ℕ) (at q : ℕ) (word : List ℕ) (k i : ℕ) : Type 0 where
   inside : k ≤ length word
-  same-word : same (tells q (drop at text)) word ≡ same (tells q (drop i text)) (drop k word)
+  same-word : sameBytes (tells q (drop at text)) word ≡ sameBytes (tells q (drop i text)) (drop k word)
 
 pub word-start : (text : List ℕ) (at q : ℕ) (word : List ℕ) → Wording text at q word 0 at
 word-start text at q word = record { inside = omega arith; same-word = refl }
 
 module _ (text : List ℕ) (at q : ℕ) (word : List ℕ) (k i : ℕ) (go : Wording text at q word k i) {c : Char}
     (ec : c ≡ decoded-at text i q) where
-  pub word-yes : c ≡ End → length word ≤ k → true ≡ same (tells q (drop at text)) word
-  unfolding same
+  pub word-yes : c ≡ End → length word ≤ k → true ≡ sameBytes (tells q (drop at text)) word
+  unfolding sameBytes
   word-yes e h = sym (go .same-word ∙ rw (decoded-end text q i ec e, at-end word k h))
 
-  pub word-short : c ≡ End → k < length word → false ≡ same (tells q (drop at text)) word
-  unfolding same
+  pub word-short : c ≡ End → k < length word → false ≡ sameBytes (tells q (drop at text)) word
+  unfolding sameBytes
   word-short e h = sym (go .same-word ∙ rw (decoded-end text q i ec e, at-byte word k h))
 
   module _ {b j : ℕ} (is : c ≡ Byte b j) where
@@ -138,16 +138,16 @@ module _ (text : List ℕ) (at q : ℕ) (word : List ℕ) (k i : ℕ) (go : Word
     pub word-less : length text - j < length text - i
     word-less = omega (arith, says .inside, says .ahead)
 
-    pub word-long : length word ≤ k → false ≡ same (tells q (drop at text)) word
-    unfolding same
+    pub word-long : length word ≤ k → false ≡ sameBytes (tells q (drop at text)) word
+    unfolding sameBytes
     word-long h = sym (go .same-word ∙ rw (says .splits, at-end word k h))
 
     both : k < length word
-        → same (tells q (drop at text)) word ≡ (eqb b (getD word k 0) && same (tells q (drop j text)) (drop (k + 1) word))
-    unfolding same
+        → sameBytes (tells q (drop at text)) word ≡ (eqb b (getD word k 0) && sameBytes (tells q (drop j text)) (drop (k + 1) word))
+    unfolding sameBytes
     both h = go .same-word ∙ rw (says .splits, at-byte word k h)
 
-    pub word-other : k < length word → (b ≡ getD word k 0 → ⊥) → false ≡ same (tells q (drop at text)) word
+    pub word-other : k < length word → (b ≡ getD word k 0 → ⊥) → false ≡ sameBytes (tells q (drop at text)) word
     word-other h f = sym (both h ∙ rw (ne-eqb _ _ f))
 
     pub word-more : k < length word → b ≡ getD word k 0 → Wording text at q word (k + 1) j
@@ -157,10 +157,10 @@ pub ruleset wording = (word-start, word-yes, word-short, word-less, word-long, w
 
 -- THE VALUE OF A NAME
 module _ (text : List ℕ) (at : ℕ) (name word : List ℕ) {f : Found} (e : f ≡ place text at name) where
-  pub has-none : f ≡ Nothing → eqb (length word) 0 ≡ same (value-at-name text at name) word
+  pub has-none : f ≡ Nothing → eqb (length word) 0 ≡ sameBytes (value-at-name text at name) word
   has-none z = sym (rw (value-missing text at name e z) (same-empty word))
 
-  pub has-some : {v : ℕ} → f ≡ At v → {r : Bool} → r ≡ same (value-there text v) word → r ≡ same (value-at-name text at name) word
+  pub has-some : {v : ℕ} → f ≡ At v → {r : Bool} → r ≡ sameBytes (value-there text v) word → r ≡ sameBytes (value-at-name text at name) word
   has-some z w = w ∙ sym (rw (value-found text at name e z))
 
 pub ruleset having = (has-none, has-some, needs)

@@ -7,7 +7,7 @@ use lib.ListN.{length}
 use Rattle.grammar.specs.Document.{Element}
 use Rattle.grammar.specs.Look.{contentsOf, elements}
 use Rattle.nodes.specs.Places.{Stands, the}
-use Rattle.nodes.specs.Children.{first, next}
+use Rattle.nodes.specs.Children.{firstChild, next}
 use Rattle.nodes.specs.Laws.Children.{left, Siblings, no-more, one-more, children}
 use Rattle.nodes.specs.declared.Kid.{Kid}
 use Rattle.nodes.specs.declared.Kid.the-variants.{Child, Done}
@@ -56,10 +56,10 @@ walk-of : {text : List ℕ} {kid : Kid} {l : List Element} → Siblings text kid
 walk-of r = record { row = rw (row-kids r) r }
 
 -- at the start: all children
-pub walk-children : {text : List ℕ} {at : ℕ} → Stands text at → Walk text (first text at)
+pub walk-children : {text : List ℕ} {at : ℕ} → Stands text at → Walk text (firstChild text at)
 walk-children st = walk-of (children st)
 
-pub kids-children : {text : List ℕ} {at : ℕ} → Stands text at → kids text (first text at) ≡ elements (contentsOf (the text at))
+pub kids-children : {text : List ℕ} {at : ℕ} → Stands text at → kids text (firstChild text at) ≡ elements (contentsOf (the text at))
 kids-children st = row-kids (children st)
 
 -- at the end: none

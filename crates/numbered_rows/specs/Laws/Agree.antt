@@ -25,10 +25,10 @@ use Rattle.cifti.specs.Conditions.{shapeWrong, numberWrong}
 use Rattle.schema.specs.Letters.{lettering}
 use Rattle.schema.specs.Table.{tableWords, rowsOf, wordsAt}
 use Rattle.schema.specs.Faults.{fault, faultOf}
-use Rattle.schema.specs.Checked.{Checks, Judges}
+use Rattle.schema.specs.Checked.{Checks, ChecksDocument}
 use Rattle.schema.specs.declared.Checked.{Checked}
 use Rattle.numbered_rows.specs.Table.{table, letters}
-use Rattle.numbered_rows.specs.Checks.{rootFault, JudgedBy, ChecksBy, ChecksCifti, Answers}
+use Rattle.numbered_rows.specs.Checks.{rootFault, JudgedBy, ChecksBy, ChecksCifti, TableAnswers}
 use Rattle.schema.specs.Laws.Renamed.{rowNamed, renaming, shaped-named, numbered-named, walk-named}
 
 -- one computed equation over all kinds
@@ -105,7 +105,7 @@ checked-by {k} {faultIn} f {text} {r} c = record {
   written = λ e p. judged e p (c .some-one e (parse-iff text e .0 p));
 }
   where
-    judged : (e : Element) → parse text ≡ some e → Judges table letters k text r e → JudgedBy faultIn text (r .root) (r .number)
+    judged : (e : Element) → parse text ≡ some e → ChecksDocument table letters k text r e → JudgedBy faultIn text (r .root) (r .number)
     judged e p j = record {
       parsed = p ∙ ap some (sym (j .root-is));
       placed = j .placed;
@@ -118,13 +118,13 @@ cifti-checked c = checked-by root-fault c
 
 -- as the code lends it, and what it is asked
 module _ {t l : List ℕ} (te : t ≡ table) (le : l ≡ letters) {text : List ℕ} {asked : Bool} {k v f n : ℕ} {r : Checked} where
-  pub lent-checked : asked ≡ true → Checks t l k text r → Answers text asked k v f r n
+  pub lent-checked : asked ≡ true → Checks t l k text r → TableAnswers text asked k v f r n
   lent-checked h c = record {
     checked-so = λ _. rw (te, le) at c;
     number-is = λ no. absurd (true≢false (sym h ∙ no));
   }
 
-  pub lent-number : asked ≡ false → n ≡ numberIn (wordsAt t l f) (value-there text v) → Answers text asked k v f r n
+  pub lent-number : asked ≡ false → n ≡ numberIn (wordsAt t l f) (value-there text v) → TableAnswers text asked k v f r n
   lent-number h e = record {
     checked-so = λ yes. absurd (true≢false (sym yes ∙ h));
     number-is = λ _. e ∙ rw (te, le);

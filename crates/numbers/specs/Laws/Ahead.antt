@@ -10,7 +10,7 @@ use Rattle.lists.specs.Laws.Booleans.{clash}
 use Rattle.grammar.specs.Bytes.{blank}
 use Rattle.grammar.specs.Look.{Word}
 use Rattle.lists.specs.Lists.{all}
-use Rattle.numbers.specs.Numbers.{digit, digits, parts, onFirst, point, mark, mantissa, powerParts, power, inPower, scaled}
+use Rattle.numbers.specs.Numbers.{digit, digits, parts, onFirst, point, powerMark, mantissa, powerParts, power, inPower, scaled}
 use Rattle.numbers.specs.Laws.Cuts.{uncut-join, Parts, parts-some, parts-end, parts-cut, parts-join}
 use Rattle.numbers.specs.Cuts.{Uncut, none, more}
 use Rattle.numbers.specs.Laws.Cuts.{digit-no-blank, digit-no-point, digit-no-mark, digits-uncut, digits-few, digits-stopped}
@@ -39,7 +39,7 @@ module _ (most : ℕ) (v : Word) (all-digits : all digit v ≡ true) (few : leng
   pub uncut-point : Uncut point v
   uncut-point = digits-uncut digit-no-point v all-digits
 
-  pub uncut-mark : Uncut mark v
+  pub uncut-mark : Uncut powerMark v
   uncut-mark = digits-uncut digit-no-mark v all-digits
 
   pub uncut-blank : Uncut blank v
@@ -126,17 +126,17 @@ module _ {source : Source} {text : List ℕ} {most n at : ℕ} {run : Run} (r : 
   word-on e h = let g = goes-on e h in rw (g .2) (digits-stopped 1 most (r .read) (g .1) (g .0) (r .few) (stop-front (g .0) (g .1) (g .2)))
 
   -- what is ahead up to a mark begins as what is ahead does
-  pub before-mark : Parts mark (cut .front)
-  before-mark = parts-some mark (cut .front)
+  pub before-mark : Parts powerMark (cut .front)
+  before-mark = parts-some powerMark (cut .front)
 
   pub stop-mark : (b : ℕ) (y : Word) → before-mark .first ≡ b ∷ y → length (r .read) < most → digit b ≡ false
   stop-mark b y e l =
-      let k = first-begins mark (cut .front) b y (before-mark .others) (before-mark .are ∙ ap (λ z. z ∷ before-mark .others) e) in
+      let k = first-begins powerMark (cut .front) b y (before-mark .others) (before-mark .are ∙ ap (λ z. z ∷ before-mark .others) e) in
       stop-front b (k .0) (k .1) l
 
   -- the word, behind bytes that are no mark, is not right where what stands before a mark is no mantissa
-  pub wrong-front : {u : Word} → Uncut mark u → mantissa (u ++ (r .read ++ before-mark .first)) ≡ false
-      → scaled (parts mark (u ++ word)) ≡ false
+  pub wrong-front : {u : Word} → Uncut powerMark u → mantissa (u ++ (r .read ++ before-mark .first)) ≡ false
+      → scaled (parts powerMark (u ++ word)) ≡ false
   unfolding word scaled
   wrong-front {u} k h =
       let a = parts-join (cut .front) (before-mark .first) (before-mark .others) (uncut-mark most (r .read) (r .all-digits) (r .few))

@@ -14,7 +14,7 @@ use Rattle.grammar.specs.Bytes.{blank}
 use Rattle.grammar.specs.Laws.Facts.{within}
 use Rattle.grammar.specs.Look.{Word}
 use Rattle.lists.specs.Lists.{all, those}
-use Rattle.numbers.specs.Numbers.{digit, digits, number, value, parts, onFirst, comma, point, mark, filled, words}
+use Rattle.numbers.specs.Numbers.{digit, digits, number, value, parts, onFirst, comma, point, powerMark, filled, words}
 use Rattle.numbers.specs.Cuts.{Uncut, none, more}
 pub use Rattle.lists.specs.Laws.Lists.{all-append}
 
@@ -109,8 +109,8 @@ pub digit-no-point : (a : ℕ) → digit a ≡ true → point a ≡ false
 unfolding point
 digit-no-point a h = let p = digit-in a h .0 in ne-eqb a 46 (λ e. omega arith)
 
-pub digit-no-mark : (a : ℕ) → digit a ≡ true → mark a ≡ false
-unfolding mark
+pub digit-no-mark : (a : ℕ) → digit a ≡ true → powerMark a ≡ false
+unfolding powerMark
 digit-no-mark a h = let p = digit-in a h .1 in rw (ne-eqb a 69 (λ e. omega arith), ne-eqb a 101 (λ e. omega arith)) refl
 
 pub digits-uncut : {p : ℕ → Bool} → ((a : ℕ) → digit a ≡ true → p a ≡ false) → (u : Word) → all digit u ≡ true → Uncut p u

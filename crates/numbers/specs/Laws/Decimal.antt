@@ -13,14 +13,15 @@ use Rattle.grammar.specs.Bytes.{blank}
 use Rattle.grammar.specs.Document.{together}
 use Rattle.grammar.specs.Look.{Word}
 use Rattle.lists.specs.Lists.{all}
-use Rattle.numbers.specs.Numbers.{digit, digits, number, value, parts, onFirst, point, mark, Sign, withSign, decimalParts, mantissa}
-use Rattle.numbers.specs.Numbers.{places, scaled}
+use Rattle.numbers.specs.Numbers.{digit, digits, number, value, parts, onFirst, point, powerMark, Sign, withSign, decimalParts}
+use Rattle.numbers.specs.Numbers.{mantissa, places, scaled}
 use Rattle.numbers.specs.Laws.Cuts.{uncut-join, Parts, parts-some, parts-end, parts-cut, parts-join}
 use Rattle.numbers.specs.Cuts.{Uncut, none, more}
 use Rattle.numbers.specs.Laws.Cuts.{digit-no-point, digit-no-mark, digits-uncut, digits-are, number-append, number-below, powers}
 use Rattle.numbers.specs.Stream.{charAt, stream, digitsAt}
 use Rattle.numbers.specs.Laws.Stream.{Ran, digits-law}
-use Rattle.numbers.specs.Spelled.{Reading, reads, fails, Cut, pure, pureValue, pointed, Front, Pointed, Mantissa, Powered}
+use Rattle.numbers.specs.Spelled.{Reading, reads, fails, Cut, pureDecimal, pureValue, pointed, DigitsInFront, Pointed, Mantissa}
+use Rattle.numbers.specs.Spelled.{Powered}
 use Rattle.numbers.specs.Laws.SpelledSame.{onward}
 use Rattle.numbers.specs.Laws.Mantissa.{wrong-two, wrong-three}
 use Rattle.numbers.specs.Laws.Ahead.{uncut-point, uncut-mark, uncut-blank, first-part, other-part, cut, word, word-uncut, word-splits}
@@ -52,8 +53,8 @@ module _ (u : Word) (all-digits : all digit u ≡ true) where
   unfolding pointed point
   point-cut x = parts-cut 46 x no-point refl
 
-  pub front-unmarked : Uncut mark (pointed u [])
-  unfolding pointed mark
+  pub front-unmarked : Uncut powerMark (pointed u [])
+  unfolding pointed powerMark
   front-unmarked = uncut-join (digits-uncut digit-no-mark u all-digits) (more refl none)
 
 pointed-join : (u x : Word) → pointed u x ≡ pointed u [] ++ x
@@ -76,7 +77,7 @@ module _ (source : Source) (text : List ℕ) (before count at : ℕ) {run : Run}
 
   module _ (s : Sign) where
     pub places-none : run .count ≡ 0 → Pointed source text at before count s Fails
-    unfolding word pure pointed mantissa
+    unfolding word pureDecimal pointed mantissa
     places-none z = record {
       reading = λ {u} k.
           let f = first-part (15 - count) (ran .read) (ran .all-digits) (ran .few) (before-mark ran .first) (stop-mark ran) in
@@ -85,15 +86,15 @@ module _ (source : Source) (text : List ℕ) (before count at : ℕ) {run : Run}
           let w : mantissa (pointed u (ran .read ++ before-mark ran .first)) ≡ false =
           ap decimalParts (point-cut u (k .all-digits) (ran .read ++ before-mark ran .first) ∙ ap (λ i. u ∷ i) (f .2))
           ∙ wrong-two u (f .0) (f .1) (omega (arith, k .counted)) l in
-          let q : pure (pointed u (word ran)) ≡ false =
-          ap pure (pointed-join u (word ran))
+          let q : pureDecimal (pointed u (word ran)) ≡ false =
+          ap pureDecimal (pointed-join u (word ran))
           ∙ wrong-front ran (front-unmarked u (k .all-digits))
           (ap mantissa (sym (pointed-join u (ran .read ++ before-mark ran .first))) ∙ w) in
           fails (word ran) (cut ran .rest) q (word-uncut ran) (word-splits ran) (cut ran .ends);
     }
 
     module _ (found : run .count ≡ 0 → ⊥) {a : ℤ} (ea : a ≡ withSign s (run .value)) where
-      module _ {u : Word} (k : Front u before count) where
+      module _ {u : Word} (k : DigitsInFront u before count) where
         abbrev both : Word
         both = pointed u (ran .read)
 
@@ -136,7 +137,7 @@ module _ (source : Source) (text : List ℕ) (before count at : ℕ) {run : Run}
 
       pub places-read : {r : Spelling} → Powered source text (run .next) a (run .count) r → Pointed source text at before count s r
       places-read p = record {
-        reading = λ {u} k. onward (ran .read) (λ x y e. (ap pure (goes-on u x), λ h. ap (pureValue s) (goes-on u x)))
+        reading = λ {u} k. onward (ran .read) (λ x y e. (ap pureDecimal (goes-on u x), λ h. ap (pureValue s) (goes-on u x)))
             (uncut-blank (15 - count) (ran .read) (ran .all-digits) (ran .few)) (ran .splits)
             (p .reading (mantissa-is k));
       }

@@ -28,7 +28,7 @@ use Rattle.numbers.specs.Laws.Cuts.{FirstWord, first-word, digit-no-blan
 use Rattle.numbers.specs.Stream.{letterAt, charAt, stream, behind, leading, wordEnds, digitsAt}
 use Rattle.numbers.specs.Laws.Stream.{Moves, letter-byte, char-byte, char-end, behind-none, behind-one, Ran, digits-law, Blanked}
 use Rattle.numbers.specs.Laws.Stream.{blanked}
-use Rattle.numbers.specs.Answers.{nextOf, nextNumber}
+use Rattle.numbers.specs.Answers.{nextInWords, nextNumber}
 use Rattle.numbers.specs.declared.Source.the-variants.{Contents}
 use Rattle.numbers.specs.declared.Run.{Run}
 use Rattle.numbers.specs.declared.Next.{Next}
@@ -63,12 +63,12 @@ plain-blank text i h e = go (eqb (getD text i 0) 13) refl
 
 -- BLANKS are passed
 next-is : (text : List ℕ) (i : ℕ) → nextNumber text i
-    ≡ nextOf (λ n. behind Contents text (leading blank (stream Contents text i) + n) i) (words (stream Contents text i))
+    ≡ nextInWords (λ n. behind Contents text (leading blank (stream Contents text i) + n) i) (words (stream Contents text i))
 unfolding nextNumber stream
 next-is text i = refl
 
-next-same : (f g : ℕ → ℕ) (l : List Word) → ((n : ℕ) → f n ≡ g n) → nextOf f l ≡ nextOf g l
-unfolding nextOf
+next-same : (f g : ℕ → ℕ) (l : List Word) → ((n : ℕ) → f n ≡ g n) → nextInWords f l ≡ nextInWords g l
+unfolding nextInWords
 next-same f g [] h = refl
 next-same f g (w ∷ l) h = rw (h (length w)) refl
 
@@ -147,7 +147,7 @@ next-over (suc n) text i e = step-over (charAt Contents text i) refl λ j k. nex
 
 -- NOTHING IS LEFT
 pub next-end : (text : List ℕ) (i : ℕ) → stream Contents text i ≡ [] → nextNumber text i ≡ End
-unfolding nextOf
+unfolding nextInWords
 next-end text i e = next-is text i ∙ rw (e, words-none) refl
 
 -- A NUMBER
@@ -172,7 +172,7 @@ module _ (text : List ℕ) (i : ℕ) {run : Run} (er : run ≡ digitsAt Contents
 
   ahead : (a : ℕ) (u w : Word) → digit a ≡ true → words ((a ∷ u) ++ w) ≡ (a ∷ u) ∷ words w → digits 1 7 (a ∷ u) ≡ true
       → stream Contents text i ≡ (a ∷ u) ++ w → nextNumber text i ≡ Number (value (a ∷ u)) (behind Contents text (length (a ∷ u)) i)
-  unfolding nextOf leading
+  unfolding nextInWords leading
   ahead a u w d h k e = next-is text i ∙ rw (e, h, k, digit-no-blank a d)
       (ap (Number (value (a ∷ u))) (ap (λ n. behind Contents text n i) zero-more))
     where
@@ -197,7 +197,7 @@ module _ (text : List ℕ) (i : ℕ) {run : Run} (er : run ≡ digitsAt Contents
 
   -- A WORD THAT IS NO NUMBER
   pub next-bad : {b : ℕ} {x : Word} → stream Contents text (run .next) ≡ b ∷ x → blank b ≡ false → nextNumber text i ≡ Bad
-  unfolding nextOf
+  unfolding nextInWords
   next-bad {b} {x} e k =
       let w : stream Contents text i ≡ ran .read ++ (b ∷ x) = ran .splits ∙ ap (λ l. ran .read ++ l) e in
       let f = begun (ran .read) x b (digits-uncut digit-no-blank (ran .read) (ran .all-digits)) k in

@@ -12,8 +12,8 @@ use Rattle.grammar.specs.Bytes.{blank}
 use Rattle.grammar.specs.Laws.Facts.{blank-in}
 use Rattle.grammar.specs.Look.{Word}
 use Rattle.lists.specs.Lists.{all}
-use Rattle.numbers.specs.Numbers.{digit, digits, parts, onFirst, point, mark, Signed, unsigned, decimalParts, mantissa, powerParts}
-use Rattle.numbers.specs.Numbers.{power, inPower, scaled, decimal}
+use Rattle.numbers.specs.Numbers.{digit, digits, parts, onFirst, point, powerMark, Signed, unsigned, decimalParts, mantissa}
+use Rattle.numbers.specs.Numbers.{powerParts, power, inPower, scaled, decimal}
 use Rattle.numbers.specs.Laws.Cuts.{uncut-at, parts-some, digit-no-blank, digit-no-mark, digits-uncut, digits-are}
 use Rattle.numbers.specs.Cuts.{Uncut, none, more}
 use Rattle.numbers.specs.Laws.Cuts.{digits-split}
@@ -65,17 +65,17 @@ point-no-blank : (a : ℕ) → point a ≡ true → blank a ≡ false
 unfolding point
 point-no-blank a e = let q = eqb-true a 46 e in refute (blank a) λ k. (let z = blank-in a k in omega arith)
 
-point-no-mark : (a : ℕ) → point a ≡ true → mark a ≡ false
-unfolding point mark
+point-no-mark : (a : ℕ) → point a ≡ true → powerMark a ≡ false
+unfolding point powerMark
 point-no-mark a e = rw (eqb-true a 46 e) refl
 
 pub mantissa-no-blank : (m : Word) → mantissa m ≡ true → Uncut blank m
 unfolding mantissa
 mantissa-no-blank m h = whole-uncut point blank point-no-blank m (parts-uncut blank digit-no-blank (parts point m) h)
 
-pub mantissa-no-mark : (m : Word) → mantissa m ≡ true → Uncut mark m
+pub mantissa-no-mark : (m : Word) → mantissa m ≡ true → Uncut powerMark m
 unfolding mantissa
-mantissa-no-mark m h = whole-uncut point mark point-no-mark m (parts-uncut mark digit-no-mark (parts point m) h)
+mantissa-no-mark m h = whole-uncut point powerMark point-no-mark m (parts-uncut powerMark digit-no-mark (parts point m) h)
 
 -- a sign and digits, without any byte that is neither
 sign-uncut : (q : ℕ → Bool) → q 45 ≡ false → q 43 ≡ false → (w : Word) → Uncut q ((unsigned true w) .rest) → Uncut q w
@@ -99,9 +99,9 @@ power-uncut : (q : ℕ → Bool) → q 45 ≡ false → q 43 ≡ false → ((a :
 unfolding powerParts
 power-uncut q i j f x h = sign-uncut q i j x (digits-uncut f ((unsigned true x) .rest) (digits-split 1 2 ((unsigned true x) .rest) h .0))
 
-pub power-no-mark : (x : Word) → powerParts (x ∷ []) ≡ true → Uncut mark x
-unfolding mark
-power-no-mark x h = power-uncut mark refl refl digit-no-mark x h
+pub power-no-mark : (x : Word) → powerParts (x ∷ []) ≡ true → Uncut powerMark x
+unfolding powerMark
+power-no-mark x h = power-uncut powerMark refl refl digit-no-mark x h
 
 -- A DECIMAL HAS NO BLANK
 power-no-blank : (l : List Word) → powerParts l ≡ true → Uncuts blank l
@@ -110,8 +110,8 @@ power-no-blank [] h = no-words
 power-no-blank (x ∷ []) h = and-word (power-uncut blank refl refl digit-no-blank x h) no-words
 power-no-blank (x ∷ y ∷ l) h = clash (cc)
 
-mark-no-blank : (a : ℕ) → mark a ≡ true → blank a ≡ false
-unfolding mark
+mark-no-blank : (a : ℕ) → powerMark a ≡ true → blank a ≡ false
+unfolding powerMark
 mark-no-blank a e = refute (blank a) λ k. go (eqb a 69) refl (blank-in a k .1)
   where
     go : (t : Bool) → eqb a 69 ≡ t → a ≤ 32 → ⊥
@@ -129,7 +129,7 @@ decimal-uncut : (w : Word) → decimal w ≡ true → Uncut blank w
 unfolding decimal blank
 decimal-uncut w h =
     sign-uncut blank refl refl w
-    (whole-uncut mark blank mark-no-blank ((unsigned true w) .rest) (scaled-uncut (parts mark ((unsigned true w) .rest)) h))
+    (whole-uncut powerMark blank mark-no-blank ((unsigned true w) .rest) (scaled-uncut (parts powerMark ((unsigned true w) .rest)) h))
 
 pub decimal-blank : (x : Word) (b : ℕ) (y : Word) → blank b ≡ true → decimal (x ++ (b ∷ y)) ≡ false
 decimal-blank x b y h = refute (decimal (x ++ (b ∷ y))) λ k. (let q = uncut-at blank x b y (decimal-uncut (x ++ (b ∷ y)) k) in clash (cc))

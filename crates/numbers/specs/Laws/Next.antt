@@ -18,8 +18,8 @@ use Rattle.nodes.specs.declared.Char.the-variants.{Byte}
 use Rattle.nodes.specs.declared.Char.the-variants as chars
 use Rattle.numbers.specs.Numbers.{digit}
 use Rattle.numbers.specs.Laws.Cuts.{grown, powers, digit-no-blank}
-use Rattle.numbers.specs.Stream.{letterAt, charAt, stream, behind, leading, wordEnds, digitsBy, digitsAt, Few, Plain, Stops, Begun}
-use Rattle.numbers.specs.Stream.{EightLeft, runOf}
+use Rattle.numbers.specs.Stream.{letterAt, charAt, stream, behind, leading, wordEnds, digitsBy, digitsAt, Few, Plain, Stops}
+use Rattle.numbers.specs.Stream.{DigitsBegun, EightLeft, runOf}
 use Rattle.numbers.specs.Laws.Stream.{char-byte, char-end, run-suc, Ran, digits-law, Blanked, blanked}
 use Rattle.numbers.specs.Laws.Listed.{BlankAt, plain-blank, byte-passed}
 use Rattle.numbers.specs.Laws.Listed.{plain-char, next-over, next-end, next-number, next-bad}
@@ -167,7 +167,7 @@ module _ {text : List ℕ} {i stop : ℕ} {run : Run} (p : Plain text i stop run
 
 -- the digits that were read, and that no blank stands before them
 begun-plain : {text : List ℕ} {at stop : ℕ} {run : Run} → Plain text at stop run → leading blank (stream Contents text at) ≡ 0
-    → Begun text at (run .value) (run .next)
+    → DigitsBegun text at (run .value) (run .next)
 begun-plain {text} {at} {stop} {run} p s =
     let here : Plain text at (run .next) run =
     record { seven = p .seven; ahead = p .ahead; spans = p .spans; within = λ _. omega arith; same = p .same } in
@@ -210,14 +210,14 @@ module _ {text : List ℕ} {last : ℕ} (b : EightLeft text last) where
             → Number (run .value) (run .next) ≡ nextNumber text at
         quick at e q h = quick-number p quick-inside (sym q ∙ h) at e some
 
-        pub quick-begun : Begun text i (run .value) (run .next)
+        pub quick-begun : DigitsBegun text i (run .value) (run .next)
         quick-begun = begun-plain p (digit-first p some)
 
 pub slow : (text : List ℕ) (at i : ℕ) {r : Next} → nextNumber text at ≡ nextNumber text i → r ≡ nextNumber text i → r ≡ nextNumber text at
 slow text at i e q = q ∙ sym e
 
 -- whatever stands between
-module _ {text : List ℕ} {at value next : ℕ} (b : Begun text at value next) where
+module _ {text : List ℕ} {at value next : ℕ} (b : DigitsBegun text at value next) where
   pub from-ahead : at ≤ next
   from-ahead = b .plain .ahead
 
@@ -280,7 +280,7 @@ module _ (text : List ℕ) (at : ℕ) {i : ℕ} (ei : i ≡ behind Contents text
   pub word-number : {r : Next} → r ≡ nextNumber text i → r ≡ nextNumber text at
   word-number q = q ∙ sym (next-over (leading blank (stream Contents text at)) text at refl ∙ ap (nextNumber text) (sym ei))
 
-  pub word-begun : {stop : ℕ} {run : Run} → Plain text i stop run → Begun text i (run .value) (run .next)
+  pub word-begun : {stop : ℕ} {run : Run} → Plain text i stop run → DigitsBegun text i (run .value) (run .next)
   unfolding leading
   word-begun p = begun-plain p (go (stream Contents text i) refl)
     where

@@ -15,16 +15,16 @@ use Rattle.grammar.specs.Look.{Word}
 use Rattle.lists.specs.Lists.{all}
 use Rattle.nodes.specs.declared.Char.{Char}
 use Rattle.nodes.specs.declared.Char.the-variants.{Byte, End}
-use Rattle.numbers.specs.Numbers.{digit, digits, value, parts, onFirst, point, mark, Sign, minus, unsigned, withSign, mantissa}
+use Rattle.numbers.specs.Numbers.{digit, digits, value, parts, onFirst, point, powerMark, Sign, minus, unsigned, withSign, mantissa}
 use Rattle.numbers.specs.Numbers.{places, powerParts, writtenPower, power, inPower, scaled, scaledValue}
 use Rattle.numbers.specs.Laws.Cuts.{parts-some, parts-end, parts-cut, parts-join, digit-no-mark}
 use Rattle.numbers.specs.Cuts.{Uncut, none, more}
 use Rattle.numbers.specs.Laws.Forms.{parts-one, parts-two}
 use Rattle.numbers.specs.Stream.{charAt, stream, wordEnds}
 use Rattle.numbers.specs.Laws.Stream.{char-byte, char-end}
-use Rattle.numbers.specs.Spelled.{Reading, reads, fails, Cut, pure, pureValue, Mantissa, Powered, powerDigits}
+use Rattle.numbers.specs.Spelled.{Reading, reads, fails, Cut, pureDecimal, pureValue, Mantissa, Powered, powerDigits}
 use Rattle.numbers.specs.Laws.SpelledSame.{onward, cut-word}
-use Rattle.numbers.specs.Spelled.{powerValue, Raised, Leads}
+use Rattle.numbers.specs.Spelled.{powerValue, Raised, SignLeads}
 use Rattle.numbers.specs.Laws.Mantissa.{mantissa-no-mark}
 use Rattle.numbers.specs.Laws.Integers.{power-within, less-nothing}
 use Rattle.numbers.specs.Answers.{signIf}
@@ -68,10 +68,10 @@ module _ (source : Source) (text : List ℕ) (at : ℕ) (a : ℤ) (n : ℕ) wher
   -- the word ends here
   ended : n ≤ 15 → {p : ℤ} → p ≡ withSign (signIf true) n → wordEnds (stream source text at) ≡ true
       → Powered source text at a n (Reads (record { amount = a; power = p }) at)
-  unfolding pure pureValue scaledValue power writtenPower signIf
+  unfolding pureDecimal pureValue scaledValue power writtenPower signIf
   ended few {p} e w = record {
     reading = λ {s} {m} k.
-        let q : parts mark (m ++ []) ≡ m ∷ [] = ap (parts mark) (append-nil m) ∙ parts-end (mantissa-no-mark m (k .right)) in
+        let q : parts powerMark (m ++ []) ≡ m ∷ [] = ap (parts powerMark) (append-nil m) ∙ parts-end (mantissa-no-mark m (k .right)) in
         let z : p ≡ pos 0 -ℤ pos (places m) = e ∙ less-nothing n ∙ ap (λ i. pos 0 -ℤ pos i) (sym (k .placed)) in
         let v : _≡_ {A = Decimal} (record { amount = a; power = p }) (pureValue s (m ++ [])) =
         same-decimal (sym (k .amounts)) z ∙ sym (rw q refl) in
@@ -93,15 +93,15 @@ module _ (source : Source) (text : List ℕ) (at : ℕ) (a : ℤ) (n : ℕ) wher
       unfolding wordEnds
       powered-blank q k few h = ended few h (ap wordEnds next-is ∙ sym q ∙ k)
 
-      module _ {t : Bool} (q : t ≡ blank b) (k : t ≡ false) {u : Bool} (eu : u ≡ mark b) where
+      module _ {t : Bool} (q : t ≡ blank b) (k : t ≡ false) {u : Bool} (eu : u ≡ powerMark b) where
         pub powered-other : u ≡ false → Powered source text at a n Fails
-        unfolding pure parts onFirst
+        unfolding pureDecimal parts onFirst
         powered-other h = record {
           reading = λ {s} {m} f.
               let r = cut-word (stream source text j) in
-              let o = parts-some mark (r .front) in
-              let p : parts mark (b ∷ r .front) ≡ (b ∷ o .first) ∷ o .others = rw (sym eu, h, o .are) refl in
-              let w : scaled (parts mark (m ++ (b ∷ r .front))) ≡ false = ap scaled
+              let o = parts-some powerMark (r .front) in
+              let p : parts powerMark (b ∷ r .front) ≡ (b ∷ o .first) ∷ o .others = rw (sym eu, h, o .are) refl in
+              let w : scaled (parts powerMark (m ++ (b ∷ r .front))) ≡ false = ap scaled
               (parts-join (b ∷ r .front) (b ∷ o .first) (o .others) (mantissa-no-mark m (f .right)) p)
               ∙ wrong-mantissa (m ++ (b ∷ o .first)) (o .others)
               (f .stopped b (stream source text j) next-is (sym eu ∙ h) (o .first)) in
@@ -109,25 +109,25 @@ module _ (source : Source) (text : List ℕ) (at : ℕ) (a : ℤ) (n : ℕ) wher
         }
 
         -- a mark, a sign if there is one, and digits
-        module _ (h : u ≡ true) {lead : Lead} (l : Leads source text j lead) where
-          behind-mark : {m : Word} → mantissa m ≡ true → (x : Word) → {f : Word} {o : List Word} → parts mark x ≡ f ∷ o
-              → parts mark (m ++ ((b ∷ l .front) ++ x)) ≡ m ∷ (l .front ++ f) ∷ o
+        module _ (h : u ≡ true) {lead : Lead} (l : SignLeads source text j lead) where
+          behind-mark : {m : Word} → mantissa m ≡ true → (x : Word) → {f : Word} {o : List Word} → parts powerMark x ≡ f ∷ o
+              → parts powerMark (m ++ ((b ∷ l .front) ++ x)) ≡ m ∷ (l .front ++ f) ∷ o
           behind-mark {m} right x {f} {o} e =
               parts-cut b (l .front ++ x) (mantissa-no-mark m right) (sym eu ∙ h) ∙ ap (λ z. m ∷ z) (parts-join x f o (l .no-mark) e)
 
           agree : {s : Sign} {m : Word} → Mantissa source text at s a n m → (x y : Word) → stream source text (lead .next) ≡ x ++ y
-              → (pure (m ++ ((b ∷ l .front) ++ x)) ≡ powerDigits (signIf (lead .negative)) n x)
+              → (pureDecimal (m ++ ((b ∷ l .front) ++ x)) ≡ powerDigits (signIf (lead .negative)) n x)
               × (powerDigits (signIf (lead .negative)) n x ≡ true
               → pureValue s (m ++ ((b ∷ l .front) ++ x)) ≡ powerValue (signIf (lead .negative)) a n x)
-          unfolding pure pureValue scaledValue powerValue
-          agree {s} {m} f x y e = go (parts-some mark x .first) (parts-some mark x .others) (parts-some mark x .are)
+          unfolding pureDecimal pureValue scaledValue powerValue
+          agree {s} {m} f x y e = go (parts-some powerMark x .first) (parts-some powerMark x .others) (parts-some powerMark x .are)
             where
-              go : (i : Word) (o : List Word) → parts mark x ≡ i ∷ o
-                  → (pure (m ++ ((b ∷ l .front) ++ x)) ≡ powerDigits (signIf (lead .negative)) n x)
+              go : (i : Word) (o : List Word) → parts powerMark x ≡ i ∷ o
+                  → (pureDecimal (m ++ ((b ∷ l .front) ++ x)) ≡ powerDigits (signIf (lead .negative)) n x)
                   × (powerDigits (signIf (lead .negative)) n x ≡ true
                   → pureValue s (m ++ ((b ∷ l .front) ++ x)) ≡ powerValue (signIf (lead .negative)) a n x)
               go i [] z =
-                  let v = parts-one mark x i z in
+                  let v = parts-one powerMark x i z in
                   let p = behind-mark (f .right) x z in
                   let g = rw v at (l .signs x y e) in (
                     ap scaled p ∙ with-power m (f .right) (l .front ++ i) (signIf (lead .negative)) i g
@@ -136,7 +136,7 @@ module _ (source : Source) (text : List ℕ) (at : ℕ) (a : ℤ) (n : ℕ) wher
                         (power-of m (f .right) (l .front ++ i) (signIf (lead .negative)) i g ∙ rw (f .placed, v) refl)),
                   )
               go i (i₁ ∷ o) z =
-                  let d = no-digits (signIf (lead .negative)) n x (parts-two mark digit-no-mark x i i₁ o z) in (
+                  let d = no-digits (signIf (lead .negative)) n x (parts-two powerMark digit-no-mark x i i₁ o z) in (
                     ap scaled (behind-mark (f .right) x z) ∙ two-marks m (f .right) (l .front ++ i) i₁ o ∙ sym d,
                     λ r. clash (cc),
                   )
@@ -147,8 +147,8 @@ module _ (source : Source) (text : List ℕ) (at : ℕ) (a : ℤ) (n : ℕ) wher
                 (p .reading);
           }
 
-pub mark-is : (b : ℕ) → (eqb b 69 || eqb b 101) ≡ mark b
-unfolding mark
+pub mark-is : (b : ℕ) → (eqb b 69 || eqb b 101) ≡ powerMark b
+unfolding powerMark
 mark-is b = refl
 
 pub ruleset powering = (powered-end, powered-blank, powered-other, powered-mark, needs)

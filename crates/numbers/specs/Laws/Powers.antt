@@ -12,7 +12,8 @@ use Rattle.lists.specs.Laws.Booleans.{and-left, and-right, clash}
 use Rattle.grammar.specs.Document.{together}
 use Rattle.grammar.specs.Look.{Word}
 use Rattle.lists.specs.Lists.{all}
-use Rattle.numbers.specs.Numbers.{digit, digits, number, value, parts, point, mark, Sign, plus, minus, Signed, unsigned, withSign}
+use Rattle.numbers.specs.Numbers.{digit, digits, number, value, parts, point, powerMark, Sign, plus, minus, Signed, unsigned}
+use Rattle.numbers.specs.Numbers.{withSign}
 use Rattle.numbers.specs.Numbers.{decimalParts, mantissa, places, powerParts, writtenPower, power, scaled, scaledValue, decimal}
 use Rattle.numbers.specs.Numbers.{decimalValue}
 use Rattle.numbers.specs.Laws.Cuts.{uncut-join, parts-end, parts-cut, digit-in, digit-no-point, digit-no-mark}
@@ -51,7 +52,7 @@ module _ (w : Word) (before : decimalBefore w ≡ true) where
   unfolding mantissa m
   right = before
 
-  one-part : parts mark m ≡ m ∷ []
+  one-part : parts powerMark m ≡ m ∷ []
   one-part = parts-end (mantissa-no-mark m right)
 
   placed : places m ≡ placesBefore w
@@ -72,7 +73,7 @@ module _ (w : Word) (before : decimalBefore w ≡ true) where
   before-after = (still, same)
 
 -- a.bEx: digits a and b, a mark, a power x
-module _ (a b x : Word) (e : ℕ) (da : all digit a ≡ true) (db : all digit b ≡ true) (me : mark e ≡ true)
+module _ (a b x : Word) (e : ℕ) (da : all digit a ≡ true) (db : all digit b ≡ true) (me : powerMark e ≡ true)
     (px : powerParts (x ∷ []) ≡ true) where
   a-point-b : Word
   a-point-b = a ++ (46 ∷ b)
@@ -81,16 +82,16 @@ module _ (a b x : Word) (e : ℕ) (da : all digit a ≡ true) (db : all digit b 
   unfolding a-point-b point
   in-two = parts-cut 46 b (digits-uncut digit-no-point a da) refl ∙ ap (λ l. a ∷ l) (parts-end (digits-uncut digit-no-point b db))
 
-  unmarked : Uncut mark a-point-b
-  unfolding a-point-b mark
+  unmarked : Uncut powerMark a-point-b
+  unfolding a-point-b powerMark
   unmarked = uncut-join (digits-uncut digit-no-mark a da) (more refl (digits-uncut digit-no-mark b db))
 
-  marked : parts mark (a ++ (46 ∷ (b ++ (e ∷ x)))) ≡ a-point-b ∷ x ∷ []
+  marked : parts powerMark (a ++ (46 ∷ (b ++ (e ∷ x)))) ≡ a-point-b ∷ x ∷ []
   unfolding a-point-b
-  marked = ap (parts mark) (sym (append-assoc a (46 ∷ b) (e ∷ x))) ∙ parts-cut e x unmarked me
+  marked = ap (parts powerMark) (sym (append-assoc a (46 ∷ b) (e ∷ x))) ∙ parts-cut e x unmarked me
       ∙ ap (λ l. (a ++ (46 ∷ b)) ∷ l) (parts-end (power-no-mark x px))
 
-  read-as : (s : Sign) → scaledValue s (parts mark (a ++ (46 ∷ (b ++ (e ∷ x)))))
+  read-as : (s : Sign) → scaledValue s (parts powerMark (a ++ (46 ∷ (b ++ (e ∷ x)))))
       ≡ record { amount = withSign s (value (a ++ b)); power = writtenPower (x ∷ []) -ℤ pos (length b) }
   unfolding scaledValue power places
   read-as s = ap (scaledValue s) marked

@@ -17,12 +17,12 @@ use Rattle.lists.specs.Lists.{all}
 use Rattle.nodes.specs.Values.{value-there}
 use Rattle.nodes.specs.declared.Char.{Char}
 use Rattle.nodes.specs.declared.Char.the-variants.{Byte, End}
-use Rattle.numbers.specs.Numbers.{digits, value, parts, mark, Sign, plus, minus, Signed, unsigned, decimalParts, mantissa, scaled}
-use Rattle.numbers.specs.Numbers.{scaledValue, decimal, decimalValue}
+use Rattle.numbers.specs.Numbers.{digits, value, parts, powerMark, Sign, plus, minus, Signed, unsigned, decimalParts, mantissa}
+use Rattle.numbers.specs.Numbers.{scaled, scaledValue, decimal, decimalValue}
 use Rattle.numbers.specs.Cuts.{Uncut, none, more}
 use Rattle.numbers.specs.Stream.{charAt, stream, wordEnds}
 use Rattle.numbers.specs.Laws.Stream.{char-byte, char-end}
-use Rattle.numbers.specs.Spelled.{Reading, reads, fails, Spelled, pure, pureValue, Pure, Leads}
+use Rattle.numbers.specs.Spelled.{Reading, reads, fails, Spelled, pureDecimal, pureValue, Pure, SignLeads}
 use Rattle.numbers.specs.Laws.SpelledSame.{onward}
 use Rattle.numbers.specs.Laws.Mantissa.{decimal-blank}
 use Rattle.numbers.specs.Answers.{signIf, decimalIn}
@@ -51,7 +51,7 @@ bare-end [] y e = refl
 bare-end (a ∷ x) y e = clash (cc)
 
 module _ (source : Source) (text : List ℕ) (at : ℕ) {c : Char} (ec : c ≡ charAt source text at) where
-  pub sign-end : c ≡ End → Leads source text at (record { negative = false; next = at })
+  pub sign-end : c ≡ End → SignLeads source text at (record { negative = false; next = at })
   unfolding signIf
   sign-end e = record {
     front = [];
@@ -65,8 +65,8 @@ module _ (source : Source) (text : List ℕ) (at : ℕ) {c : Char} (ec : c ≡ c
     ahead : stream source text at ≡ b ∷ stream source text j
     ahead = char-byte source text at ec e .splits
 
-    pub sign-minus : b ≡ 45 → Leads source text at (record { negative = true; next = j })
-    unfolding signIf unsigned blank mark
+    pub sign-minus : b ≡ 45 → SignLeads source text at (record { negative = true; next = j })
+    unfolding signIf unsigned blank powerMark
     sign-minus h = record {
       front = 45 ∷ [];
       no-blank = more refl none;
@@ -75,8 +75,8 @@ module _ (source : Source) (text : List ℕ) (at : ℕ) {c : Char} (ec : c ≡ c
       signs = λ x y s. refl;
     }
 
-    pub sign-plus : b ≡ 43 → Leads source text at (record { negative = false; next = j })
-    unfolding signIf unsigned blank mark
+    pub sign-plus : b ≡ 43 → SignLeads source text at (record { negative = false; next = j })
+    unfolding signIf unsigned blank powerMark
     sign-plus h = record {
       front = 43 ∷ [];
       no-blank = more refl none;
@@ -85,7 +85,7 @@ module _ (source : Source) (text : List ℕ) (at : ℕ) {c : Char} (ec : c ≡ c
       signs = λ x y s. refl;
     }
 
-    pub sign-none : (b ≡ 45 → ⊥) → (b ≡ 43 → ⊥) → Leads source text at (record { negative = false; next = at })
+    pub sign-none : (b ≡ 45 → ⊥) → (b ≡ 43 → ⊥) → SignLeads source text at (record { negative = false; next = at })
     unfolding signIf
     sign-none h k = record {
       front = [];
@@ -99,11 +99,11 @@ pub ruleset signs-of = (sign-end, sign-minus, sign-plus, sign-none, needs)
 
 -- a sign, and a decimal without
 signed-form : (t : Bool) (w x : Word) → unsigned true w ≡ record { sign = signIf t; rest = x }
-    → (decimal w ≡ pure x) × (pure x ≡ true → decimalValue w ≡ pureValue (signIf t) x)
-unfolding decimal decimalValue pure pureValue
+    → (decimal w ≡ pureDecimal x) × (pureDecimal x ≡ true → decimalValue w ≡ pureValue (signIf t) x)
+unfolding decimal decimalValue pureDecimal pureValue
 signed-form t w x e = (rw e refl, λ h. rw e refl)
 
-pub sign-read : {source : Source} {text : List ℕ} {at : ℕ} {lead : Lead} → Leads source text at lead → {r : Spelling}
+pub sign-read : {source : Source} {text : List ℕ} {at : ℕ} {lead : Lead} → SignLeads source text at lead → {r : Spelling}
     → Pure source text (lead .next) (signIf (lead .negative)) r → Spelled source text at r
 sign-read l p = record {
   reading = onward (l .front) (λ x y e. signed-form _ (l .front ++ x) x (l .signs x y e)) (l .no-blank) (l .splits) (p .reading);

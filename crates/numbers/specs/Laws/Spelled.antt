@@ -16,13 +16,13 @@ use Rattle.grammar.specs.Look.{Word}
 use Rattle.lists.specs.Lists.{all}
 use Rattle.nodes.specs.declared.Char.{Char}
 use Rattle.nodes.specs.declared.Char.the-variants.{Byte, End}
-use Rattle.numbers.specs.Numbers.{digit, digits, number, value, parts, point, mark, Sign, withSign, decimalParts, mantissa, places}
-use Rattle.numbers.specs.Numbers.{scaled}
+use Rattle.numbers.specs.Numbers.{digit, digits, number, value, parts, point, powerMark, Sign, withSign, decimalParts, mantissa}
+use Rattle.numbers.specs.Numbers.{places, scaled}
 use Rattle.numbers.specs.Laws.Cuts.{uncut-join, parts-end, digits-are, number-below, powers}
 use Rattle.numbers.specs.Cuts.{Uncut, none, more}
 use Rattle.numbers.specs.Stream.{charAt, stream, digitsAt}
 use Rattle.numbers.specs.Laws.Stream.{char-byte, char-end, Ran, digits-law}
-use Rattle.numbers.specs.Spelled.{Reading, reads, fails, Cut, pure, pureValue, Pure, pointed, Front, Pointed}
+use Rattle.numbers.specs.Spelled.{Reading, reads, fails, Cut, pureDecimal, pureValue, Pure, pointed, DigitsInFront, Pointed}
 use Rattle.numbers.specs.Laws.SpelledSame.{onward}
 use Rattle.numbers.specs.Spelled.{Mantissa, Powered}
 use Rattle.numbers.specs.Laws.Mantissa.{wrong-one}
@@ -59,7 +59,7 @@ module _ (source : Source) (text : List ℕ) (at : ℕ) {run : Run} (er : run �
 
   module _ (s : Sign) where
     pub pure-none : run .count ≡ 0 → Pure source text at s Fails
-    unfolding pure mantissa
+    unfolding pureDecimal mantissa
     pure-none z =
         let f = first-part 15 (ran .read) (ran .all-digits) (ran .few) (before-mark ran .first) (stop-mark ran) in
         let w : mantissa (ran .read ++ before-mark ran .first) ≡ false =
@@ -110,7 +110,7 @@ module _ (source : Source) (text : List ℕ) (at : ℕ) {run : Run} (er : run �
           let k : stream source text at ≡ (ran .read ++ (46 ∷ [])) ++ stream source text j = ran .splits
           ∙ ap (λ l. ran .read ++ l) (m ∙ ap (λ i. i ∷ stream source text j) h)
           ∙ sym (append-assoc (ran .read) (46 ∷ []) (stream source text j)) in
-          let f : Front (ran .read) (run .value) (run .count) = record {
+          let f : DigitsInFront (ran .read) (run .value) (run .count) = record {
             all-digits = ran .all-digits;
             some = long;
             counted = omega (arith, ran .counted);
@@ -118,7 +118,7 @@ module _ (source : Source) (text : List ℕ) (at : ℕ) {run : Run} (er : run �
           } in
           let same : (x : Word) → (ran .read ++ (46 ∷ [])) ++ x ≡ ran .read ++ (46 ∷ x) = λ x. append-assoc (ran .read) (46 ∷ []) x in
           record {
-            reading = onward (ran .read ++ (46 ∷ [])) (λ x y q. (ap pure (same x), λ i. ap (pureValue s) (same x)))
+            reading = onward (ran .read ++ (46 ∷ [])) (λ x y q. (ap pureDecimal (same x), λ i. ap (pureValue s) (same x)))
                 (uncut-join no-blank (more refl none)) k (p .reading f);
           }
 

@@ -18,7 +18,7 @@ use Rattle.numbers.specs.Numbers.{digits, value, parts, onFirst, filled,
 use Rattle.numbers.specs.Laws.Cuts.{Parts, parts-some, words-none, words-blank, digits-split, value-below, powers}
 use Rattle.numbers.specs.Stream.{charAt, stream, leftIn, behind, leading}
 use Rattle.numbers.specs.Laws.Stream.{Moves, char-byte, char-end, behind-none, behind-one}
-use Rattle.numbers.specs.Answers.{nextOf, nextNumber}
+use Rattle.numbers.specs.Answers.{nextInWords, nextNumber}
 use Rattle.numbers.specs.declared.Source.{Source}
 use Rattle.numbers.specs.declared.Source.the-variants.{Contents}
 use Rattle.numbers.specs.declared.Next.{Next}
@@ -134,7 +134,7 @@ pub data Tells (text : List ℕ) (i : ℕ) : Next → Type 0 where
   tells-bad : Wrong text i → Tells text i Bad
 
 pub next-tells : (text : List ℕ) (i : ℕ) → Tells text i (nextNumber text i)
-unfolding nextNumber nextOf
+unfolding nextNumber nextInWords
 next-tells text i = go (words (saysAt text i)) refl
   where
     shaped : (w : Word) (l : List Word) → words (saysAt text i) ≡ w ∷ l → (t : Bool) → digits 1 7 w ≡ t
@@ -143,7 +143,7 @@ next-tells text i = go (words (saysAt text i)) refl
     shaped w l e true h = tells-number (handed text i w l e h)
 
     go : (l : List Word) → words (saysAt text i) ≡ l
-        → Tells text i (nextOf (λ n. behind Contents text (leading blank (saysAt text i) + n) i) l)
+        → Tells text i (nextInWords (λ n. behind Contents text (leading blank (saysAt text i) + n) i) l)
     go [] e = tells-end e
     go (w ∷ l) e = shaped w l e (digits 1 7 w) refl
 

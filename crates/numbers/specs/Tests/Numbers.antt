@@ -10,7 +10,8 @@ use Rattle.grammar.specs.Look.{Word}
 use Rattle.lists.specs.Lists.{lists, all, those, each}
 use Rattle.numbers.specs.Numbers.{numbers, digit, digits, number, value, onFirst, parts, comma, point, filled, words, whole, three}
 use Rattle.numbers.specs.Numbers.{volumeDimensions, dimensionList, commaValues, unsigned, withSign, exponent, exponentValue}
-use Rattle.numbers.specs.Numbers.{mark, decimalParts, mantissa, places, powerParts, writtenPower, power, inPower, scaled, scaledValue}
+use Rattle.numbers.specs.Numbers.{powerMark, decimalParts, mantissa, places, powerParts, writtenPower, power, inPower, scaled}
+use Rattle.numbers.specs.Numbers.{scaledValue}
 use Rattle.numbers.specs.Numbers.{decimal, decimalValue, up, down, inValue, isWhole, noMore, equalTo, atMost, wholes, values, lastRow}
 use Rattle.numbers.specs.Numbers.{sixteen, keyValue, inKeys, key, keyList, listedKeys, sameKey, noLess, atLeast, colour}
 

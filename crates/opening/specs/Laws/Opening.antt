@@ -18,7 +18,7 @@ use Rattle.grammar.specs.Document.{Element}
 use Rattle.grammar.specs.Look.{is, nameOf, contentsOf, elements, children}
 use Rattle.grammar.specs.Parser.{parse}
 use Rattle.nodes.specs.Places.{Stands, the}
-use Rattle.nodes.specs.Children.{first, next}
+use Rattle.nodes.specs.Children.{firstChild, next}
 use Rattle.nodes.specs.Root.{root}
 use Rattle.nodes.specs.Laws.Walk.{kids, Walk, walk-children, kids-children, walk-none, turn-at, turn-splits}
 use Rattle.nodes.specs.declared.Kid.{Kid}
@@ -28,7 +28,7 @@ use Rattle.cifti.specs.Maps.{mapElements, mapsOf}
 use Rattle.cifti.specs.Conditions as C
 use Rattle.cifti.specs.Conditions.{_when_, lengthsWrong, textTooLong, noDocument, rootWrong, kindNotRead, shapeWrong, numberWrong}
 use Rattle.cifti.specs.Conditions.{conditionsOfHeader}
-use Rattle.numbered_rows.specs.Checks.{rootFault, Judged, ChecksCifti}
+use Rattle.numbered_rows.specs.Checks.{rootFault, JudgedCifti, ChecksCifti}
 use Rattle.numbered_rows.specs.Laws.Checks.{not-three, shaped-by, numbers-by, not-written, open-judged}
 use Rattle.schema.specs.declared.Checked.{Checked}
 use Rattle.maps.specs.Good.{Good}
@@ -36,7 +36,7 @@ use Rattle.maps.specs.Laws.Kinds.{root-child}
 use Rattle.maps.specs.Ready.{matrixMaps}
 use Rattle.maps.specs.Laws.Unread.{all-read}
 use Rattle.opening.specs.declared.header.Opening.{Opening}
-use Rattle.opening.specs.Opening.{headerNumber, kidPlace, matrixPlace, Opens, rootNumber, Found}
+use Rattle.opening.specs.Opening.{headerNumber, kidPlace, matrixPlace, Opens, rootNumber, RootFound}
 
 -- ---- Condition 1.
 
@@ -141,7 +141,7 @@ module _ (text lengths : List ℕ) where
             ∙ rw (fine, short)
 
 refuses : {text : List ℕ} {r : ℕ} (o : Opening) → (o .number ≡ 0 → ⊥) → o .number ≤ 7 → o .matrix ≡ 0
-    → ((n : ℕ) → rootNumber (the text r) n ≡ o .number) → Found text r o
+    → ((n : ℕ) → rootNumber (the text r) n ≡ o .number) → RootFound text r o
 refuses o k a m h = record {
   among = a;
   nowhere = λ _. m;
@@ -157,19 +157,20 @@ refuses o k a m h = record {
   only = λ z. absurd (k z);
 }
 
-module _ {text : List ℕ} {r n : ℕ} (j : Judged text r n) where
+module _ {text : List ℕ} {r n : ℕ} (j : JudgedCifti text r n) where
   pub root-stands : Stands text r
   root-stands = j .stands
 
-  pub root-wrong : {b : Bool} → b ≡ rootWrong (the text r) → b ≡ true → (o : Opening) → o .number ≡ 4 → o .matrix ≡ 0 → Found text r o
+  pub root-wrong : {b : Bool} → b ≡ rootWrong (the text r) → b ≡ true → (o : Opening) → o .number ≡ 4 → o .matrix ≡ 0 → RootFound text r o
   root-wrong p t o q m = refuses o (λ z. omega arith) (omega arith) m (λ n. rw (sym p ∙ t, q))
 
   module _ {b : Bool} (p : b ≡ rootWrong (the text r)) (f : b ≡ false) where
-    pub root-unread : {c : Bool} → c ≡ kindNotRead (the text r) → c ≡ true → (o : Opening) → o .number ≡ 5 → o .matrix ≡ 0 → Found text r o
+    pub root-unread : {c : Bool} → c ≡ kindNotRead (the text r) → c ≡ true → (o : Opening) → o .number ≡ 5 → o .matrix ≡ 0
+        → RootFound text r o
     root-unread q t o s m = refuses o (λ z. omega arith) (omega arith) m (λ n. rw (sym p ∙ f, sym q ∙ t, s))
 
     pub root-fault : {c : Bool} → c ≡ kindNotRead (the text r) → c ≡ false → (n ≡ 0 → ⊥) → (o : Opening) → o .number ≡ n → o .matrix ≡ 0
-        → Found text r o
+        → RootFound text r o
     unfolding rootFault
     root-fault q g k o t z₀ = refuses o (λ z. k (sym t ∙ z))
         (rw (t ∙ j .fault-is) (few (shapeWrong (the text r)) (numberWrong (the text r)))) z₀
@@ -197,12 +198,12 @@ module _ {text : List ℕ} {r n : ℕ} (j : Judged text r n) where
       good-here : Good cifti (the text r)
       good-here = good-root (the text r) shaped numbers-fine
 
-      pub root-passes : {m : ℕ} {kid : Kid} → kid ≡ first text r → kid ≡ Child m → (o : Opening) → o .number ≡ 0 → o .matrix ≡ m
-          → Found text r o
+      pub root-passes : {m : ℕ} {kid : Kid} → kid ≡ firstChild text r → kid ≡ Child m → (o : Opening) → o .number ≡ 0 → o .matrix ≡ m
+          → RootFound text r o
       unfolding kidPlace
       root-passes {m} {kid} e h o u v =
-          let w : Walk text (first text r) = walk-children (j .stands) in
-          let is-child : first text r ≡ Child m = sym e ∙ h in
+          let w : Walk text (firstChild text r) = walk-children (j .stands) in
+          let is-child : firstChild text r ≡ Child m = sym e ∙ h in
           let t = turn-at w is-child in
           let only = root-child good-here in
           let same : the text m ∷ kids text (next text m) ≡ only .one ∷ [] = sym (turn-splits w is-child) ∙ kids-children (j .stands)
@@ -224,10 +225,10 @@ module _ {text : List ℕ} {r n : ℕ} (j : Judged text r n) where
             only = λ _. rw v (matrix-one (the text r) (the text m) list (rw here (only .name)));
           }
 
-      pub root-bare : {kid : Kid} → kid ≡ first text r → kid ≡ Done → (o : Opening) → Found text r o
+      pub root-bare : {kid : Kid} → kid ≡ firstChild text r → kid ≡ Done → (o : Opening) → RootFound text r o
       root-bare e h o =
-          let w : Walk text (first text r) = walk-children (j .stands) in
-          let none : kids text (first text r) ≡ [] = walk-none w (sym e ∙ h) in
+          let w : Walk text (firstChild text r) = walk-children (j .stands) in
+          let none : kids text (firstChild text r) ≡ [] = walk-none w (sym e ∙ h) in
           let only = root-child good-here in
           let bad : [] ≡ only .one ∷ [] = sym none ∙ kids-children (j .stands) ∙ only .alone in
           absurd (let y : _≡_ {A = ℕ} 0 1 = cc in omega arith)
@@ -266,14 +267,14 @@ module _ {text : List ℕ} (lengths : List ℕ) {a : Bool} (p : a ≡ lengthsWro
           refused-as 3 (λ z. omega arith) (omega arith) (header-unwritten text lengths (sym p ∙ f) (not-long text short)
           (not-written w (λ e. not-three (shapeWrong e) (numberWrong e)) g))
 
-      pub open-document : (c .number ≡ 3 → ⊥) → {o : Opening} → Found text (c .root) o → Opens text lengths o
+      pub open-document : (c .number ≡ 3 → ⊥) → {o : Opening} → RootFound text (c .root) o → Opens text lengths o
       unfolding matrixPlace kidPlace
       open-document t {o} d =
           let j = open-judged w t in
           record {
             among = d .among;
             nowhere = d .nowhere;
-            there-it-is = λ z. d .there-it-is z ∙ sym (ap (λ k. kidPlace (first text (kidPlace k))) (j .placed));
+            there-it-is = λ z. d .there-it-is z ∙ sym (ap (λ k. kidPlace (firstChild text (kidPlace k))) (j .placed));
             refused =
                 λ k. sym (header-document text lengths (sym p ∙ f) (not-long text short) (the text (c .root)) (j .parsed) ∙ d .refused k _);
             passed = λ z. record {

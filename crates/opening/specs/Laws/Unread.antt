@@ -10,7 +10,7 @@ use Rattle.grammar.specs.Bytes.{ascii}
 use Rattle.grammar.specs.Document.{Element}
 use Rattle.grammar.specs.Look.{children}
 use Rattle.nodes.specs.Places.{Stands, the}
-use Rattle.nodes.specs.Children.{first, next}
+use Rattle.nodes.specs.Children.{firstChild, next}
 use Rattle.nodes.specs.Laws.Children.{left}
 use Rattle.nodes.specs.Names.{named}
 use Rattle.nodes.specs.declared.Kid.{Kid}
@@ -51,7 +51,7 @@ pub level-map : {n : ℕ} → n ≡ 0 → (e : Element) {b : Bool} → b ≡ not
 unfolding levelNotRead
 level-map z e h = rw z h
 
-pub level-start : {n : ℕ} → (n ≡ 0 → ⊥) → {text : List ℕ} {at : ℕ} → Stands text at → {kid : Kid} → kid ≡ first text at
+pub level-start : {n : ℕ} → (n ≡ 0 → ⊥) → {text : List ℕ} {at : ℕ} → Stands text at → {kid : Kid} → kid ≡ firstChild text at
     → Levelling n text at kid
 level-start z st e = record { above = z; seeking = seek-start _ _ st e }
 

@@ -23,7 +23,7 @@ use Rattle.shortlist.specs.Made.{modelAt, MadeOf}
 use Rattle.lists.specs.Refusals.{_when_, first}
 use Rattle.shortlist.specs.Asking.{isRecord}
 use Rattle.shortlist.specs.Asking.{toldNumber, toldVoxels, toldStructure, soughtNumber, soughtIndex}
-use Rattle.shortlist.specs.Search.{begun, nextOf, folded, toldOf, ownRecords, outside, Finding}
+use Rattle.shortlist.specs.Search.{begun, nextOf, folded, toldOf, ownRecords, listOutside, Finding}
 use Rattle.shortlist.specs.Laws.Runs.{table-snoc}
 use Rattle.shortlist.specs.Laws.Entry.{next-stays}
 use Rattle.shortlist.specs.Laws.Answers.{tells-seen, seeks-seen}
@@ -126,7 +126,7 @@ unfolding toldOf
 bad-told s h = ap (λ b. cond b Told.BadList (cond (ltb (s .tells) 64) (Told.Is (leb 32 (s .tells)) (s .tells % 32)) Told.Nothing)) h
 
 bad-sought : (rs : List ℕ) (s : Search) (x : ℕ) (answer : Sought) → s .bad ≡ true → Finding rs s x answer → answer ≡ Sought.BadList
-unfolding outside first soughtNumber
+unfolding listOutside first soughtNumber
 bad-sought rs s x answer h f = only answer (f .numbered ∙ ap (λ b. refusal ((b || past) || far)) h)
   where
     past : Bool

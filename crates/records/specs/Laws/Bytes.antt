@@ -11,7 +11,7 @@ use lib.ListN.{length, getD, take, drop, replicate, length-append, length-drop, 
 use lib.ListN.{List·getD-append}
 use lib.Seq.{take-suc, take-at, drop-at, length-take-le, getD-drop, drop-drop}
 use borrow.Author.Tests.{ltb-true, ltb-false}
-use Rattle.records.specs.Fields.{bits, joined, parted, Fit, none, more}
+use Rattle.records.specs.Fields.{bits, joined, partsOf, Fit, none, more}
 use Rattle.records.specs.Laws.Fields.{parted-joined, joined-parted}
 use Rattle.records.specs.Bytes.{bytesOf, numberWritten, body, numbersIn, Below}
 
@@ -20,8 +20,8 @@ unfolding bits
 bits-bytes zero = refl
 bits-bytes (suc w) = let h = bits-bytes w in omega arith
 
-length-parted : (ws : List ℕ) (r : ℕ) → length (parted ws r) ≡ length ws
-unfolding parted
+length-parted : (ws : List ℕ) (r : ℕ) → length (partsOf ws r) ≡ length ws
+unfolding partsOf
 length-parted [] r = refl
 length-parted (w ∷ ws) r = ap suc (length-parted ws r)
 
@@ -33,7 +33,7 @@ length-bytesOf w n = length-parted (replicate w 8) n ∙ length-replicate w 8
 pub bytes-whole : (w n : ℕ) → numberWritten (bytesOf w n) ≡ n % 2 ^ (8 * w)
 unfolding bytesOf numberWritten
 bytes-whole w n =
-    ap (λ (m : ℕ). joined (replicate m 8) (parted (replicate w 8) n)) (length-parted (replicate w 8) n ∙ length-replicate w 8)
+    ap (λ (m : ℕ). joined (replicate m 8) (partsOf (replicate w 8) n)) (length-parted (replicate w 8) n ∙ length-replicate w 8)
     ∙ joined-parted (replicate w 8) n
     ∙ ap (λ (m : ℕ). n % 2 ^ m) (bits-bytes w)
 

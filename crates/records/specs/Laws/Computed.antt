@@ -12,7 +12,7 @@ use lib.ListN.{length, getD, take, drop}
 use lib.Seq.{drop-cons, drop-length}
 use Rattle.lists.specs.Lists.{all}
 use Rattle.records.specs.Width.{five, seven, widthSaid}
-use Rattle.records.specs.Fields.{bits, joined, parted}
+use Rattle.records.specs.Fields.{bits, joined, partsOf}
 use Rattle.records.specs.Bytes.{bytesOf, numberWritten}
 use Rattle.records.specs.Sheet.{headOf, countOf, goodSheet, bytesSaid, widthOf, sheetWidth}
 
@@ -32,11 +32,11 @@ all-end p l i e = ap (λ (n : ℕ). all p (drop n l)) e ∙ ap (all p) (drop-len
 pub word-bytes : (r : ℕ) → bytesOf 7 r
     ≡ r / 281474976710656 % 256 ∷ r / 1099511627776 % 256 ∷ r / 4294967296 % 256 ∷ r / 16777216 % 256 ∷ r / 65536 % 256 ∷ r / 256 % 256
     ∷ r % 256 ∷ []
-unfolding bytesOf bits parted
+unfolding bytesOf bits partsOf
 word-bytes r = rw div-one
 
 pub head-bytes : (n : ℕ) → headOf 7 n ≡ 7 ∷ n / 65536 % 256 ∷ n / 256 % 256 ∷ n % 256 ∷ []
-unfolding headOf bytesOf bits parted
+unfolding headOf bytesOf bits partsOf
 head-bytes n = rw div-one
 
 -- n numbers of a list, each by its place, from k places behind `at`

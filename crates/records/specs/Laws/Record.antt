@@ -10,11 +10,11 @@ use lib.ListN.{getD, List·getD-map}
 use lib.Pow.{pow-pos}
 use borrow.Author.Tests.{eqb-true, eqb-false, ltb-true}
 use Rattle.lists.specs.Laws.Booleans.{and-left, and-right, clash}
-use Rattle.records.specs.Fields.{bits, joined, parted, Fit, none, more}
+use Rattle.records.specs.Fields.{bits, joined, partsOf, Fit, none, more}
 use Rattle.records.specs.Laws.Fields.{joined-below, parted-joined, joined-parted}
 use Rattle.records.specs.Width.{Width, five, seven, surfaceBits, payloadBits, voxelBits, recordBits, sound}
 use Rattle.records.specs.Record.{Location, onSurface, inVolume, recordIn, FitsIn, surface, volume, withinIn}
-use Rattle.records.specs.Record.{SamePlace, sameVertex, sameVoxel, unstructured, keyIn, keyOf}
+use Rattle.records.specs.Record.{SamePlace, sameVertex, sameVoxel, unstructured, recordKeyIn, keyOf}
 use Rattle.records.specs.Record.{isVoxelIn, structureIn, payloadIn, iIn, jIn, kIn, locationIn}
 
 -- a location that fits is as it is
@@ -24,7 +24,7 @@ within-fits (surface hs hv) = rw (mod-eq-of-lt hs, mod-eq-of-lt hv)
 within-fits (volume hs hi hj hk) = rw (mod-eq-of-lt hs, mod-eq-of-lt hi, mod-eq-of-lt hj, mod-eq-of-lt hk)
 
 pub location-fits : (w : Width) (r : ℕ) → FitsIn w (locationIn w r)
-unfolding locationIn structureIn payloadIn iIn jIn kIn bits parted
+unfolding locationIn structureIn payloadIn iIn jIn kIn bits partsOf
 location-fits w r = by (isVoxelIn w r)
   where
     by : (b : Bool)
@@ -94,14 +94,14 @@ module _ {w : Width} (ok : Sound w) where
 
   -- the parts of a voxel are those of a surface, with the payload parted
   top-parts : (r : ℕ)
-      → parted (voxelBits w) r ≡ getD (parted (surfaceBits w) r) 0 0 ∷ getD (parted (surfaceBits w) r) 1 0 ∷ parted (payloadBits w) r
-  unfolding bits parted
+      → partsOf (voxelBits w) r ≡ getD (partsOf (surfaceBits w) r) 0 0 ∷ getD (partsOf (surfaceBits w) r) 1 0 ∷ partsOf (payloadBits w) r
+  unfolding bits partsOf
   top-parts r =
-      ap (λ (n : ℕ). r / 2 ^ (w .structure + n) % 2 ^ (w .flag) ∷ r / 2 ^ n % 2 ^ (w .structure) ∷ parted (payloadBits w) r)
+      ap (λ (n : ℕ). r / 2 ^ (w .structure + n) % 2 ^ (w .flag) ∷ r / 2 ^ n % 2 ^ (w .structure) ∷ partsOf (payloadBits w) r)
       payload-bits
 
-  flag-below : (r : ℕ) → getD (parted (surfaceBits w) r) 0 0 < 2
-  unfolding bits parted
+  flag-below : (r : ℕ) → getD (partsOf (surfaceBits w) r) 0 0 < 2
+  unfolding bits partsOf
   flag-below r =
       let q : ℕ = r / 2 ^ (w .structure + (w .vertex + 0)) in
       let h : q % 2 ^ (w .flag) < 2 ^ (w .flag) = mod-lt q (pow-pos (w .flag)) in
@@ -133,15 +133,15 @@ module _ {w : Width} (ok : Sound w) where
   pub location-back : {l : Location} → FitsIn w l → locationIn w (recordIn w l) ≡ l
   unfolding recordIn locationIn isVoxelIn structureIn payloadIn iIn jIn kIn
   location-back (surface {s} {v} hs hv) =
-      let e : parted (surfaceBits w) (joined (surfaceBits w) (0 ∷ s ∷ v ∷ [])) ≡ 0 ∷ s ∷ v ∷ [] =
+      let e : partsOf (surfaceBits w) (joined (surfaceBits w) (0 ∷ s ∷ v ∷ [])) ≡ 0 ∷ s ∷ v ∷ [] =
       parted-joined (more (pow-pos (w .flag)) (more hs (more hv none))) in
       rw e
   location-back (volume {s} {i} {j} {k} hs hi hj hk) =
       let f = payload-fits hi hj hk in
       let p : ℕ = joined (payloadBits w) (i ∷ j ∷ k ∷ []) in
-      let top : parted (surfaceBits w) (joined (voxelBits w) (1 ∷ s ∷ i ∷ j ∷ k ∷ [])) ≡ 1 ∷ s ∷ p ∷ [] =
-      ap (parted (surfaceBits w)) (payload-whole s i j k) ∙ parted-joined (more one-flag (more hs (more (payload-below hi hj hk) none))) in
-      let e : parted (voxelBits w) (joined (voxelBits w) (1 ∷ s ∷ i ∷ j ∷ k ∷ [])) ≡ 1 ∷ s ∷ i ∷ j ∷ k ∷ [] =
+      let top : partsOf (surfaceBits w) (joined (voxelBits w) (1 ∷ s ∷ i ∷ j ∷ k ∷ [])) ≡ 1 ∷ s ∷ p ∷ [] =
+      ap (partsOf (surfaceBits w)) (payload-whole s i j k) ∙ parted-joined (more one-flag (more hs (more (payload-below hi hj hk) none))) in
+      let e : partsOf (voxelBits w) (joined (voxelBits w) (1 ∷ s ∷ i ∷ j ∷ k ∷ [])) ≡ 1 ∷ s ∷ i ∷ j ∷ k ∷ [] =
       parted-joined (more one-flag (more hs f)) in
       rw (top, e)
 
@@ -150,7 +150,7 @@ module _ {w : Width} (ok : Sound w) where
 
   -- the record is made again from its location
   pub record-whole : (r : ℕ) → recordIn w (locationIn w r) ≡ r % 2 ^ recordBits w
-  unfolding recordIn locationIn isVoxelIn structureIn payloadIn iIn jIn kIn parted
+  unfolding recordIn locationIn isVoxelIn structureIn payloadIn iIn jIn kIn partsOf
   record-whole r = by (isVoxelIn w r) refl
     where
       by : (b : Bool) → isVoxelIn w r ≡ b
@@ -189,59 +189,61 @@ plain-same (inVolume s i j k) (inVolume t x y z) e = subst (λ (l : Location). S
 
 module _ {w : Width} (ok : Sound w) where
   -- records have the same key exactly where they name the same place
-  pub same-key : (r q : ℕ) → SamePlace (locationIn w r) (locationIn w q) → keyIn w r ≡ keyIn w q
-  unfolding keyIn
+  pub same-key : (r q : ℕ) → SamePlace (locationIn w r) (locationIn w q) → recordKeyIn w r ≡ recordKeyIn w q
+  unfolding recordKeyIn
   same-key r q p = ap (recordIn w) (same-plain p)
 
-  pub key-same : (r q : ℕ) → keyIn w r ≡ keyIn w q → SamePlace (locationIn w r) (locationIn w q)
-  unfolding keyIn
+  pub key-same : (r q : ℕ) → recordKeyIn w r ≡ recordKeyIn w q → SamePlace (locationIn w r) (locationIn w q)
+  unfolding recordKeyIn
   key-same r q e =
       plain-same (locationIn w r) (locationIn w q)
       (sym (location-back ok (plain-fits (location-fits w r))) ∙ ap (locationIn w) e ∙ location-back ok (plain-fits (location-fits w q)))
 
   -- the same of locations and their records
-  pub same-place-key : {a b : Location} → FitsIn w a → FitsIn w b → SamePlace a b → keyIn w (recordIn w a) ≡ keyIn w (recordIn w b)
-  unfolding keyIn
+  pub same-place-key : {a b : Location} → FitsIn w a → FitsIn w b → SamePlace a b
+      → recordKeyIn w (recordIn w a) ≡ recordKeyIn w (recordIn w b)
+  unfolding recordKeyIn
   same-place-key f g p =
       ap (λ (l : Location). recordIn w (unstructured l)) (location-back ok f)
       ∙ ap (recordIn w) (same-plain p)
       ∙ sym (ap (λ (l : Location). recordIn w (unstructured l)) (location-back ok g))
 
-  pub key-same-place : {a b : Location} → FitsIn w a → FitsIn w b → keyIn w (recordIn w a) ≡ keyIn w (recordIn w b) → SamePlace a b
+  pub key-same-place : {a b : Location} → FitsIn w a → FitsIn w b → recordKeyIn w (recordIn w a) ≡ recordKeyIn w (recordIn w b)
+      → SamePlace a b
   key-same-place {a} {b} f g e =
       subst (λ (l : Location). SamePlace a l) (location-back ok g)
       (subst (λ (l : Location). SamePlace l (locationIn w (recordIn w b))) (location-back ok f) (key-same (recordIn w a) (recordIn w b) e))
 
   -- a surface's key is its record, a voxel's has no structure
-  pub key-surface : (r : ℕ) → isVoxelIn w r ≡ false → keyIn w r ≡ r % 2 ^ recordBits w
-  unfolding keyIn locationIn unstructured
+  pub key-surface : (r : ℕ) → isVoxelIn w r ≡ false → recordKeyIn w r ≡ r % 2 ^ recordBits w
+  unfolding recordKeyIn locationIn unstructured
   key-surface r e = rw e (sym whole ∙ record-whole ok r)
     where
       whole : recordIn w (locationIn w r) ≡ recordIn w (onSurface (structureIn w r) (payloadIn w r))
       whole = rw e
 
-  pub key-voxel : (r : ℕ) → isVoxelIn w r ≡ true → keyIn w r ≡ 2 ^ (w .structure + w .vertex) + r % 2 ^ (w .vertex)
-  unfolding keyIn locationIn unstructured recordIn iIn jIn kIn bits joined parted
+  pub key-voxel : (r : ℕ) → isVoxelIn w r ≡ true → recordKeyIn w r ≡ 2 ^ (w .structure + w .vertex) + r % 2 ^ (w .vertex)
+  unfolding recordKeyIn locationIn unstructured recordIn iIn jIn kIn bits joined partsOf
   key-voxel r e = rw e (sum ∙ ap (λ (n : ℕ). 2 ^ (w .structure + n) + r % 2 ^ n) (payload-bits ok ∙ lone))
     where
       lone : w .vertex + 0 ≡ w .vertex
       lone = omega arith
 
       sum : 1 * 2 ^ (w .structure + bits (payloadBits w))
-          + (0 * 2 ^ bits (payloadBits w) + joined (payloadBits w) (parted (payloadBits w) r))
+          + (0 * 2 ^ bits (payloadBits w) + joined (payloadBits w) (partsOf (payloadBits w) r))
           ≡ 2 ^ (w .structure + bits (payloadBits w)) + r % 2 ^ bits (payloadBits w)
       sum = let h = joined-parted (payloadBits w) r in omega arith
 
 zero-flag : (w : Width) → isVoxelIn w 0 ≡ false
-unfolding isVoxelIn bits parted
+unfolding isVoxelIn bits partsOf
 zero-flag w = rw (zero-div, zero-mod)
 
-zero-key : {w : Width} → Sound w → keyIn w 0 ≡ 0
+zero-key : {w : Width} → Sound w → recordKeyIn w 0 ≡ 0
 zero-key {w} ok = key-surface ok 0 (zero-flag w) ∙ zero-mod (2 ^ recordBits w)
 
 -- the key at a place of a list of keys
-pub key-place : {w : Width} → Sound w → (rs : List ℕ) (i : ℕ) → getD (map (keyIn w) rs) i 0 ≡ keyIn w (getD rs i 0)
-key-place {w} ok rs i = ap (getD (map (keyIn w) rs) i) (sym (zero-key ok)) ∙ List·getD-map (keyIn w) rs i 0
+pub key-place : {w : Width} → Sound w → (rs : List ℕ) (i : ℕ) → getD (map (recordKeyIn w) rs) i 0 ≡ recordKeyIn w (getD rs i 0)
+key-place {w} ok rs i = ap (getD (map (recordKeyIn w) rs) i) (sym (zero-key ok)) ∙ List·getD-map (recordKeyIn w) rs i 0
 
 pub key-at : (rs : List ℕ) (i : ℕ) → getD (map keyOf rs) i 0 ≡ keyOf (getD rs i 0)
 key-at = key-place seven-sound

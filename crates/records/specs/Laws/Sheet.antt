@@ -17,7 +17,7 @@ use Rattle.lists.specs.Refusals.{Refusal, _when_, positive, NoneApplies}
 use Rattle.lists.specs.Laws.Refusals.{given-none, row-fails, rows-behind}
 use Rattle.records.specs.Limits.{mostRecords}
 use Rattle.records.specs.Width.{Width, recordBits}
-use Rattle.records.specs.Fields.{bits, parted}
+use Rattle.records.specs.Fields.{bits, partsOf}
 use Rattle.records.specs.Record.{legalIn}
 use Rattle.records.specs.Laws.Record.{Sound}
 use Rattle.records.specs.Laws.Widths.{legal-size}
@@ -64,7 +64,7 @@ good-sheet w s g = rw (
 )
 
 one-byte : (w : ℕ) → w < 256 → bytesOf 1 w ≡ w ∷ []
-unfolding bytesOf bits parted
+unfolding bytesOf bits partsOf
 one-byte w h = rw (div-one, mod-eq-of-lt h)
 
 -- the sheet of records, read

@@ -12,7 +12,7 @@ use Rattle.records.specs.Record.{legalRecord, legalIn, widened}
 use Rattle.lists.specs.Laws.Numbers.{eq?, lt?}
 use Rattle.records.specs.Sheet.{PacksIn, UnpacksIn, packedInto, unpackedInto}
 use Rattle.records.specs.Find.{FirstPlace, Finds}
-use Rattle.records.specs.Repeat.{Checks}
+use Rattle.records.specs.Repeat.{ChecksRepeats}
 use Rattle.records.specs.declared.counters.Vertex.{Vertex}
 use Rattle.records.specs.declared.search.Found.{Found}
 use Rattle.records.specs.declared.outcome.Outcome.{Outcome}
@@ -83,15 +83,16 @@ find-unique rs x a b p q =
     λ k. record { number = e k; place = record { 0 = f k } }
 
 pub checks-unique :
-    (n : ℕ) (xs before : List ℕ) (a b : ℕ) (x y : List ℕ) → Checks n xs before a x → Checks n xs before b y → (a ≡ b) × (x ≡ y)
+    (n : ℕ) (xs before : List ℕ) (a b : ℕ) (x y : List ℕ) → ChecksRepeats n xs before a x → ChecksRepeats n xs before b y
+    → (a ≡ b) × (x ≡ y)
 checks-unique n xs before a b x y p q = (p .answers ∙ sym (q .answers), p .zero ∙ sym (q .zero))
 
 pub repeats-in-unique :
-    (n : ℕ) (before : List ℕ) (a b : ℕ) (x y : List ℕ) → Checks n (take n before) before a x
-    → Checks n (take n before) before b y → (a ≡ b) × (x ≡ y)
+    (n : ℕ) (before : List ℕ) (a b : ℕ) (x y : List ℕ) → ChecksRepeats n (take n before) before a x
+    → ChecksRepeats n (take n before) before b y → (a ≡ b) × (x ≡ y)
 repeats-in-unique n before = checks-unique n (take n before) before
 
 pub twice-unique :
-    (rs before : List ℕ) (a b : ℕ) (x y : List ℕ) → Checks (length rs) (map keyOf rs) before a x
-    → Checks (length rs) (map keyOf rs) before b y → (a ≡ b) × (x ≡ y)
+    (rs before : List ℕ) (a b : ℕ) (x y : List ℕ) → ChecksRepeats (length rs) (map keyOf rs) before a x
+    → ChecksRepeats (length rs) (map keyOf rs) before b y → (a ≡ b) × (x ≡ y)
 twice-unique rs before = checks-unique (length rs) (map keyOf rs) before

@@ -9,7 +9,7 @@ use lib.Pow.{pow-pos, pow-mono, pow-add}
 use borrow.Author.Tests.{leb-true, lt-ltb, ltb-true, eq-eqb, ne-eqb}
 use Rattle.lists.specs.Laws.Booleans.{and-left}
 use Rattle.records.specs.Limits.{mostVertex}
-use Rattle.records.specs.Fields.{bits, parted}
+use Rattle.records.specs.Fields.{bits, partsOf}
 use Rattle.records.specs.Width.{Width, five, seven, recordBits}
 use Rattle.records.specs.Record.{Location, onSurface, inVolume, recordIn, FitsIn, surface, volume, locationIn, legalIn, carried}
 use Rattle.records.specs.Record.{isVoxelIn, structureIn, payloadIn, iIn, jIn, kIn}
@@ -72,7 +72,7 @@ module _ {w : Width} (ok : Sound w) where
 
   -- legality by the first bit: without it the vertex counts, with it the size
   no-flag : (r : ℕ) → r < 2 ^ (w .structure + w .vertex) → isVoxelIn w r ≡ false
-  unfolding isVoxelIn bits parted
+  unfolding isVoxelIn bits partsOf
   no-flag r h =
       let lone : w .structure + (w .vertex + 0) ≡ w .structure + w .vertex = omega arith in
       let none : r / 2 ^ (w .structure + (w .vertex + 0)) % 2 ^ (w .flag) ≡ 0 =
@@ -80,13 +80,13 @@ module _ {w : Width} (ok : Sound w) where
       ne-eqb (r / 2 ^ (w .structure + (w .vertex + 0)) % 2 ^ (w .flag)) 1 (omega (arith, none))
 
   pub legal-low : (r : ℕ) → r < 2 ^ (w .structure + w .vertex) → leb (r % 2 ^ (w .vertex)) mostVertex ≡ legalIn w r
-  unfolding legalIn payloadIn bits parted
+  unfolding legalIn payloadIn bits partsOf
   legal-low r h =
       let small : r < 2 ^ recordBits w = lt-of-lt-of-le h (pow-mono (omega arith)) in
       rw (lt-ltb r (2 ^ recordBits w) small, no-flag r h, div-one)
 
   flagged : (r : ℕ) → 2 ^ (w .structure + w .vertex) ≤ r → r < 2 ^ recordBits w → isVoxelIn w r ≡ true
-  unfolding isVoxelIn bits parted
+  unfolding isVoxelIn bits partsOf
   flagged r h small =
       let b : ℕ = 2 ^ (w .structure + w .vertex) in
       let lone : w .structure + (w .vertex + 0) ≡ w .structure + w .vertex = omega arith in
@@ -136,7 +136,7 @@ old-record r e h =
     omega arith
 
 pub old-location : (r : ℕ) → r ≤ mostVertex → locationIn five r ≡ locationIn seven r
-unfolding locationIn isVoxelIn structureIn payloadIn bits parted
+unfolding locationIn isVoxelIn structureIn payloadIn bits partsOf
 old-location r h =
     let a : r / 2 ^ 34 % 32 ≡ 0 = omega arith in
     let b : r / 2 ^ 48 % 32 ≡ 0 = omega arith in

@@ -22,7 +22,7 @@ use Rattle.schema.specs.Asked.{Known}
 use Rattle.schema.specs.Walked.{Walks}
 use Rattle.schema.specs.declared.Walked.{Walked}
 use Rattle.schema.specs.declared.Checked.{Checked}
-use Rattle.schema.specs.Checked.{Judges, Checks, ChecksRoot, Written}
+use Rattle.schema.specs.Checked.{ChecksDocument, Checks, ChecksRoot, DocumentKnown}
 
 module _ {text : List ℕ} {kid : Kid} (e : kid ≡ root text) where
   root-at : {r : ℕ} → kid ≡ Child r → (d : Element) → Writes d text → Stands text r × (the text r ≡ d)
@@ -32,7 +32,7 @@ module _ {text : List ℕ} {kid : Kid} (e : kid ≡ root text) where
       let q : t .place ≡ r = cc in
       (rw (← q) (t .stands), ap (the text) (sym q) ∙ t .is)
 
-  pub root-kind : {r : ℕ} → kid ≡ Child r → {k : ℕ} → Written text k → Known text r k
+  pub root-kind : {r : ℕ} → kid ≡ Child r → {k : ℕ} → DocumentKnown text k → Known text r k
   root-kind h w = record { stands = root-at h (w .document) (w .writes) .0; known = let u = w .known in omega arith }
 
   pub root-checked : {r : ℕ} → kid ≡ Child r → {t l : List ℕ} {k : ℕ} {w : Walked} → Walks t l text r k w
@@ -53,7 +53,7 @@ module _ {text : List ℕ} {kid : Kid} (e : kid ≡ root text) where
 pub ruleset rooted = (root-kind, root-checked, root-missing, needs)
 
 module _ {text : List ℕ} {b : Bool} (w : WellFormed text b) where
-  pub check-written : b ≡ true → {k : ℕ} → k < 4294967296 → Written text k
+  pub check-written : b ≡ true → {k : ℕ} → k < 4294967296 → DocumentKnown text k
   check-written h u = let (e, x) = w .accepts h in record { document = e; writes = x; known = u }
 
   pub check-document : b ≡ true → {j k : ℕ} → j ≡ k → {t l : List ℕ} {r : Checked} → ChecksRoot t l j text r → Checks t l k text r

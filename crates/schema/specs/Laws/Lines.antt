@@ -17,7 +17,7 @@ use Rattle.lists.specs.Laws.Tables.{up-one, up-done}
 use Rattle.grammar.specs.Bytes.{ascii}
 use Rattle.grammar.specs.Document.{Element}
 use Rattle.grammar.specs.Look.{Word, is, nameOf, valueIn, attributesOf}
-use Rattle.grammar.specs.Parser.{same, name-at}
+use Rattle.grammar.specs.Parser.{sameBytes, name-at}
 use Rattle.grammar.specs.Read.{got}
 use Rattle.steps.specs.Step.{stepped, Went}
 use Rattle.steps.specs.Laws.Step.{fell, went}
@@ -38,7 +38,7 @@ use Rattle.schema.specs.Words.{numberIn}
 use Rattle.schema.specs.Table.{wordAt, entryWord, lineCell, choiceCell, caseCell, caseAt, casesOf, choiceBy, lineAt, linesOfKind}
 use Rattle.schema.specs.Table.{linesFrom, linesTo, orderAt, kindCell, whichAt, whichBy}
 use Rattle.schema.specs.Lines.{KindFor, kindOrNone, elseBy, inTurn, lineName, linePlace, kindNext}
-use Rattle.schema.specs.Asked.{Known, Timed, Turning, Lined}
+use Rattle.schema.specs.Asked.{Known, Timed, TurnAsked, Lined}
 use Rattle.schema.specs.Laws.Asked.{known-small}
 use Rattle.schema.specs.Laws.Searches.{less-suc}
 use Rattle.schema.specs.Laws.Attributes.{found-none, found-some}
@@ -133,7 +133,8 @@ module _ {t l : List ℕ} {x : Word} {from to i : ℕ} (go : Choosing t l x from
   unfolding kindAmong
   choosing-end h = kind-none 4294967296 (omega arith) ∙ sym (go .same-kind ∙ rw (up-done (caseAt t l) i to h))
 
-  module _ (h : i < to) {c : ℕ} (ce : c ≡ caseCell t i 0) {w : List ℕ} (e : w ≡ ascii (wordAt t l c)) {b : Bool} (n : b ≡ same x w) where
+  module _ (h : i < to) {c : ℕ} (ce : c ≡ caseCell t i 0) {w : List ℕ} (e : w ≡ ascii (wordAt t l c)) {b : Bool}
+      (n : b ≡ sameBytes x w) where
     said : b ≡ is (wordAt t l (caseCell t i 0)) x
     unfolding is
     said = n ∙ rw (e, ce)
@@ -227,7 +228,7 @@ module _ (t l : List ℕ) {text : List ℕ} {at line : ℕ} (p : Known text at l
 pub ruleset of-line = (line-always, line-choice, line-small, line-chosen, known-small, needs)
 
 -- IN TURN
-module _ (t : List ℕ) {kind from line : ℕ} (p : Turning kind from line) {o : ℕ} (e : o ≡ kindCell t kind 5) where
+module _ (t : List ℕ) {kind from line : ℕ} (p : TurnAsked kind from line) {o : ℕ} (e : o ≡ kindCell t kind 5) where
   pub turn-free : (last : ℕ) → o ≡ 0 → false ≡ not (inTurn (orderAt t kind) last (line - from))
   unfolding orderAt inTurn
   turn-free last z = rw (← e, z)
@@ -248,10 +249,10 @@ module _ (t : List ℕ) {kind from line : ℕ} (p : Turning kind from line) {o :
   unfolding orderAt
   turn-tested last n = turned (line - from) last ∙ sym (rw (← e) (ap not (in-order o n last)))
 
-pub turning-known : {kind from line : ℕ} → Turning kind from line → kind < 4294967304
+pub turning-known : {kind from line : ℕ} → TurnAsked kind from line → kind < 4294967304
 turning-known p = p .known
 
-pub turning-behind : {kind from line : ℕ} → Turning kind from line → from ≤ line
+pub turning-behind : {kind from line : ℕ} → TurnAsked kind from line → from ≤ line
 turning-behind p = p .behind
 
 pub ruleset turning = (turn-free, turn-tested, turning-known, turning-behind, needs)
@@ -310,7 +311,7 @@ module _ {t l text : List ℕ} {at kind from line to : ℕ} (p : Lined t l text 
     inside : spot < to - from
     inside = omega (arith, at-line)
 
-    pub child-turning : Turning kind from line
+    pub child-turning : TurnAsked kind from line
     child-turning = record { known = p .known; behind = lined-behind }
 
     pub child-of-line : Known text at line

@@ -12,7 +12,7 @@ use Rattle.lists.specs.Lists.{any, countUp}
 use Rattle.lists.specs.Laws.Tables.{up-one, up-done}
 use Rattle.grammar.specs.Bytes.{ascii}
 use Rattle.grammar.specs.Look.{Word, is}
-use Rattle.grammar.specs.Parser.{same}
+use Rattle.grammar.specs.Parser.{sameBytes}
 use Rattle.schema.specs.Words.{numberIn}
 use Rattle.schema.specs.Table.{entry, wordAt, entryWord}
 use Rattle.schema.specs.Parts.{amongWords}
@@ -43,10 +43,10 @@ module _ {f : ℕ → String} {x : Word} {from to i : ℕ} (go : Searching f x f
 
 -- among words
 module _ (t l : List ℕ) {x : Word} {from to i : ℕ} (go : Searching (wordAt t l) x from to i) (h : i < to) {w : List ℕ}
-    (e : w ≡ ascii (wordAt t l i)) {b : Bool} (k : b ≡ same x w) where
+    (e : w ≡ ascii (wordAt t l i)) {b : Bool} (k : b ≡ sameBytes x w) where
   word-said : b ≡ is (wordAt t l i) x
   unfolding is
-  word-said = k ∙ ap (same x) e
+  word-said = k ∙ ap (sameBytes x) e
 
   pub word-hit : b ≡ true → i ≡ from + numberIn (countUp (wordAt t l) from (to - from)) x
   word-hit = found go h word-said
@@ -58,7 +58,7 @@ pub ruleset searching-words = (search-start, search-end, word-hit, word-on, need
 
 -- among the words of entries
 module _ (t l : List ℕ) (p n : ℕ) {x : Word} {from to i : ℕ} (go : Searching (entryWord t l p n) x from to i) (h : i < to) {c : ℕ}
-    (ce : c ≡ entry t p n i 0) {w : List ℕ} (e : w ≡ ascii (wordAt t l c)) {b : Bool} (k : b ≡ same x w) where
+    (ce : c ≡ entry t p n i 0) {w : List ℕ} (e : w ≡ ascii (wordAt t l c)) {b : Bool} (k : b ≡ sameBytes x w) where
   entry-said : b ≡ is (entryWord t l p n i) x
   unfolding is entryWord
   entry-said = k ∙ rw (e, ce)

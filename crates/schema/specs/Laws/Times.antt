@@ -13,13 +13,13 @@ use borrow.Author.Needs.{needs}
 use Rattle.lists.specs.Lists.{all, countUp}
 use Rattle.lists.specs.Laws.Tables.{up-one, up-done}
 use Rattle.grammar.specs.Bytes.{ascii}
-use Rattle.grammar.specs.Parser.{same}
+use Rattle.grammar.specs.Parser.{sameBytes}
 use Rattle.grammar.specs.Look.{Word, is, nameOf}
 use Rattle.nodes.specs.Places.{Stands, the}
 use Rattle.schema.specs.Table.{wordAt, entryWord, lineCell, watched, watchedWord}
 use Rattle.schema.specs.Lines.{KindFor, lineName, linePlace, kindNext}
 use Rattle.schema.specs.Tallied.{standsBy, lineStands, timesBy, hereOne, watchedName, OneMore, Counts, Meets}
-use Rattle.schema.specs.Asked.{Timed, Here, Lined, Roomy, Counting, Tallying}
+use Rattle.schema.specs.Asked.{Timed, Here, Lined, CanCount, Counting, Tallying}
 use Rattle.schema.specs.declared.Tally.{Tally}
 use Rattle.schema.specs.Laws.Lines.{place-before, place-found, lined-place}
 
@@ -109,7 +109,7 @@ module _ {t l : List ℕ} {name : Word} {line i : ℕ} (p : Here t l name line i
   pub here-known : i < 4294967304
   here-known = p .known
 
-  module _ {c : ℕ} (ce : c ≡ lineCell t i 0) {x : List ℕ} (e : x ≡ ascii (wordAt t l c)) {b : Bool} (f : b ≡ same name x) where
+  module _ {c : ℕ} (ce : c ≡ lineCell t i 0) {x : List ℕ} (e : x ≡ ascii (wordAt t l c)) {b : Bool} (f : b ≡ sameBytes name x) where
     here-is : b ≡ is (lineName t l i) name
     unfolding entryWord is
     here-is = f ∙ rw (e, ce)
@@ -125,7 +125,7 @@ module _ {t l : List ℕ} {name : Word} {line i : ℕ} (p : Here t l name line i
 pub ruleset hereabout = (here-found, here-known, here-yes, here-no, needs)
 
 pub watched-is : (t l : List ℕ) (name : Word) {c : ℕ} → c ≡ getD t 7 0 → {x : List ℕ} → x ≡ ascii (wordAt t l c) → {b : Bool}
-    → b ≡ same name x → b ≡ watchedName t l name
+    → b ≡ sameBytes name x → b ≡ watchedName t l name
 unfolding watchedName watchedWord watched is
 watched-is t l name ce e f = f ∙ rw (e, ce)
 

@@ -18,7 +18,7 @@ use Rattle.schema.specs.Schema.{Form, word, number, anyValue, isWord, is
 use Rattle.schema.specs.Words.{numberIn}
 use Rattle.schema.specs.Table.{frontedAt, formBy, formAt, formCell, textFormBy, textFormAt}
 use Rattle.schema.specs.Faults.{fault}
-use Rattle.schema.specs.Parts.{amongWords, numberBy, labelBy, keysBy, textNumbered, textFault}
+use Rattle.schema.specs.Parts.{amongWords, numberBy, labelByForm, keysByForm, textNumbered, textFault}
 use Rattle.schema.specs.Asked.{Known}
 use Rattle.schema.specs.Laws.Searches.{among-found}
 
@@ -55,7 +55,7 @@ number-so x a b c false false false false false false false = refl
 
 module _ (t l : List ℕ) (x : Word) where
   number-form : (f a b c : ℕ) → isNumber (formBy t l f a b c) x ≡ numberBy f a b c x
-  unfolding formBy numberBy labelBy isNumber
+  unfolding formBy numberBy labelByForm isNumber
   number-form f a b c = go (eqb f 1) refl
     where
       go : (o : Bool) → eqb f 1 ≡ o
@@ -105,23 +105,24 @@ module _ (x : Word) (f a b c : ℕ) where
   unfolding numberBy
   by-three e h = rw e h
 
-  pub by-label : {t : Bool} → (f ≡ 2 → ⊥) → (f ≡ 3 → ⊥) → (f ≡ 4 → ⊥) → (f ≡ 5 → ⊥) → (f ≡ 6 → ⊥) → t ≡ labelBy f x → t ≡ numberBy f a b c x
+  pub by-label : {t : Bool} → (f ≡ 2 → ⊥) → (f ≡ 3 → ⊥) → (f ≡ 4 → ⊥) → (f ≡ 5 → ⊥) → (f ≡ 6 → ⊥) → t ≡ labelByForm f x
+      → t ≡ numberBy f a b c x
   unfolding numberBy
   by-label p q r s u h = h ∙ sym (rw (ne-eqb f 2 p, ne-eqb f 3 q, ne-eqb f 4 r, ne-eqb f 5 s, ne-eqb f 6 u) refl)
 
 pub ruleset forming = (right-words, right-free, right-number, by-dimensions, by-whole, by-decimal, by-exponent, by-three, by-label, needs)
 
 module _ (x : Word) (f : ℕ) where
-  pub by-key : {t : Bool} → f ≡ 7 → t ≡ key x → t ≡ labelBy f x
-  unfolding labelBy
+  pub by-key : {t : Bool} → f ≡ 7 → t ≡ key x → t ≡ labelByForm f x
+  unfolding labelByForm
   by-key e h = rw e h
 
-  pub by-colour : {t : Bool} → f ≡ 8 → t ≡ colour x → t ≡ labelBy f x
-  unfolding labelBy
+  pub by-colour : {t : Bool} → f ≡ 8 → t ≡ colour x → t ≡ labelByForm f x
+  unfolding labelByForm
   by-colour e h = rw e h
 
-  pub by-none : (f ≡ 7 → ⊥) → (f ≡ 8 → ⊥) → true ≡ labelBy f x
-  unfolding labelBy
+  pub by-none : (f ≡ 7 → ⊥) → (f ≡ 8 → ⊥) → true ≡ labelByForm f x
+  unfolding labelByForm
   by-none p q = rw (ne-eqb f 7 p, ne-eqb f 8 q)
 
 pub ruleset labelling = (by-key, by-colour, by-none, needs)
@@ -149,8 +150,8 @@ text-form t zero w h = absurd (h refl)
 text-form t (suc f) w h = let z : suc f - 1 ≡ f = omega arith in rw z
 
 -- those that are neither the sixteen nor whole numbers
-keys-form : (k a : ℕ) (w : Word) → (k ≡ 1 → ⊥) → (k ≡ 2 → ⊥) → isText (textFormBy k a) w ≡ keysBy k w
-unfolding textFormBy keysBy isText
+keys-form : (k a : ℕ) (w : Word) → (k ≡ 1 → ⊥) → (k ≡ 2 → ⊥) → isText (textFormBy k a) w ≡ keysByForm k w
+unfolding textFormBy keysByForm isText
 keys-form k a w p q = rw (ne-eqb k 1 p, ne-eqb k 2 q) (go (eqb k 3) (eqb k 4))
   where
     go : (b c : Bool) → isText (cond b (numbers keyList) (cond c (numbers coded) anyText)) w ≡ cond b (keyList w) (cond c (coded w) true)
@@ -159,16 +160,16 @@ keys-form k a w p q = rw (ne-eqb k 1 p, ne-eqb k 2 q) (go (eqb k 3) (eqb k 4))
     go false false = refl
 
 module _ (w : Word) (k : ℕ) where
-  pub by-list : {r : Bool} → k ≡ 3 → r ≡ keyList w → r ≡ keysBy k w
-  unfolding keysBy
+  pub by-list : {r : Bool} → k ≡ 3 → r ≡ keyList w → r ≡ keysByForm k w
+  unfolding keysByForm
   by-list e h = rw e h
 
-  pub by-code : {r : Bool} → k ≡ 4 → r ≡ coded w → r ≡ keysBy k w
-  unfolding keysBy
+  pub by-code : {r : Bool} → k ≡ 4 → r ≡ coded w → r ≡ keysByForm k w
+  unfolding keysByForm
   by-code e h = rw e h
 
-  pub by-any : (k ≡ 3 → ⊥) → (k ≡ 4 → ⊥) → true ≡ keysBy k w
-  unfolding keysBy
+  pub by-any : (k ≡ 3 → ⊥) → (k ≡ 4 → ⊥) → true ≡ keysByForm k w
+  unfolding keysByForm
   by-any p q = rw (ne-eqb k 3 p, ne-eqb k 4 q)
 
 pub ruleset keying = (by-list, by-code, by-any, needs)
@@ -190,9 +191,9 @@ module _ (t : List ℕ) {text : List ℕ} {at f : ℕ} (p₀ : Known text at f) 
     unfolding textFormAt textFormBy isText
     text-wholes e {a} q u = u ∙ ap (wholes a) (text-law (p₀ .stands)) ∙ sym (text-form t f w h ∙ rw (← i, e, ← q))
 
-    pub text-others : {r : Bool} → (k ≡ 1 → ⊥) → (k ≡ 2 → ⊥) → r ≡ keysBy k (text-of text at) → r ≡ textNumbered t f w
+    pub text-others : {r : Bool} → (k ≡ 1 → ⊥) → (k ≡ 2 → ⊥) → r ≡ keysByForm k (text-of text at) → r ≡ textNumbered t f w
     unfolding textFormAt
-    text-others p q u = u ∙ ap (keysBy k) (text-law (p₀ .stands))
+    text-others p q u = u ∙ ap (keysByForm k) (text-law (p₀ .stands))
         ∙ sym (text-form t f w h ∙ rw (← i) (keys-form k (formCell t (f - 1) 1) w p q))
 
 module _ (t : List ℕ) (f : ℕ) (w : Word) {b : Bool} where

@@ -17,7 +17,7 @@ use Rattle.grammar.specs.Look.{Word, elements, contentsOf, textOf}
 use Rattle.schema.specs.Schema.{kindOf, rowPlace}
 use Rattle.schema.specs.Laws.Everywhere.{called, below-children}
 use Rattle.nodes.specs.Places.{Stands, the}
-use Rattle.nodes.specs.Children.{first, next}
+use Rattle.nodes.specs.Children.{firstChild, next}
 use Rattle.nodes.specs.Laws.Children.{left, first-falls}
 use Rattle.nodes.specs.Scan.{skip-at, leave-at}
 use Rattle.nodes.specs.Laws.Skipping.{skip-element}
@@ -41,7 +41,7 @@ use Rattle.schema.specs.Lines.{inTurn, orderFrom, kindNext}
 use Rattle.schema.specs.Tallied.{timesBy, holding, OneMore, Meets}
 use Rattle.schema.specs.Faults.{fault, sooner, faultOf}
 use Rattle.schema.specs.Parts.{ownFault, textShaped, timesRight, orderRight, frameRight, kidsFault}
-use Rattle.schema.specs.Asked.{Known, Timed, Roomy, Tallying}
+use Rattle.schema.specs.Asked.{Known, Timed, CanCount, Tallying}
 use Rattle.schema.specs.Walked.{Owns, Walks, refusedWalk, finishedWalk}
 use Rattle.schema.specs.declared.Tally.{Tally}
 use Rattle.schema.specs.declared.Walked.{Walked}
@@ -51,7 +51,7 @@ use Rattle.schema.specs.Laws.Attributes.{own-faulty}
 use Rattle.schema.specs.Laws.Lines.{kind-none, kind-some}
 use Rattle.schema.specs.Laws.Counted.{times-law, order-start, order-end, Counted, counted-turn, counted-on}
 
-first-deeper : {text : List ℕ} {at : ℕ} → Stands text at → left text (first text at) < length text - at
+first-deeper : {text : List ℕ} {at : ℕ} → Stands text at → left text (firstChild text at) < length text - at
 unfolding left
 first-deeper st = first-falls st
 
@@ -135,7 +135,7 @@ module _ (t l : List ℕ) {text : List ℕ} {at kind : ℕ} (p : Known text at k
           stops = g;
           timed = record { few = rw (f, g) (few-lines t kind); small = omega arith };
           words-so = ap (λ n. not (eqb n 0)) o;
-          kid = first text at;
+          kid = firstChild text at;
           blanks = all blank (text-of text at);
           leaves = skip-at (drop at text);
           facing = facing-first text (not (eqb form 0)) at;
@@ -146,7 +146,7 @@ module _ (t l : List ℕ) {text : List ℕ} {at kind : ℕ} (p : Known text at k
           faulty = rw (own .fault-is) (own-faulty t l kind (the text at));
           faults = rw (own .fault-is, kids-children (p .stands));
           counted = none-counted t l kind from to _ _ (sym (kids-children (p .stands)));
-          room = λ q. rw (nothing-yet q) (let z = left-fits text (first text at) in omega arith);
+          room = λ q. rw (nothing-yet q) (let z = left-fits text (firstChild text at) in omega arith);
         })
 
 -- the answers

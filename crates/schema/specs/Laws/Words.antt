@@ -11,7 +11,7 @@ use borrow.Author.Tests.{eq-eqb}
 use Rattle.lists.specs.Lists.{countUp}
 use Rattle.grammar.specs.Bytes.{ascii, begins}
 use Rattle.grammar.specs.Look.{Word, is}
-use Rattle.grammar.specs.Parser.{same}
+use Rattle.grammar.specs.Parser.{sameBytes}
 use Rattle.nodes.specs.Values.{value-there, tells}
 use Rattle.nodes.specs.Fronts.{begins-at}
 use Rattle.nodes.specs.Laws.Fronts.{begins-so, begins-not}
@@ -27,18 +27,18 @@ unfolding lettered
 lettered-both [] b = refl
 lettered-both (x ∷ a) b = ap₂ (λ c l. c ∷ l) refl (lettered-both a b)
 
-same-behind : (f x w : List ℕ) → same (f ++ x) (f ++ w) ≡ same x w
-unfolding same
+same-behind : (f x w : List ℕ) → sameBytes (f ++ x) (f ++ w) ≡ sameBytes x w
+unfolding sameBytes
 same-behind [] x w = refl
 same-behind (a ∷ f) x w = rw (eq-eqb a a refl) (same-behind f x w)
 
-other-front : (f x w : List ℕ) → begins f x ≡ false → same x (f ++ w) ≡ false
-unfolding same begins
+other-front : (f x w : List ℕ) → begins f x ≡ false → sameBytes x (f ++ w) ≡ false
+unfolding sameBytes begins
 other-front [] x w h = absurd (false≢true (sym h))
 other-front (a ∷ f) [] w h = refl
 other-front (a ∷ f) (b ∷ x) w h = go (eqb b a) h (λ k. other-front f x w k)
   where
-    go : (t : Bool) → (t && begins f x) ≡ false → (begins f x ≡ false → same x (f ++ w) ≡ false) → (t && same x (f ++ w)) ≡ false
+    go : (t : Bool) → (t && begins f x) ≡ false → (begins f x ≡ false → sameBytes x (f ++ w) ≡ false) → (t && sameBytes x (f ++ w)) ≡ false
     go true k ih = ih k
     go false k ih = refl
 

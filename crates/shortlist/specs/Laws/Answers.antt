@@ -12,11 +12,11 @@ use Rattle.lists.specs.Refusals.{_when_, first}
 use Rattle.lists.specs.Laws.Booleans.{or-left, or-right, both-ways, or-true, or-false}
 use Rattle.records.specs.Outcome.{unless, ends, applies, passes, gives-first}
 use Rattle.records.specs.Find.{FirstPlace}
-use Rattle.shortlist.specs.Runs.{mostStructure, kindOf, kindIn, kindNumber, alike}
-use Rattle.shortlist.specs.Asking.{empty, noStructure, pastEnd, runsOnFrom, badList, holdsIndex, ofKind, the, noModel}
-use Rattle.shortlist.specs.Asking.{stretch, isRecord, ownStretch, toldNumber, toldVoxels, toldStructure, tellRefusal, Tells}
+use Rattle.shortlist.specs.Runs.{mostStructure, kindOf, kindIn, structureKind, ofOneKind}
+use Rattle.shortlist.specs.Asking.{empty, noStructure, pastEnd, runsOnFrom, badList, holdsIndex, ofKind, theModel, noModel}
+use Rattle.shortlist.specs.Asking.{recordsInRange, isRecord, ownStretch, toldNumber, toldVoxels, toldStructure, tellRefusal, Tells}
 use Rattle.shortlist.specs.Asking.{soughtNumber, soughtIndex, seekRefusal, StandsAt, Seeks}
-use Rattle.shortlist.specs.Search.{begun, nextOf, folded, toldOf, ownRecords, outside, Finding}
+use Rattle.shortlist.specs.Search.{begun, nextOf, folded, toldOf, ownRecords, listOutside, Finding}
 use Rattle.shortlist.specs.Laws.Runs.{kind-parts, kind-below}
 use Rattle.shortlist.specs.Laws.Search.{bad-is, past-seen, tells-one, tells-none, asked, from-seen, size-seen, the-has-not}
 use Rattle.shortlist.specs.declared.answer.Model.{Model}
@@ -28,9 +28,9 @@ use Rattle.shortlist.specs.declared.state.Search.{Search}
 structures : (l : List Model) → badList l ≡ false → any noStructure l ≡ false
 unfolding badList
 structures l h =
-    or-right (twoOf alike l) (any noStructure l)
-    (or-right (not (runsOnFrom 0 l)) (twoOf alike l || any noStructure l)
-    (or-right (any empty l) (not (runsOnFrom 0 l) || (twoOf alike l || any noStructure l)) h))
+    or-right (twoOf ofOneKind l) (any noStructure l)
+    (or-right (not (runsOnFrom 0 l)) (twoOf ofOneKind l || any noStructure l)
+    (or-right (any empty l) (not (runsOnFrom 0 l) || (twoOf ofOneKind l || any noStructure l)) h))
 
 none-above : noStructure noModel ≡ false
 unfolding noStructure
@@ -44,7 +44,7 @@ none-past n = le-ltb n 0 (omega arith)
 
 module _ (l : List Model) (n : ℕ) where
   holder : Model
-  holder = the (holdsIndex n) l
+  holder = theModel (holdsIndex n) l
 
   structured : badList l ≡ false → holder .structure ≤ mostStructure
   unfolding holder noStructure
@@ -101,20 +101,20 @@ module _ (l : List Model) (n : ℕ) where
 
 module _ (l : List Model) (rs : List ℕ) (x : ℕ) where
   own : Model
-  own = the (ofKind (kindOf x)) l
+  own = theModel (ofKind (kindOf x)) l
 
   abbrev seen : Search
   seen = folded nextOf (begun 0 (kindOf x) (length rs)) l
 
   same-stretch : badList l ≡ false → ownRecords seen rs ≡ ownStretch l rs x
-  unfolding ownStretch stretch own
+  unfolding ownStretch recordsInRange own
   same-stretch h =
       ap (λ n. take n (drop (seen .from) rs)) (size-seen 0 (kindOf x) (length rs) l h)
       ∙ ap (λ n. take (own .count) (drop n rs)) (from-seen 0 (kindOf x) (length rs) l h)
 
   -- the stretch lies among the records where no entry reaches past them
-  same-test : outside seen (length rs) ≡ (badList l || any (pastEnd (length rs)) l)
-  unfolding outside pastEnd own
+  same-test : listOutside seen (length rs) ≡ (badList l || any (pastEnd (length rs)) l)
+  unfolding listOutside pastEnd own
   same-test = by (badList l) refl
     where
       inside : badList l ≡ false → any (pastEnd (length rs)) l ≡ false → ltb (length rs) (seen .from + seen .size) ≡ false
@@ -141,7 +141,7 @@ module _ (l : List Model) (rs : List ℕ) (x : ℕ) where
           ∙ ap (λ t. t || ltb (length rs) (seen .from + seen .size)) (past-seen 0 (kindOf x) (length rs) l e)
           ∙ past (any (pastEnd (length rs)) l) refl e
 
-  same-number : first (26 when outside seen (length rs) ∷ 19 when not (isRecord x && any (eqb x) (ownRecords seen rs)) ∷ []) ≡
+  same-number : first (26 when listOutside seen (length rs) ∷ 19 when not (isRecord x && any (eqb x) (ownRecords seen rs)) ∷ []) ≡
       seekRefusal l rs x
   unfolding seekRefusal first
   same-number =

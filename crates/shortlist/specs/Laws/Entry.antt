@@ -14,9 +14,9 @@ use Rattle.lists.specs.Laws.Booleans.{or-left, or-right, or-first, or-second, o
 use Rattle.records.specs.Outcome.{ends, applies, passes, gives-first}
 use Rattle.records.specs.Find.{FirstPlace, Finds, findRefusal}
 use Rattle.records.specs.declared.search.Found.{Found}
-use Rattle.shortlist.specs.Runs.{kindNumber, kindIn}
+use Rattle.shortlist.specs.Runs.{structureKind, kindIn}
 use Rattle.shortlist.specs.Asking.{empty, noStructure, holdsIndex, ofKind, isRecord, soughtNumber, soughtIndex}
-use Rattle.shortlist.specs.Search.{bitSet, follows, badEntry, spoilt, taken, nextOf, toldOf, ownRecords, outside, Finding}
+use Rattle.shortlist.specs.Search.{bitSet, follows, badEntry, spoilt, withEntry, nextOf, toldOf, ownRecords, listOutside, Finding}
 use Rattle.shortlist.specs.Laws.Runs.{kind-below}
 use Rattle.shortlist.specs.Laws.Bits.{bit-fits}
 use Rattle.shortlist.specs.declared.answer.Model.{Model}
@@ -55,11 +55,11 @@ module _ (n : ℕ) (m : Model) where
 
 module _ (m : Model) where
   pub kind-voxels : m .voxels ≡ true → 32 + m .structure ≡ kindIn m
-  unfolding kindIn kindNumber
+  unfolding kindIn structureKind
   kind-voxels h = sym (ap (λ t. cond t 32 0 + m .structure) h)
 
   pub kind-surface : m .voxels ≡ false → m .structure ≡ kindIn m
-  unfolding kindIn kindNumber
+  unfolding kindIn structureKind
   kind-surface h = let z : 0 + m .structure ≡ m .structure = omega arith in sym z ∙ sym (ap (λ t. cond t 32 0 + m .structure) h)
 
   pub kind-place : (k : ℕ) → m .structure ≤ 31 → k ≡ kindIn m → k < 64
@@ -122,7 +122,7 @@ module _ (s : Search) (m : Model) where
 
   pub next-stays : s .bad ≡ true → s ≡ nextOf s m
   unfolding nextOf
-  next-stays h = same ∙ sym (ap (λ t. cond (t || badEntry s m) (spoilt s) (taken s m)) h)
+  next-stays h = same ∙ sym (ap (λ t. cond (t || badEntry s m) (spoilt s) (withEntry s m)) h)
     where
       same : s ≡ spoilt s
       same = λ i. record {
@@ -140,11 +140,11 @@ module _ (s : Search) (m : Model) where
 
   pub next-spoils : (b : Bool) → b ≡ badEntry s m → b ≡ true → spoilt s ≡ nextOf s m
   unfolding nextOf
-  next-spoils b p q = sym (ap (λ t. cond t (spoilt s) (taken s m)) (or-second (s .bad) (sym p ∙ q)))
+  next-spoils b p q = sym (ap (λ t. cond t (spoilt s) (withEntry s m)) (or-second (s .bad) (sym p ∙ q)))
 
-  pub next-takes : (b : Bool) (t : Search) → s .bad ≡ false → b ≡ badEntry s m → b ≡ false → t ≡ taken s m → t ≡ nextOf s m
+  pub next-takes : (b : Bool) (t : Search) → s .bad ≡ false → b ≡ badEntry s m → b ≡ false → t ≡ withEntry s m → t ≡ nextOf s m
   unfolding nextOf
-  next-takes b t g p q e = e ∙ sym (ap (λ t. cond t (spoilt s) (taken s m)) (or-neither g (sym p ∙ q)))
+  next-takes b t g p q e = e ∙ sym (ap (λ t. cond t (spoilt s) (withEntry s m)) (or-neither g (sym p ∙ q)))
 
   -- all that is noted of an entry
   pub taken-is : (k b t f z : ℕ) (here : Bool) → k ≡ kindIn m → b ≡ 2 ^ k → here ≡ holdsIndex (s .index .0) m
@@ -161,8 +161,8 @@ module _ (s : Search) (m : Model) where
         tells = t;
         from = f;
         size = z;
-      } ≡ taken s m
-  unfolding taken ofKind
+      } ≡ withEntry s m
+  unfolding withEntry ofKind
   taken-is k b t f z here pk pb ph pt pf pz = λ i. record {
     index = s .index;
     kind = s .kind;
@@ -194,17 +194,17 @@ module _ (s : Search) where
   -- ---- What is sought.
 
   pub outside-is : (n : ℕ) (a b : Bool) → a ≡ ltb (s .most) (s .first + s .count) → b ≡ ltb n (s .from + s .size)
-      → ((s .bad || a) || b) ≡ outside s n
-  unfolding outside
+      → ((s .bad || a) || b) ≡ listOutside s n
+  unfolding listOutside
   outside-is n a b p q = ap (λ t. (s .bad || t) || b) p ∙ ap (λ t. (s .bad || ltb (s .most) (s .first + s .count)) || t) q
 
-  pub inside : (n : ℕ) (b : Bool) → b ≡ outside s n → b ≡ false → s .from + s .size ≤ n
-  unfolding outside
+  pub inside : (n : ℕ) (b : Bool) → b ≡ listOutside s n → b ≡ false → s .from + s .size ≤ n
+  unfolding listOutside
   inside n b p q =
       ltb-false n (s .from + s .size) (or-right (s .bad || ltb (s .most) (s .first + s .count)) _ (sym p ∙ q))
 
 module _ (rs : List ℕ) (s : Search) (x : ℕ) where
-  pub sought-outside : (b : Bool) → b ≡ outside s (length rs) → b ≡ true → Finding rs s x Sought.BadList
+  pub sought-outside : (b : Bool) → b ≡ listOutside s (length rs) → b ≡ true → Finding rs s x Sought.BadList
   unfolding soughtNumber soughtIndex
   sought-outside b p q = record {
     numbered = sym (gives-first (applies (sym p ∙ q)));
@@ -214,7 +214,7 @@ module _ (rs : List ℕ) (s : Search) (x : ℕ) where
     refused = λ z. refl;
   }
 
-  nowhere : outside s (length rs) ≡ false → (isRecord x && any (eqb x) (ownRecords s rs)) ≡ false → Finding rs s x Sought.Nowhere
+  nowhere : listOutside s (length rs) ≡ false → (isRecord x && any (eqb x) (ownRecords s rs)) ≡ false → Finding rs s x Sought.Nowhere
   unfolding soughtNumber soughtIndex
   nowhere p q = record {
     numbered = sym (gives-first (passes p (applies (ap not q))));
@@ -224,7 +224,7 @@ module _ (rs : List ℕ) (s : Search) (x : ℕ) where
     refused = λ z. refl;
   }
 
-  pub sought-no-record : (a b : Bool) → a ≡ outside s (length rs) → a ≡ false → b ≡ isRecord x → not b ≡ true
+  pub sought-no-record : (a b : Bool) → a ≡ listOutside s (length rs) → a ≡ false → b ≡ isRecord x → not b ≡ true
       → Finding rs s x Sought.Nowhere
   sought-no-record a b p q u v =
       nowhere (sym p ∙ q) (ap (λ t. t && any (eqb x) (ownRecords s rs)) (sym u ∙ not-true b v))
@@ -250,7 +250,7 @@ module _ (rs : List ℕ) (s : Search) (x : ℕ) where
       by true e k = absurd (z k)
       by false e k = e
 
-  module _ (a b : Bool) (f : Found) (p : a ≡ outside s (length rs)) (q : a ≡ false) (u : b ≡ isRecord x) (v : not b ≡ false)
+  module _ (a b : Bool) (f : Found) (p : a ≡ listOutside s (length rs)) (q : a ≡ false) (u : b ≡ isRecord x) (v : not b ≡ false)
       (h : Finds (take (s .from + s .size - s .from) (drop (s .from) rs)) x f) where
     pub sought-found : f .number ≡ 0 → Finding rs s x (Sought.At (record { 0 = s .from + f .place .0 }))
     unfolding soughtNumber soughtIndex

@@ -19,8 +19,8 @@ use Rattle.records.specs.Record.{isVoxel, structureOf, legalRecord}
 use Rattle.records.specs.Find.{FirstPlace, Finds, findRefusal}
 use Rattle.lists.specs.Laws.Numbers.{eq?}
 use Rattle.records.specs.declared.search.Found.{Found}
-use Rattle.shortlist.specs.Runs.{kindNumber, kindOf, kindIn, alike, runs, comesBack}
-use Rattle.shortlist.specs.Asking.{pastEnd, holdsIndex, ofKind, the, stretch, isRecord, ownStretch}
+use Rattle.shortlist.specs.Runs.{structureKind, kindOf, kindIn, ofOneKind, runs, comesBack}
+use Rattle.shortlist.specs.Asking.{pastEnd, holdsIndex, ofKind, theModel, recordsInRange, isRecord, ownStretch}
 use Rattle.shortlist.specs.Asking.{soughtNumber, soughtIndex, seekRefusal, Seeks}
 use Rattle.shortlist.specs.Laws.Location.{legal-is-record}
 use Rattle.shortlist.specs.Laws.Search.{the-cons, the-has-not}
@@ -33,49 +33,51 @@ use Rattle.shortlist.specs.declared.answer.Sought.{Sought}
 -- ---- The entry that holds an index of a kind is the entry of the kind, where no kind comes twice.
 
 -- the entry that is found is one of the list
-the-among : (p q : Model → Bool) (l : List Model) → any p l ≡ true → q (the p l) ≡ true → any q l ≡ true
+the-among : (p q : Model → Bool) (l : List Model) → any p l ≡ true → q (theModel p l) ≡ true → any q l ≡ true
 unfolding any
 the-among p q [] h k = both-ways h refl
 the-among p q (m ∷ l) h k = by (p m) refl h (the-among p q l)
   where
-    by : (b : Bool) → p m ≡ b → (b || any p l) ≡ true → (any p l ≡ true → q (the p l) ≡ true → any q l ≡ true) → (q m || any q l) ≡ true
-    by true e u ih = or-first (q m) (any q l) (sym (ap q (the-cons p m l ∙ ap (λ b. cond b m (the p l)) e)) ∙ k)
-    by false e u ih = or-second (q m) (ih u (sym (ap q (the-cons p m l ∙ ap (λ b. cond b m (the p l)) e)) ∙ k))
+    by : (b : Bool) → p m ≡ b → (b || any p l) ≡ true → (any p l ≡ true → q (theModel p l) ≡ true → any q l ≡ true)
+        → (q m || any q l) ≡ true
+    by true e u ih = or-first (q m) (any q l) (sym (ap q (the-cons p m l ∙ ap (λ b. cond b m (theModel p l)) e)) ∙ k)
+    by false e u ih = or-second (q m) (ih u (sym (ap q (the-cons p m l ∙ ap (λ b. cond b m (theModel p l)) e)) ∙ k))
 
-own-is : (n k : ℕ) (l : List Model) → twoOf alike l ≡ false → any (holdsIndex n) l ≡ true → kindIn (the (holdsIndex n) l) ≡ k
-    → the (ofKind k) l ≡ the (holdsIndex n) l
-unfolding any twoOf alike ofKind
+own-is : (n k : ℕ) (l : List Model) → twoOf ofOneKind l ≡ false → any (holdsIndex n) l ≡ true → kindIn (theModel (holdsIndex n) l) ≡ k
+    → theModel (ofKind k) l ≡ theModel (holdsIndex n) l
+unfolding any twoOf ofOneKind ofKind
 own-is n k [] a h e = both-ways h refl
-own-is n k (m ∷ l) a h e = by (holdsIndex n m) refl h (own-is n k l (or-right (any (alike m) l) (twoOf alike l) a))
+own-is n k (m ∷ l) a h e = by (holdsIndex n m) refl h (own-is n k l (or-right (any (ofOneKind m) l) (twoOf ofOneKind l) a))
   where
-    t : (b : Bool) → holdsIndex n m ≡ b → the (holdsIndex n) (m ∷ l) ≡ cond b m (the (holdsIndex n) l)
-    t b q = the-cons (holdsIndex n) m l ∙ ap (λ b. cond b m (the (holdsIndex n) l)) q
+    t : (b : Bool) → holdsIndex n m ≡ b → theModel (holdsIndex n) (m ∷ l) ≡ cond b m (theModel (holdsIndex n) l)
+    t b q = the-cons (holdsIndex n) m l ∙ ap (λ b. cond b m (theModel (holdsIndex n) l)) q
 
-    o : (b : Bool) → eqb (kindIn m) k ≡ b → the (ofKind k) (m ∷ l) ≡ cond b m (the (ofKind k) l)
-    o b q = the-cons (ofKind k) m l ∙ ap (λ b. cond b m (the (ofKind k) l)) q
+    o : (b : Bool) → eqb (kindIn m) k ≡ b → theModel (ofKind k) (m ∷ l) ≡ cond b m (theModel (ofKind k) l)
+    o b q = the-cons (ofKind k) m l ∙ ap (λ b. cond b m (theModel (ofKind k) l)) q
 
-    other : kindIn (the (holdsIndex n) l) ≡ k → any (holdsIndex n) l ≡ true → eqb (kindIn m) k ≡ false
+    other : kindIn (theModel (holdsIndex n) l) ≡ k → any (holdsIndex n) l ≡ true → eqb (kindIn m) k ≡ false
     other f u =
         refute (eqb (kindIn m) k)
         (λ s. both-ways
-        (the-among (holdsIndex n) (alike m) l u (eq-eqb (kindIn m) (kindIn (the (holdsIndex n) l)) (eqb-true (kindIn m) k s ∙ sym f)))
-        (or-left (any (alike m) l) (twoOf alike l) a))
+        (the-among (holdsIndex n) (ofOneKind m) l u
+        (eq-eqb (kindIn m) (kindIn (theModel (holdsIndex n) l)) (eqb-true (kindIn m) k s ∙ sym f)))
+        (or-left (any (ofOneKind m) l) (twoOf ofOneKind l) a))
 
     by : (b : Bool) → holdsIndex n m ≡ b → (b || any (holdsIndex n) l) ≡ true
-        → (any (holdsIndex n) l ≡ true → kindIn (the (holdsIndex n) l) ≡ k → the (ofKind k) l ≡ the (holdsIndex n) l)
-        → the (ofKind k) (m ∷ l) ≡ the (holdsIndex n) (m ∷ l)
+        → (any (holdsIndex n) l ≡ true → kindIn (theModel (holdsIndex n) l) ≡ k → theModel (ofKind k) l ≡ theModel (holdsIndex n) l)
+        → theModel (ofKind k) (m ∷ l) ≡ theModel (holdsIndex n) (m ∷ l)
     by true q u ih =
         let f : kindIn m ≡ k = ap kindIn (sym (t true q)) ∙ e in
         o true (eq-eqb (kindIn m) k f) ∙ sym (t true q)
     by false q u ih =
-        let f : kindIn (the (holdsIndex n) l) ≡ k = ap kindIn (sym (t false q)) ∙ e in
+        let f : kindIn (theModel (holdsIndex n) l) ≡ k = ap kindIn (sym (t false q)) ∙ e in
         o false (other f u) ∙ ih u f ∙ sym (t false q)
 
 -- ---- In the records.
 
 module _ (rs : List ℕ) (made : WasMade rs) (x : ℕ) where
   own : Model
-  own = the (ofKind (kindOf x)) (runs rs)
+  own = theModel (ofKind (kindOf x)) (runs rs)
 
   -- the stretch lies among the records
   own-inside : own .first .0 + own .count ≤ length rs
@@ -85,11 +87,11 @@ module _ (rs : List ℕ) (made : WasMade rs) (x : ℕ) where
       (the-has-not (ofKind (kindOf x)) (pastEnd (length rs)) (runs rs) (list-good rs made .not-past) (none-past (length rs)))
 
   long : length (ownStretch (runs rs) rs x) ≡ own .count
-  unfolding ownStretch stretch own
+  unfolding ownStretch recordsInRange own
   long = length-take-le (own .count) (drop (own .first .0) rs) (omega (arith, length-drop (own .first .0) rs, own-inside))
 
   at : (i : ℕ) → i < own .count → getD (ownStretch (runs rs) rs x) i 0 ≡ getD rs (own .first .0 + i) 0
-  unfolding ownStretch stretch own
+  unfolding ownStretch recordsInRange own
   at i h = getD-take (own .count) (drop (own .first .0) rs) i 0 h ∙ getD-drop (own .first .0) rs i 0
 
   -- where the record stands, its own stretch holds it
@@ -97,16 +99,17 @@ module _ (rs : List ℕ) (made : WasMade rs) (x : ℕ) where
   unfolding own holdsIndex comesBack kindIn kindOf
   held p h e =
       let k = held-as rs p h in
-      let same : kindIn (the (holdsIndex p) (runs rs)) ≡ kindOf x = kinds k ∙ ap kindOf e in
+      let same : kindIn (theModel (holdsIndex p) (runs rs)) ≡ kindOf x = kinds k ∙ ap kindOf e in
       let o = own-is p (kindOf x) (runs rs) (made .apart) (k .there) same in
       let t : holdsIndex p own ≡ true = ap (holdsIndex p) o ∙ k .holds in (
         leb-true (own .first .0) p (and-left (leb (own .first .0) p) (ltb p (own .first .0 + own .count)) t),
         ltb-true p (own .first .0 + own .count) (and-right (leb (own .first .0) p) (ltb p (own .first .0 + own .count)) t),
       )
     where
-      kinds : HeldAs p (isVoxel (getD rs p 0)) (structureOf (getD rs p 0)) (runs rs) → kindIn (the (holdsIndex p) (runs rs)) ≡ kindOf
+      kinds : HeldAs p (isVoxel (getD rs p 0)) (structureOf (getD rs p 0)) (runs rs) → kindIn (theModel (holdsIndex p) (runs rs)) ≡ kindOf
           (getD rs p 0)
-      kinds k = ap (λ v. kindNumber v ((the (holdsIndex p) (runs rs)) .structure)) (k .voxels) ∙ ap (kindNumber (isVoxel (getD rs p 0)))
+      kinds k = ap (λ v. structureKind v ((theModel (holdsIndex p) (runs rs)) .structure)) (k .voxels)
+          ∙ ap (structureKind (isVoxel (getD rs p 0)))
           (k .structure)
 
   -- the first place among the records is the first place in the stretch

@@ -21,7 +21,7 @@ use Rattle.lists.specs.Laws.Numbers.{eq?}
 use Rattle.shortlist.specs.Runs.{runs, comesBack, laid}
 use Rattle.shortlist.specs.Making.{listRefusal, listedNumber, listedCount, Lists}
 use Rattle.shortlist.specs.Asking.{noModel}
-use Rattle.shortlist.specs.Made.{modelAt, filled, refusedBy, listedBy, RunsOf, MadeOf}
+use Rattle.shortlist.specs.Made.{modelAt, entriesFilled, refusedBy, listAnswer, RunsOf, MadeOf}
 use Rattle.shortlist.specs.Laws.Runs.{table-snoc}
 use Rattle.shortlist.specs.declared.answer.Model.{Model}
 use Rattle.shortlist.specs.declared.answer.Listed.{Listed}
@@ -122,7 +122,7 @@ pub ruleset making = (stops-count, stops-short, made-whole)
 -- ---- The list lent.
 
 -- filled entry by entry is laid over its start
-pub filled-laid : (n : ℕ) (f : ℕ → Model) (l : List Model) → n ≤ length l → filled n f l ≡ table n f ++ drop n l
+pub filled-laid : (n : ℕ) (f : ℕ → Model) (l : List Model) → n ≤ length l → entriesFilled n f l ≡ table n f ++ drop n l
 unfolding table countUp
 filled-laid zero f l h = refl
 filled-laid (suc n) f l h =
@@ -135,11 +135,11 @@ filled-laid (suc n) f l h =
 
 -- ---- The answer.
 
-number-of : (rs : List ℕ) (room c : ℕ) → listedNumber (listedBy (listRefusal rs room) c) ≡ listRefusal rs room
-unfolding listRefusal first listedNumber listedBy
+number-of : (rs : List ℕ) (room c : ℕ) → listedNumber (listAnswer (listRefusal rs room) c) ≡ listRefusal rs room
+unfolding listRefusal first listedNumber listAnswer
 number-of rs room c = go (not (goodCount (length rs))) (not (all legalRecord rs)) (comesBack rs) (ltb room (length (runs rs)))
   where
-    go : (t u v w : Bool) → listedNumber (listedBy (first (15 when t ∷ 16 when u ∷ 26 when v ∷ 17 when w ∷ [])) c)
+    go : (t u v w : Bool) → listedNumber (listAnswer (first (15 when t ∷ 16 when u ∷ 26 when v ∷ 17 when w ∷ [])) c)
         ≡ first (15 when t ∷ 16 when u ∷ 26 when v ∷ 17 when w ∷ [])
     go true u v w = refl
     go false true v w = refl
@@ -147,25 +147,26 @@ number-of rs room c = go (not (goodCount (length rs))) (not (all legalRecord rs)
     go false false false true = refl
     go false false false false = refl
 
-count-of : (rs : List ℕ) (room c : ℕ) → (listRefusal rs room ≡ 0 → ⊥) → listedCount (listedBy (listRefusal rs room) c) ≡ 0
-unfolding listRefusal first listedCount listedBy
+count-of : (rs : List ℕ) (room c : ℕ) → (listRefusal rs room ≡ 0 → ⊥) → listedCount (listAnswer (listRefusal rs room) c) ≡ 0
+unfolding listRefusal first listedCount listAnswer
 count-of rs room c = go (not (goodCount (length rs))) (not (all legalRecord rs)) (comesBack rs) (ltb room (length (runs rs)))
   where
     go : (t u v w : Bool) → (first (15 when t ∷ 16 when u ∷ 26 when v ∷ 17 when w ∷ []) ≡ 0 → ⊥)
-        → listedCount (listedBy (first (15 when t ∷ 16 when u ∷ 26 when v ∷ 17 when w ∷ [])) c) ≡ 0
+        → listedCount (listAnswer (first (15 when t ∷ 16 when u ∷ 26 when v ∷ 17 when w ∷ [])) c) ≡ 0
     go true u v w z = refl
     go false true v w z = refl
     go false false true w z = refl
     go false false false true z = refl
     go false false false false z = absurd (z refl)
 
-models-of : (n c : ℕ) → n ≡ 0 → listedCount (listedBy n c) ≡ c
-unfolding listedCount listedBy
+models-of : (n c : ℕ) → n ≡ 0 → listedCount (listAnswer n c) ≡ c
+unfolding listedCount listAnswer
 models-of n c e = rw e
 
 -- what was made, and filled into the list lent, is what is promised
 pub lists-made : (rs : List ℕ) (before after : List Model) (made : Made) (answer : Listed) → MadeOf rs (length before) made
-    → after ≡ filled (made .count) (modelAt made) before → answer ≡ listedBy (made .number) (made .count) → Lists rs before answer after
+    → after ≡ entriesFilled (made .count) (modelAt made) before → answer ≡ listAnswer (made .number) (made .count)
+    → Lists rs before answer after
 unfolding laid
 lists-made rs before after made answer o e a = record {
   numbered = number;
@@ -176,8 +177,8 @@ lists-made rs before after made answer o e a = record {
     n : ℕ
     n = listRefusal rs (length before)
 
-    from-n : answer ≡ listedBy n (made .count)
-    from-n = a ∙ ap (λ k. listedBy k (made .count)) (o .numbered)
+    from-n : answer ≡ listAnswer n (made .count)
+    from-n = a ∙ ap (λ k. listAnswer k (made .count)) (o .numbered)
 
     number : listedNumber answer ≡ n
     number = ap listedNumber from-n ∙ number-of rs (length before) (made .count)
@@ -209,29 +210,29 @@ lists-made rs before after made answer o e a = record {
 
     same : (made .number ≡ 0 → ⊥) → after ≡ unless (listedNumber answer) (laid (runs rs) before) before
     same z =
-        e ∙ ap (λ k. filled k (modelAt made) before) (o .none z)
+        e ∙ ap (λ k. entriesFilled k (modelAt made) before) (o .none z)
         ∙ sym (ap (λ b. cond b (laid (runs rs) before) before) (ne-eqb (listedNumber answer) 0 (not-zero z)))
 
 -- the answer, as code chooses it
 module _ (n c : ℕ) where
-  pub listed-15 : n ≡ 15 → Listed.BadCount ≡ listedBy n c
-  unfolding listedBy
+  pub listed-15 : n ≡ 15 → Listed.BadCount ≡ listAnswer n c
+  unfolding listAnswer
   listed-15 h = sym (rw h)
 
-  pub listed-16 : n ≡ 16 → Listed.BadRecord ≡ listedBy n c
-  unfolding listedBy
+  pub listed-16 : n ≡ 16 → Listed.BadRecord ≡ listAnswer n c
+  unfolding listAnswer
   listed-16 h = sym (rw h)
 
-  pub listed-26 : n ≡ 26 → Listed.Parted ≡ listedBy n c
-  unfolding listedBy
+  pub listed-26 : n ≡ 26 → Listed.Parted ≡ listAnswer n c
+  unfolding listAnswer
   listed-26 h = sym (rw h)
 
-  pub listed-17 : n ≡ 17 → Listed.TooShort ≡ listedBy n c
-  unfolding listedBy
+  pub listed-17 : n ≡ 17 → Listed.TooShort ≡ listAnswer n c
+  unfolding listAnswer
   listed-17 h = sym (rw h)
 
-  pub listed-0 : (n ≡ 15 → ⊥) → (n ≡ 16 → ⊥) → (n ≡ 26 → ⊥) → (n ≡ 17 → ⊥) → Listed.Models c ≡ listedBy n c
-  unfolding listedBy
+  pub listed-0 : (n ≡ 15 → ⊥) → (n ≡ 16 → ⊥) → (n ≡ 26 → ⊥) → (n ≡ 17 → ⊥) → Listed.Models c ≡ listAnswer n c
+  unfolding listAnswer
   listed-0 p q r s = sym (rw (ne-eqb n 15 p, ne-eqb n 16 q, ne-eqb n 26 r, ne-eqb n 17 s))
 
 pub ruleset listing = (listed-15, listed-16, listed-26, listed-17, listed-0)

@@ -12,7 +12,7 @@ use lib.Seq.{getD-set-same, getD-set-other}
 use borrow.Author.Tests.{eqb-true, eqb-false}
 use Rattle.lists.specs.Lists.{any, count, twoOf}
 use Rattle.lists.specs.Laws.Lists.{any-none, any-same}
-use Rattle.shortlist.specs.Runs.{kindIn, alike}
+use Rattle.shortlist.specs.Runs.{kindIn, ofOneKind}
 use Rattle.shortlist.specs.declared.answer.Model.{Model}
 
 -- the kind of the model has been named
@@ -21,18 +21,18 @@ isNamed seen m = seen (kindIn m)
 
 -- a kind of the list has been named, or is named twice in it
 unfoldable pub again : (ℕ → Bool) → List Model → Bool
-again seen l = any (isNamed seen) l || twoOf alike l
+again seen l = any (isNamed seen) l || twoOf ofOneKind l
 
 -- a test that takes one kind more for named
 abbrev pub Adds : (seen more : ℕ → Bool) → ℕ → Type 0
 Adds seen more k = (j : ℕ) → more j ≡ (eqb k j || seen j)
 
 named-more : (seen more : ℕ → Bool) (m : Model) (l : List Model) → Adds seen more (kindIn m)
-    → any (isNamed more) l ≡ (any (alike m) l || any (isNamed seen) l)
-unfolding any isNamed alike
+    → any (isNamed more) l ≡ (any (ofOneKind m) l || any (isNamed seen) l)
+unfolding any isNamed ofOneKind
 named-more seen more m [] h = refl
 named-more seen more m (n ∷ l) h = rw (h (kindIn n), named-more seen more m l h)
-    (shuffle (eqb (kindIn m) (kindIn n)) (seen (kindIn n)) (any (alike m) l) (any (isNamed seen) l))
+    (shuffle (eqb (kindIn m) (kindIn n)) (seen (kindIn n)) (any (ofOneKind m) l) (any (isNamed seen) l))
   where
     shuffle : (a b c d : Bool) → ((a || b) || (c || d)) ≡ ((a || c) || (b || d))
     shuffle true b c d = refl
@@ -45,7 +45,7 @@ pub again-new : (seen more : ℕ → Bool) (m : Model) (l : List Model) → Adds
     → again seen (m ∷ l) ≡ again more l
 unfolding again any twoOf isNamed
 again-new seen more m l h e =
-    rw (e, named-more seen more m l h) (shuffle (any (isNamed seen) l) (any (alike m) l) (twoOf alike l))
+    rw (e, named-more seen more m l h) (shuffle (any (isNamed seen) l) (any (ofOneKind m) l) (twoOf ofOneKind l))
   where
     shuffle : (a b c : Bool) → (a || (b || c)) ≡ ((b || a) || c)
     shuffle true true c = refl
@@ -63,7 +63,7 @@ unfolding again any twoOf
 again-done seen = refl
 
 -- no kind has been named
-pub again-first : (seen : ℕ → Bool) (l : List Model) → ((k : ℕ) → seen k ≡ false) → again seen l ≡ twoOf alike l
+pub again-first : (seen : ℕ → Bool) (l : List Model) → ((k : ℕ) → seen k ≡ false) → again seen l ≡ twoOf ofOneKind l
 unfolding again isNamed
 again-first seen l h = let e : any (isNamed seen) l ≡ false = any-same (λ m. h (kindIn m)) l ∙ any-none l in rw e
 

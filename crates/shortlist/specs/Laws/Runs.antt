@@ -12,25 +12,25 @@ use lib.Pow.{pow-pos}
 use lib.Seq.{drop-cons}
 use borrow.Author.Tests.{le-leb, lt-leb, leb-true, leb-false, eq-eqb, ne-eqb}
 use Rattle.lists.specs.Lists.{table, countUp}
-use Rattle.records.specs.Fields.{bits, parted}
+use Rattle.records.specs.Fields.{bits, partsOf}
 use Rattle.records.specs.Record.{isVoxel, structureOf, structureIn}
-use Rattle.shortlist.specs.Runs.{mostStructure, kindNumber, kindOf, kindIn, alone, runsOn, runsFrom}
+use Rattle.shortlist.specs.Runs.{mostStructure, structureKind, kindOf, kindIn, alone, runsOn, runsFrom}
 use Rattle.shortlist.specs.declared.answer.Model.{Model}
 
 -- ---- A kind and its parts.
 
-pub kind-parts : (v : Bool) (s : ℕ) → s ≤ mostStructure → (leb 32 (kindNumber v s) ≡ v) × (kindNumber v s % 32 ≡ s)
-unfolding kindNumber
+pub kind-parts : (v : Bool) (s : ℕ) → s ≤ mostStructure → (leb 32 (structureKind v s) ≡ v) × (structureKind v s % 32 ≡ s)
+unfolding structureKind
 kind-parts true s h = (le-leb 32 (32 + s) (omega arith), omega arith)
 kind-parts false s h = (lt-leb 32 (0 + s) (omega arith), omega arith)
 
-pub kind-below : (v : Bool) (s : ℕ) → s ≤ mostStructure → kindNumber v s < 64
-unfolding kindNumber
+pub kind-below : (v : Bool) (s : ℕ) → s ≤ mostStructure → structureKind v s < 64
+unfolding structureKind
 kind-below true s h = omega arith
 kind-below false s h = omega arith
 
-pub kind-again : (k : ℕ) → k < 64 → kindNumber (leb 32 k) (k % 32) ≡ k
-unfolding kindNumber
+pub kind-again : (k : ℕ) → k < 64 → structureKind (leb 32 k) (k % 32) ≡ k
+unfolding structureKind
 kind-again k h = by (leb 32 k) refl
   where
     by : (b : Bool) → leb 32 k ≡ b → cond b 32 0 + k % 32 ≡ k
@@ -38,7 +38,7 @@ kind-again k h = by (leb 32 k) refl
     by false e = let u = leb-false 32 k e in omega arith
 
 pub structure-small : (r : ℕ) → structureOf r ≤ mostStructure
-unfolding structureIn bits parted
+unfolding structureIn bits partsOf
 structure-small r = let h : structureOf r < 32 = mod-lt _ (pow-pos 5) in omega arith
 
 pub kind-small : (r : ℕ) → kindOf r < 64
@@ -47,13 +47,13 @@ kind-small r = kind-below (isVoxel r) (structureOf r) (structure-small r)
 
 -- the kind of a record, as code finds it
 pub voxel-kind : (n s : ℕ) (b : Bool) → s ≡ structureOf n → b ≡ isVoxel n → b ≡ true → (32 + s ≡ kindOf n) × (32 + s < 64)
-unfolding kindOf kindNumber
+unfolding kindOf structureKind
 voxel-kind n s b p q e =
     let k : 32 + s ≡ kindOf n = ap (λ t. 32 + t) p ∙ sym (ap (λ t. cond t 32 0 + structureOf n) (sym q ∙ e)) in
     (k, omega (arith, p, structure-small n))
 
 pub surface-kind : (n s : ℕ) (b : Bool) → s ≡ structureOf n → b ≡ isVoxel n → b ≡ false → (s ≡ kindOf n) × (s < 64)
-unfolding kindOf kindNumber
+unfolding kindOf structureKind
 surface-kind n s b p q e =
     let z : 0 + structureOf n ≡ structureOf n = omega arith in
     let k : s ≡ kindOf n = p ∙ sym z ∙ sym (ap (λ t. cond t 32 0 + structureOf n) (sym q ∙ e)) in

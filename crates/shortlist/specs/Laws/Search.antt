@@ -10,9 +10,9 @@ use lib.ListN.{getD}
 use borrow.Author.Tests.{eqb-true, eqb-false, ltb-true, ltb-false, lt-ltb, le-ltb, lt-leb, eq-eqb, ne-eqb, not-false}
 use Rattle.lists.specs.Lists.{any, those, twoOf}
 use Rattle.lists.specs.Laws.Booleans.{or-left, or-right, or-first, or-true, or-false, or-neither, and-right, and-halves, both-ways}
-use Rattle.shortlist.specs.Runs.{kindIn, alike}
-use Rattle.shortlist.specs.Asking.{empty, noStructure, pastEnd, runsOnFrom, badList, holdsIndex, ofKind, the, noModel}
-use Rattle.shortlist.specs.Search.{bitSet, begun, follows, badEntry, spoilt, taken, nextOf, folded}
+use Rattle.shortlist.specs.Runs.{kindIn, ofOneKind}
+use Rattle.shortlist.specs.Asking.{empty, noStructure, pastEnd, runsOnFrom, badList, holdsIndex, ofKind, theModel, noModel}
+use Rattle.shortlist.specs.Search.{bitSet, begun, follows, badEntry, spoilt, withEntry, nextOf, folded}
 use Rattle.shortlist.specs.Laws.Named.{isNamed, again, again-new, again-old, again-done, again-first}
 use Rattle.shortlist.specs.Laws.Bits.{bit-adds, bits-empty}
 use Rattle.shortlist.specs.declared.answer.Model.{Model}
@@ -105,39 +105,39 @@ next-bad : (s : Search) (m : Model) → badEntry s m ≡ true → (nextOf s m) .
 unfolding nextOf
 next-bad s m h = by (s .bad || badEntry s m) (rw (h, or-true (s .bad)))
   where
-    by : (b : Bool) → b ≡ true → (cond b (spoilt s) (taken s m)) .bad ≡ true
+    by : (b : Bool) → b ≡ true → (cond b (spoilt s) (withEntry s m)) .bad ≡ true
     by b e = rw e
 
-next-good : (s : Search) (m : Model) → s .bad ≡ false → badEntry s m ≡ false → nextOf s m ≡ taken s m
+next-good : (s : Search) (m : Model) → s .bad ≡ false → badEntry s m ≡ false → nextOf s m ≡ withEntry s m
 unfolding nextOf
-next-good s m g h = ap (λ b. cond b (spoilt s) (taken s m)) (or-neither g h)
+next-good s m g h = ap (λ b. cond b (spoilt s) (withEntry s m)) (or-neither g h)
 
 -- how many records there are is not changed
 pub asked : (s : Search) (l : List Model) → (folded nextOf s l) .most ≡ s .most
-unfolding nextOf taken
+unfolding nextOf withEntry
 asked s [] = refl
 asked s (m ∷ l) = asked (nextOf s m) l ∙ one (s .bad || badEntry s m)
   where
-    one : (b : Bool) → (cond b (spoilt s) (taken s m)) .most ≡ s .most
+    one : (b : Bool) → (cond b (spoilt s) (withEntry s m)) .most ≡ s .most
     one true = refl
     one false = refl
 
 -- whether the list is bad
 seen-bad : (s : Search) (l : List Model) → s .bad ≡ false
     → (folded nextOf s l) .bad ≡ badFrom (s .first + s .count) (bitSet (s .named)) l
-unfolding taken
+unfolding withEntry
 seen-bad s [] g = g ∙ sym (bad-done (s .first + s .count) (bitSet (s .named)))
-seen-bad s (m ∷ l) g = by (badEntry s m) refl (seen-bad (taken s m) l g)
+seen-bad s (m ∷ l) g = by (badEntry s m) refl (seen-bad (withEntry s m) l g)
   where
     by : (b : Bool) → badEntry s m ≡ b
-        → (folded nextOf (taken s m) l) .bad ≡ badFrom (m .first .0 + m .count) (bitSet (s .named + 2 ^ kindIn m)) l
+        → (folded nextOf (withEntry s m) l) .bad ≡ badFrom (m .first .0 + m .count) (bitSet (s .named + 2 ^ kindIn m)) l
         → (folded nextOf (nextOf s m) l) .bad ≡ badFrom (s .first + s .count) (bitSet (s .named)) (m ∷ l)
     by true e ih = stays-bad (nextOf s m) l (next-bad s m e) ∙ sym (bad-here s m l e)
     by false e ih = ap (λ t. (folded nextOf t l) .bad) (next-good s m g e) ∙ ih ∙ sym (good-here s m l e)
 
 -- the first that passes
-pub the-cons : (p : Model → Bool) (m : Model) (l : List Model) → the p (m ∷ l) ≡ cond (p m) m (the p l)
-unfolding the those
+pub the-cons : (p : Model → Bool) (m : Model) (l : List Model) → theModel p (m ∷ l) ≡ cond (p m) m (theModel p l)
+unfolding theModel those
 the-cons p m l = by (p m)
   where
     by : (b : Bool) → getD (cond b (m ∷ those p l) (those p l)) 0 noModel ≡ cond b m (getD (those p l) 0 noModel)
@@ -145,12 +145,12 @@ the-cons p m l = by (p m)
     by false = refl
 
 -- where none passes, it is the one of no indices
-the-or : (f : Model → ℕ) (p : Model → Bool) (l : List Model) → f noModel ≡ 0 → cond (any p l) (f (the p l)) 0 ≡ f (the p l)
-unfolding any the those
+the-or : (f : Model → ℕ) (p : Model → Bool) (l : List Model) → f noModel ≡ 0 → cond (any p l) (f (theModel p l)) 0 ≡ f (theModel p l)
+unfolding any theModel those
 the-or f p [] z = sym z
 the-or f p (m ∷ l) z = by (p m) (the-or f p l z)
   where
-    by : (b : Bool) → cond (any p l) (f (the p l)) 0 ≡ f (the p l)
+    by : (b : Bool) → cond (any p l) (f (theModel p l)) 0 ≡ f (theModel p l)
         → cond (b || any p l) (f (getD (cond b (m ∷ those p l) (those p l)) 0 noModel)) 0
         ≡ f (getD (cond b (m ∷ those p l) (those p l)) 0 noModel)
     by true e = refl
@@ -158,12 +158,12 @@ the-or f p (m ∷ l) z = by (p m) (the-or f p l z)
 
 -- of the entries that pass, where the first is alone the last that was noted is the first
 last-first : (p : Model → Bool) (f : Model → ℕ) (m : Model) (l : List Model) (x : ℕ) → (p m ≡ true → any p l ≡ false)
-    → cond (any p l) (f (the p l)) (cond (p m) (f m) x) ≡ cond (p m || any p l) (f (the p (m ∷ l))) x
+    → cond (any p l) (f (theModel p l)) (cond (p m) (f m) x) ≡ cond (p m || any p l) (f (theModel p (m ∷ l))) x
 last-first p f m l x alone =
     by (p m) (any p l) alone ∙ ap (λ n. cond (p m || any p l) (f n) x) (sym (the-cons p m l))
   where
     by : (a b : Bool) → (a ≡ true → b ≡ false)
-        → cond b (f (the p l)) (cond a (f m) x) ≡ cond (a || b) (f (cond a m (the p l))) x
+        → cond b (f (theModel p l)) (cond a (f m) x) ≡ cond (a || b) (f (cond a m (theModel p l))) x
     by true true h = both-ways refl (h refl)
     by true false h = refl
     by false b h = refl
@@ -201,9 +201,9 @@ kind-once named k l h e = go l (or-left (any (isNamed named) l) _ h)
 -- what else has been seen of a list that is not bad
 pub record Sees (s : Search) (l : List Model) (t : Search) : Type 0 where
   pub past-is : ltb (s .most) (t .first + t .count) ≡ (ltb (s .most) (s .first + s .count) || any (pastEnd (s .most)) l)
-  pub tells-is : t .tells ≡ cond (any (holdsIndex (s .index .0)) l) (kindIn (the (holdsIndex (s .index .0)) l)) (s .tells)
-  pub from-is : t .from ≡ cond (any (ofKind (s .kind)) l) ((the (ofKind (s .kind)) l) .first .0) (s .from)
-  pub size-is : t .size ≡ cond (any (ofKind (s .kind)) l) ((the (ofKind (s .kind)) l) .count) (s .size)
+  pub tells-is : t .tells ≡ cond (any (holdsIndex (s .index .0)) l) (kindIn (theModel (holdsIndex (s .index .0)) l)) (s .tells)
+  pub from-is : t .from ≡ cond (any (ofKind (s .kind)) l) ((theModel (ofKind (s .kind)) l) .first .0) (s .from)
+  pub size-is : t .size ≡ cond (any (ofKind (s .kind)) l) ((theModel (ofKind (s .kind)) l) .count) (s .size)
 
 sees-none : (s : Search) → Sees s [] s
 unfolding any
@@ -211,7 +211,7 @@ sees-none s = record { past-is = sym (or-false (ltb (s .most) (s .first + s .cou
 
 -- one entry before those seen
 module _ (s : Search) (m : Model) (l : List Model) (t : Search) (good : badEntry s m ≡ false)
-    (later : badFrom (m .first .0 + m .count) (bitSet (s .named + 2 ^ kindIn m)) l ≡ false) (h : Sees (taken s m) l t) where
+    (later : badFrom (m .first .0 + m .count) (bitSet (s .named + 2 ^ kindIn m)) l ≡ false) (h : Sees (withEntry s m) l t) where
   begins : m .first .0 ≡ s .first + s .count
   unfolding badEntry
   begins =
@@ -250,7 +250,7 @@ module _ (s : Search) (m : Model) (l : List Model) (t : Search) (good : badEntry
       by false e = refl
 
   sees-more : Sees s (m ∷ l) t
-  unfolding taken any pastEnd
+  unfolding withEntry any pastEnd
   sees-more = record {
     past-is = h .past-is ∙ more-past;
     tells-is = h .tells-is ∙ last-first (holdsIndex (s .index .0)) kindIn m l (s .tells) (held-once (s .index .0) m l runs-on);
@@ -258,25 +258,26 @@ module _ (s : Search) (m : Model) (l : List Model) (t : Search) (good : badEntry
     size-is = h .size-is ∙ last-first (ofKind (s .kind)) (λ n. n .count) m l (s .size) own-once;
   }
 
-taken-bad : (s : Search) (m : Model) → (taken s m) .bad ≡ s .bad
-unfolding taken
+taken-bad : (s : Search) (m : Model) → (withEntry s m) .bad ≡ s .bad
+unfolding withEntry
 taken-bad s m = refl
 
 seen-all : (s : Search) (l : List Model) → s .bad ≡ false → (folded nextOf s l) .bad ≡ false → Sees s l (folded nextOf s l)
-unfolding taken kindIn
+unfolding withEntry kindIn
 seen-all s [] g h = sees-none s
-seen-all s (m ∷ l) g h = by (badEntry s m) refl (seen-all (taken s m) l (taken-bad s m ∙ g)) (seen-bad (taken s m) l (taken-bad s m ∙ g))
+seen-all s (m ∷ l) g h =
+    by (badEntry s m) refl (seen-all (withEntry s m) l (taken-bad s m ∙ g)) (seen-bad (withEntry s m) l (taken-bad s m ∙ g))
   where
     by : (b : Bool) → badEntry s m ≡ b
-        → ((folded nextOf (taken s m) l) .bad ≡ false → Sees (taken s m) l (folded nextOf (taken s m) l))
-        → (folded nextOf (taken s m) l) .bad ≡ badFrom (m .first .0 + m .count) (bitSet (s .named + 2 ^ kindIn m)) l
+        → ((folded nextOf (withEntry s m) l) .bad ≡ false → Sees (withEntry s m) l (folded nextOf (withEntry s m) l))
+        → (folded nextOf (withEntry s m) l) .bad ≡ badFrom (m .first .0 + m .count) (bitSet (s .named + 2 ^ kindIn m)) l
         → Sees s (m ∷ l) (folded nextOf (nextOf s m) l)
     by true e ih u = both-ways (stays-bad (nextOf s m) l (next-bad s m e)) h
     by false e ih u =
         let n = next-good s m g e in
-        let c : (folded nextOf (taken s m) l) .bad ≡ false = ap (λ t. (folded nextOf t l) .bad) (sym n) ∙ h in
+        let c : (folded nextOf (withEntry s m) l) .bad ≡ false = ap (λ t. (folded nextOf t l) .bad) (sym n) ∙ h in
         subst (λ (t : Search). Sees s (m ∷ l) (folded nextOf t l)) (sym n)
-        (sees-more s m l (folded nextOf (taken s m) l) e (sym u ∙ c) (ih c))
+        (sees-more s m l (folded nextOf (withEntry s m) l) e (sym u ∙ c) (ih c))
 
 -- ---- FROM THE BEGINNING.
 
@@ -287,7 +288,7 @@ module _ (n k most : ℕ) (l : List Model) where
   pub bad-is : last .bad ≡ badList l
   unfolding badFrom badList
   bad-is =
-      let e : again (bitSet 0) l ≡ twoOf alike l = again-first (bitSet 0) l bits-empty in
+      let e : again (bitSet 0) l ≡ twoOf ofOneKind l = again-first (bitSet 0) l bits-empty in
       seen-bad (begun n k most) l refl ∙ ap (λ t. any empty l || (not (runsOnFrom 0 l) || (t || any noStructure l))) e
 
   seen-is : badList l ≡ false → Sees (begun n k most) l last
@@ -297,25 +298,25 @@ module _ (n k most : ℕ) (l : List Model) where
     pub past-seen : ltb most (last .first + last .count) ≡ any (pastEnd most) l
     past-seen = seen-is h .past-is ∙ ap (λ b. b || any (pastEnd most) l) (le-ltb most (0 + 0) (omega arith))
 
-    pub tells-one : any (holdsIndex n) l ≡ true → last .tells ≡ kindIn (the (holdsIndex n) l)
-    tells-one e = seen-is h .tells-is ∙ ap (λ b. cond b (kindIn (the (holdsIndex n) l)) 64) e
+    pub tells-one : any (holdsIndex n) l ≡ true → last .tells ≡ kindIn (theModel (holdsIndex n) l)
+    tells-one e = seen-is h .tells-is ∙ ap (λ b. cond b (kindIn (theModel (holdsIndex n) l)) 64) e
 
     pub tells-none : any (holdsIndex n) l ≡ false → last .tells ≡ 64
-    tells-none e = seen-is h .tells-is ∙ ap (λ b. cond b (kindIn (the (holdsIndex n) l)) 64) e
+    tells-none e = seen-is h .tells-is ∙ ap (λ b. cond b (kindIn (theModel (holdsIndex n) l)) 64) e
 
-    pub from-seen : last .from ≡ (the (ofKind k) l) .first .0
+    pub from-seen : last .from ≡ (theModel (ofKind k) l) .first .0
     from-seen = seen-is h .from-is ∙ the-or (λ m. m .first .0) (ofKind k) l refl
 
-    pub size-seen : last .size ≡ (the (ofKind k) l) .count
+    pub size-seen : last .size ≡ (theModel (ofKind k) l) .count
     size-seen = seen-is h .size-is ∙ the-or (λ m. m .count) (ofKind k) l refl
 
 -- what no entry has, the one that is asked for has not
-pub the-has-not : (p q : Model → Bool) (l : List Model) → any q l ≡ false → q noModel ≡ false → q (the p l) ≡ false
-unfolding any the those
+pub the-has-not : (p q : Model → Bool) (l : List Model) → any q l ≡ false → q noModel ≡ false → q (theModel p l) ≡ false
+unfolding any theModel those
 the-has-not p q [] h z = z
 the-has-not p q (m ∷ l) h z =
     by (p m) (or-left (q m) (any q l) h) (the-has-not p q l (or-right (q m) (any q l) h) z)
   where
-    by : (b : Bool) → q m ≡ false → q (the p l) ≡ false → q (getD (cond b (m ∷ those p l) (those p l)) 0 noModel) ≡ false
+    by : (b : Bool) → q m ≡ false → q (theModel p l) ≡ false → q (getD (cond b (m ∷ those p l) (those p l)) 0 noModel) ≡ false
     by true u v = u
     by false u v = v

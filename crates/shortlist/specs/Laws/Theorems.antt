@@ -15,9 +15,10 @@ use Rattle.lists.specs.Laws.Refusals.{given-none, row-fails, rows-behind}
 use Rattle.records.specs.Record.{isVoxel, structureOf, legalRecord}
 use Rattle.records.specs.Outcome.{ends, applies, passes, gives-first}
 use Rattle.records.specs.Sheet.{goodCount}
-use Rattle.shortlist.specs.Runs.{mostStructure, kindNumber, kindOf, kindIn, alike, alone, longer, runsOn, runsFrom, runs, comesBack}
+use Rattle.shortlist.specs.Runs.{mostStructure, structureKind, kindOf, kindIn, ofOneKind, alone, longer, runsOn, runsFrom, runs}
+use Rattle.shortlist.specs.Runs.{comesBack}
 use Rattle.shortlist.specs.Making.{listRefusal}
-use Rattle.shortlist.specs.Asking.{empty, noStructure, pastEnd, runsOnFrom, badList, holdsIndex, the}
+use Rattle.shortlist.specs.Asking.{empty, noStructure, pastEnd, runsOnFrom, badList, holdsIndex, theModel}
 use Rattle.shortlist.specs.Asking.{toldNumber, toldVoxels, toldStructure, tellRefusal, Tells}
 use Rattle.shortlist.specs.Laws.Runs.{kind-parts, structure-small}
 use Rattle.shortlist.specs.Laws.Search.{the-cons}
@@ -115,14 +116,14 @@ list-good (r ∷ rs) h = record {
 -- an entry that holds the index is there, and it has this type and structure
 pub record HeldAs (n : ℕ) (v : Bool) (s : ℕ) (l : List Model) : Type 0 where
   pub there : any (holdsIndex n) l ≡ true
-  pub voxels : (the (holdsIndex n) l) .voxels ≡ v
-  pub structure : (the (holdsIndex n) l) .structure ≡ s
-  pub holds : holdsIndex n (the (holdsIndex n) l) ≡ true
+  pub voxels : (theModel (holdsIndex n) l) .voxels ≡ v
+  pub structure : (theModel (holdsIndex n) l) .structure ≡ s
+  pub holds : holdsIndex n (theModel (holdsIndex n) l) ≡ true
 
 held-here : (n : ℕ) (m : Model) (l : List Model) → holdsIndex n m ≡ true → HeldAs n (m .voxels) (m .structure) (m ∷ l)
 unfolding any
 held-here n m l h =
-    let t : the (holdsIndex n) (m ∷ l) ≡ m = the-cons (holdsIndex n) m l ∙ ap (λ b. cond b m (the (holdsIndex n) l)) h in
+    let t : theModel (holdsIndex n) (m ∷ l) ≡ m = the-cons (holdsIndex n) m l ∙ ap (λ b. cond b m (theModel (holdsIndex n) l)) h in
     record {
       there = ap (λ b. b || any (holdsIndex n) l) h;
       voxels = ap (λ k. k .voxels) t;
@@ -133,7 +134,8 @@ held-here n m l h =
 held-behind : (n : ℕ) (v : Bool) (s : ℕ) (m : Model) (l : List Model) → holdsIndex n m ≡ false → HeldAs n v s l → HeldAs n v s (m ∷ l)
 unfolding any
 held-behind n v s m l h k =
-    let t : the (holdsIndex n) (m ∷ l) ≡ the (holdsIndex n) l = the-cons (holdsIndex n) m l ∙ ap (λ b. cond b m (the (holdsIndex n) l)) h
+    let t : theModel (holdsIndex n) (m ∷ l) ≡ theModel (holdsIndex n) l = the-cons (holdsIndex n) m l
+    ∙ ap (λ b. cond b m (theModel (holdsIndex n) l)) h
     in
     record {
       there = or-second (holdsIndex n m) (k .there);

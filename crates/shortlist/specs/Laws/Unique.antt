@@ -11,8 +11,8 @@ use Rattle.records.specs.Laws.Unique.{same-place}
 use Rattle.lists.specs.Laws.Numbers.{eq?}
 use Rattle.shortlist.specs.Runs.{runs, kindOf, laid}
 use Rattle.shortlist.specs.Making.{listedNumber, listedCount, Lists}
-use Rattle.shortlist.specs.Made.{listedBy}
-use Rattle.shortlist.specs.Asking.{the, holdsIndex, ofKind, ownStretch, toldNumber, toldVoxels, toldStructure, Tells}
+use Rattle.shortlist.specs.Made.{listAnswer}
+use Rattle.shortlist.specs.Asking.{theModel, holdsIndex, ofKind, ownStretch, toldNumber, toldVoxels, toldStructure, Tells}
 use Rattle.shortlist.specs.Asking.{soughtNumber, soughtIndex, StandsAt, Seeks}
 use Rattle.shortlist.specs.declared.answer.Model.{Model}
 use Rattle.shortlist.specs.declared.answer.Listed.{Listed}
@@ -20,8 +20,8 @@ use Rattle.shortlist.specs.declared.answer.Told.{Told}
 use Rattle.shortlist.specs.declared.answer.Sought.{Sought}
 
 -- an answer is told by its number and values
-listed-back : (a : Listed) → listedBy (listedNumber a) (listedCount a) ≡ a
-unfolding listedBy listedNumber listedCount
+listed-back : (a : Listed) → listAnswer (listedNumber a) (listedCount a) ≡ a
+unfolding listAnswer listedNumber listedCount
 listed-back (Listed.Models n) = refl
 listed-back Listed.BadCount = refl
 listed-back Listed.BadRecord = refl
@@ -34,7 +34,7 @@ list-unique rs before a b x y p q =
     let n : listedNumber a ≡ listedNumber b = p .numbered ∙ sym (q .numbered) in
     let c : listedCount a ≡ listedCount b =
     p .counted ∙ ap (λ k. unless k (length (runs rs)) 0) n ∙ sym (q .counted) in (
-      sym (listed-back a) ∙ ap (λ k. listedBy k (listedCount a)) n ∙ ap (listedBy (listedNumber b)) c ∙ listed-back b,
+      sym (listed-back a) ∙ ap (λ k. listAnswer k (listedCount a)) n ∙ ap (listAnswer (listedNumber b)) c ∙ listed-back b,
       p .holds ∙ ap (λ k. unless k (laid (runs rs) before) before) n ∙ sym (q .holds),
     )
 
@@ -51,9 +51,9 @@ pub told-unique : (l : List Model) (n : ℕ) (a b : Told) → Tells l n a → Te
 told-unique l n a b p q =
     let k : toldNumber a ≡ toldNumber b = p .numbered ∙ sym (q .numbered) in
     let v : toldVoxels a ≡ toldVoxels b =
-    p .voxels ∙ ap (λ i. unless i ((the (holdsIndex n) l) .voxels) false) k ∙ sym (q .voxels) in
+    p .voxels ∙ ap (λ i. unless i ((theModel (holdsIndex n) l) .voxels) false) k ∙ sym (q .voxels) in
     let s : toldStructure a ≡ toldStructure b =
-    p .structure ∙ ap (λ i. unless i ((the (holdsIndex n) l) .structure) 0) k ∙ sym (q .structure) in
+    p .structure ∙ ap (λ i. unless i ((theModel (holdsIndex n) l) .structure) 0) k ∙ sym (q .structure) in
     sym (told-back a) ∙ ap (λ i. toldBy i (toldVoxels a) (toldStructure a)) k ∙ ap (λ i. toldBy (toldNumber b) i (toldStructure a)) v
     ∙ ap (toldBy (toldNumber b) (toldVoxels b)) s ∙ told-back b
 
@@ -77,6 +77,6 @@ sought-unique l rs x a b p q =
     found : {i j : ℕ} → StandsAt l rs x i → StandsAt l rs x j → i ≡ j
     found u v =
         u .index-is
-        ∙ ap (λ k. (the (ofKind (kindOf x)) l) .first .0 + k)
+        ∙ ap (λ k. (theModel (ofKind (kindOf x)) l) .first .0 + k)
         (same-place (ownStretch l rs x) x (u .place) (v .place) (u .first-place) (v .first-place))
         ∙ sym (v .index-is)

@@ -18,8 +18,8 @@ use Rattle.lists.specs.Laws.Tables.{table-below}
 use Rattle.records.specs.Outcome.{Gives, ends, applies, passes, gives-first}
 use Rattle.records.specs.Record.{legalRecord}
 use Rattle.lists.specs.Laws.Numbers.{eq?}
-use Rattle.shortlist.specs.Runs.{kindOf, kindIn, alike, alone, longer, runsOn, runsFrom, runs, comesBack}
-use Rattle.shortlist.specs.Made.{modelAt, refusedBy, withRun, Sized, RunEnd, RunsOf}
+use Rattle.shortlist.specs.Runs.{kindOf, kindIn, ofOneKind, alone, longer, runsOn, runsFrom, runs, comesBack}
+use Rattle.shortlist.specs.Made.{modelAt, refusedBy, withRun, MadeSized, RunEnd, RunsOf}
 use Rattle.shortlist.specs.Laws.Named.{again, again-new, again-old, again-done, again-first, flagged, flag-adds, flags-empty}
 use Rattle.shortlist.specs.Laws.Named.{flags, flags-more, flags-left, flags-none, flags-most}
 use Rattle.shortlist.specs.Laws.Runs.{kind-small, piece, piece-kind, run-through, drop-all, table-snoc}
@@ -34,7 +34,7 @@ pub record Walked (rs : List ℕ) (at : ℕ) (seen : List Bool) (made : Made) : 
   pub back-is : all legalRecord rs ≡ true → comesBack rs ≡ again (flagged seen) (runsFrom at (drop at rs))
   pub counted : flags seen ≡ made .count
   pub seen-64 : length seen ≡ 64
-  pub sized : Sized made
+  pub sized : MadeSized made
   pub not-refused : made .number ≡ 0
 
 -- ---- Where it begins.
@@ -168,7 +168,7 @@ pub ruleset ending = (of-kind-more, of-kind-stops, of-kind-all)
 
 -- ---- One run more.
 
-module _ (made : Made) (at n k : ℕ) (sized : Sized made) (few : made .count < 64) where
+module _ (made : Made) (at n k : ℕ) (sized : MadeSized made) (few : made .count < 64) where
   more : Made
   more = withRun made at n k
 
@@ -191,7 +191,7 @@ module _ (made : Made) (at n k : ℕ) (sized : Sized made) (few : made .count < 
       let q = getD-set-other (made .kind) c i k 0 ne in
       λ j. record { first = record { 0 = a j }; count = b j; voxels = leb 32 (q j); structure = q j % 32 }
 
-  more-sized : Sized more
+  more-sized : MadeSized more
   unfolding more
   more-sized = record {
     first-64 = length-set (made .first) (made .count) at ∙ sized .first-64;

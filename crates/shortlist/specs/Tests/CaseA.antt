@@ -9,7 +9,7 @@ use Rattle.records.specs.Record.{Location, onSurface, inVolume, recordOf, recor
 use Rattle.records.specs.Sheet.{goodCount}
 use Rattle.shortlist.specs.Runs.{runs, runWords}
 use Rattle.shortlist.specs.Making.{listRefusal}
-use Rattle.shortlist.specs.Asking.{tellRefusal, seekRefusal, the, holdsIndex, askWords, ownStretch}
+use Rattle.shortlist.specs.Asking.{tellRefusal, seekRefusal, theModel, holdsIndex, askWords, ownStretch}
 use Rattle.shortlist.specs.declared.answer.Model.{Model}
 
 pub caseA : List ℕ
@@ -30,7 +30,7 @@ unfolding caseA recordWords runWords lists refusals goodCount listRefusal
 case-a-made = (refl, refl)
 
 -- index 2 is V 6, and there is no index 3
-pub index-two : (tellRefusal listA 2 ≡ 0) × (the (holdsIndex 2) listA .voxels ≡ true) × (the (holdsIndex 2) listA .structure ≡ 6)
+pub index-two : (tellRefusal listA 2 ≡ 0) × (theModel (holdsIndex 2) listA .voxels ≡ true) × (theModel (holdsIndex 2) listA .structure ≡ 6)
     × (tellRefusal listA 3 ≡ 19)
 unfolding listA runWords lists refusals askWords tellRefusal
 index-two = (refl, refl, refl, refl)

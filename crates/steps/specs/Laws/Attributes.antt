@@ -15,7 +15,7 @@ use Rattle.lists.specs.Laws.Numbers.{lt?}
 use Rattle.grammar.specs.Document.{Attribute, attribute}
 use Rattle.grammar.specs.Read.{Read, fail, got, Reader, bind, test, all-of, many-step}
 use Rattle.grammar.specs.Laws.Read.{test-complete}
-use Rattle.grammar.specs.Parser.{attribute-at, attributes-at, ends, closing, same, absent, distinct}
+use Rattle.grammar.specs.Parser.{attribute-at, attributes-at, ends, closing, sameBytes, absent, distinct}
 use Rattle.grammar.specs.Laws.Unfuelled.{all-of-step}
 use Rattle.steps.specs.Step.{stepped, Went}
 use Rattle.steps.specs.Laws.Step.{at-end, arrives, refuses, went-on}
@@ -88,29 +88,31 @@ bind-none fail f h = refl
 bind-none (got a r) f h = h a r
 
 -- a name twice
-absent-in : (n m v : List ℕ) (d l : List Attribute) → same n m ≡ true → absent n (d ++ (attribute m v ∷ l)) ≡ false
+absent-in : (n m v : List ℕ) (d l : List Attribute) → sameBytes n m ≡ true → absent n (d ++ (attribute m v ∷ l)) ≡ false
 unfolding absent
 absent-in n m v [] l e = rw e
-absent-in n m v (attribute x y ∷ d) l e = rw (absent-in n m v d l e) (and-false (not (same n x)))
+absent-in n m v (attribute x y ∷ d) l e = rw (absent-in n m v d l e) (and-false (not (sameBytes n x)))
 
 twice : (m v : List ℕ) (done l : List Attribute) → among m (names done) ≡ true → distinct (done ++ (attribute m v ∷ l)) ≡ false
 unfolding distinct names among
 twice m v [] l e = clash (cc)
-twice m v (attribute x y ∷ d) l e = go (same x m) refl (twice m v d l) e
+twice m v (attribute x y ∷ d) l e = go (sameBytes x m) refl (twice m v d l) e
   where
-    go : (t : Bool) → same x m ≡ t → (among m (names d) ≡ true → distinct (d ++ (attribute m v ∷ l)) ≡ false)
+    go : (t : Bool) → sameBytes x m ≡ t → (among m (names d) ≡ true → distinct (d ++ (attribute m v ∷ l)) ≡ false)
         → (t || among m (names d)) ≡ true
         → (absent x (d ++ (attribute m v ∷ l)) && distinct (d ++ (attribute m v ∷ l))) ≡ false
     go true q ih k = rw (absent-in x m v d l q)
     go false q ih k = and-no (absent x (d ++ (attribute m v ∷ l))) (distinct (d ++ (attribute m v ∷ l))) (ih k)
 
 -- a new name
-absent-more : (n m v : List ℕ) (d : List Attribute) → absent n d ≡ true → same n m ≡ false → absent n (d ++ (attribute m v ∷ [])) ≡ true
+absent-more : (n m v : List ℕ) (d : List Attribute) → absent n d ≡ true → sameBytes n m ≡ false
+    → absent n (d ++ (attribute m v ∷ [])) ≡ true
 unfolding absent
 absent-more n m v [] e f = rw f
-absent-more n m v (attribute x y ∷ d) e f = go (same n x) e (absent-more n m v d)
+absent-more n m v (attribute x y ∷ d) e f = go (sameBytes n x) e (absent-more n m v d)
   where
-    go : (t : Bool) → (not t && absent n d) ≡ true → (absent n d ≡ true → same n m ≡ false → absent n (d ++ (attribute m v ∷ [])) ≡ true)
+    go : (t : Bool) → (not t && absent n d) ≡ true
+        → (absent n d ≡ true → sameBytes n m ≡ false → absent n (d ++ (attribute m v ∷ [])) ≡ true)
         → (not t && absent n (d ++ (attribute m v ∷ []))) ≡ true
     go true k ih = clash (cc)
     go false k ih = ih k f
@@ -119,9 +121,9 @@ new : (m v : List ℕ) (done : List Attribute) → distinct done ≡ true → am
     → distinct (done ++ (attribute m v ∷ [])) ≡ true
 unfolding distinct names among absent
 new m v [] e f = refl
-new m v (attribute x y ∷ d) e f = go (absent x d) (same x m) refl refl e f (new m v d)
+new m v (attribute x y ∷ d) e f = go (absent x d) (sameBytes x m) refl refl e f (new m v d)
   where
-    go : (s t : Bool) → absent x d ≡ s → same x m ≡ t → (s && distinct d) ≡ true → (t || among m (names d)) ≡ false
+    go : (s t : Bool) → absent x d ≡ s → sameBytes x m ≡ t → (s && distinct d) ≡ true → (t || among m (names d)) ≡ false
         → (distinct d ≡ true → among m (names d) ≡ false → distinct (d ++ (attribute m v ∷ [])) ≡ true)
         → (absent x (d ++ (attribute m v ∷ [])) && distinct (d ++ (attribute m v ∷ []))) ≡ true
     go false t p q k l ih = clash (cc)

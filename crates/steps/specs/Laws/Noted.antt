@@ -6,17 +6,17 @@ use native.Mathlib.Omega.{arith}
 use mathlib.Core.Bool.{Bool, true, false, _||_}
 use lib.ListN.{length, getD}
 use Rattle.lists.specs.Laws.Booleans.{or-true, or-false, or-assoc}
-use Rattle.grammar.specs.Parser.{same}
+use Rattle.grammar.specs.Parser.{sameBytes}
 use Rattle.steps.specs.Noted.{part, among, noted, Within}
 
 pub record Noting (text starts ends : List ℕ) (n from to k : ℕ) : Type 0 where
   pub left : k ≤ n
   pub same-yet : among (part from to text) (noted text starts ends n) ≡ among (part from to text) (noted text starts ends k)
 
-pub among-more : (w : List ℕ) (l : List (List ℕ)) (m : List ℕ) → among w (l ++ (m ∷ [])) ≡ (among w l || same m w)
+pub among-more : (w : List ℕ) (l : List (List ℕ)) (m : List ℕ) → among w (l ++ (m ∷ [])) ≡ (among w l || sameBytes m w)
 unfolding among
-among-more w [] m = or-false (same m w)
-among-more w (x ∷ l) m = rw (among-more w l m) (or-assoc (same x w) (among w l) (same m w))
+among-more w [] m = or-false (sameBytes m w)
+among-more w (x ∷ l) m = rw (among-more w l m) (or-assoc (sameBytes x w) (among w l) (sameBytes m w))
 
 pub noting-start : (text starts ends : List ℕ) (n from to : ℕ) → Noting text starts ends n from to n
 noting-start text starts ends n from to = let l : n ≤ n = omega arith in record { left = l; same-yet = refl }
@@ -29,14 +29,14 @@ module _ (text starts ends : List ℕ) (n from to k : ℕ) (go : Noting text sta
   module _ (h : 0 < k) where
     last : among (part from to text) (noted text starts ends k)
         ≡ (among (part from to text) (noted text starts ends (k - 1))
-        || same (part (getD starts (k - 1) 0) (getD ends (k - 1) 0) text) (part from to text))
+        || sameBytes (part (getD starts (k - 1) 0) (getD ends (k - 1) 0) text) (part from to text))
     unfolding noted
     last =
         let z : k ≡ suc (k - 1) = omega arith in
         ap (λ m. among (part from to text) (noted text starts ends m)) z
         ∙ among-more (part from to text) (noted text starts ends (k - 1)) (part (getD starts (k - 1) 0) (getD ends (k - 1) 0) text)
 
-    module _ {t : Bool} (is : t ≡ same (part (getD starts (k - 1) 0) (getD ends (k - 1) 0) text) (part from to text)) where
+    module _ {t : Bool} (is : t ≡ sameBytes (part (getD starts (k - 1) 0) (getD ends (k - 1) 0) text) (part from to text)) where
       pub noting-hit : t ≡ true → true ≡ among (part from to text) (noted text starts ends n)
       noting-hit e = sym (go .same-yet ∙ last ∙ rw (sym is ∙ e) (or-true (among (part from to text) (noted text starts ends (k - 1)))))
 

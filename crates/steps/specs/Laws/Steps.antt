@@ -13,7 +13,7 @@ use Rattle.grammar.specs.Bytes.{ascii, blank, nameStart, nameByte}
 use Rattle.grammar.specs.Read.{Read, fail, got, bind, span, byte, test, mark}
 use Rattle.grammar.specs.Laws.Read.{ok-got, span-sound, byte-complete, byte-other}
 use Rattle.grammar.specs.Laws.Read.{mark-complete, mark-other, test-complete}
-use Rattle.grammar.specs.Parser.{gap-at, equals-at, name-at, ends, closing, asking, same}
+use Rattle.grammar.specs.Parser.{gap-at, equals-at, name-at, ends, closing, asking, sameBytes}
 use Rattle.steps.specs.Step.{stepped, Went}
 use Rattle.steps.specs.Laws.Step.{at-byte, at-end, arrives, refuses, went}
 use Rattle.steps.specs.Laws.Until.{stepped-value}
@@ -254,32 +254,32 @@ module _ (text : List ℕ) (at : ℕ) (h : at < length text) {t : Bool} (is : t 
 -- TWO WORDS
 pub record Matching (s t : List ℕ) (i : ℕ) : Type 0 where
   pub even : length s ≡ length t
-  pub same-yet : same s t ≡ same (drop i s) (drop i t)
+  pub same-yet : sameBytes s t ≡ sameBytes (drop i s) (drop i t)
 
-same-long : (s t : List ℕ) → same s t ≡ true → length s ≡ length t
-unfolding same
+same-long : (s t : List ℕ) → sameBytes s t ≡ true → length s ≡ length t
+unfolding sameBytes
 same-long [] [] e = refl
 same-long [] (b ∷ t) e = clash (cc)
 same-long (a ∷ s) [] e = clash (cc)
-same-long (a ∷ s) (b ∷ t) e = ap suc (same-long s t (and-right (eqb a b) (same s t) e))
+same-long (a ∷ s) (b ∷ t) e = ap suc (same-long s t (and-right (eqb a b) (sameBytes s t) e))
 
-pub equal-long : (s t : List ℕ) → (length s ≡ length t → ⊥) → false ≡ same s t
-equal-long s t f = sym (refute (same s t) λ e. f (same-long s t e))
+pub equal-long : (s t : List ℕ) → (length s ≡ length t → ⊥) → false ≡ sameBytes s t
+equal-long s t f = sym (refute (sameBytes s t) λ e. f (same-long s t e))
 
 pub equal-start : (s t : List ℕ) → length s ≡ length t → Matching s t 0
 equal-start s t e = record { even = e; same-yet = refl }
 
 module _ (s t : List ℕ) (i : ℕ) (go : Matching s t i) where
-  pub equal-all : length s ≤ i → true ≡ same s t
-  unfolding same
+  pub equal-all : length s ≤ i → true ≡ sameBytes s t
+  unfolding sameBytes
   equal-all h = let k : length t ≤ i = omega (arith, go .even) in sym (go .same-yet ∙ rw (at-end s i h, at-end t i k))
 
   module _ (h : i < length s) where
-    both-there : same (drop i s) (drop i t) ≡ (eqb (getD s i 0) (getD t i 0) && same (drop (i + 1) s) (drop (i + 1) t))
-    unfolding same
+    both-there : sameBytes (drop i s) (drop i t) ≡ (eqb (getD s i 0) (getD t i 0) && sameBytes (drop (i + 1) s) (drop (i + 1) t))
+    unfolding sameBytes
     both-there = let k : i < length t = omega (arith, go .even) in rw (at-byte s i h, at-byte t i k)
 
-    pub equal-other : (getD s i 0 ≡ getD t i 0 → ⊥) → false ≡ same s t
+    pub equal-other : (getD s i 0 ≡ getD t i 0 → ⊥) → false ≡ sameBytes s t
     equal-other f = sym (go .same-yet ∙ both-there ∙ rw (ne-eqb (getD s i 0) (getD t i 0) f))
 
     pub equal-more : getD s i 0 ≡ getD t i 0 → Matching s t (i + 1)

@@ -10,14 +10,14 @@ use Rattle.lists.specs.Lists.{all}
 use Rattle.lists.specs.Laws.Permuted.{Permuted, none, same, swap, then, permuted-refl, all-permuted}
 use Rattle.lists.specs.Laws.Booleans.{and-left, and-right, and-both}
 use Rattle.cifti.specs.Maps.{Model}
-use Rattle.table.specs.ByOffset.{noLater, placed, byOffset}
+use Rattle.table.specs.ByOffset.{noLater, placedByOffset, byOffset}
 
-placed-permuted : (m : Model) (l : List Model) → Permuted (m ∷ l) (placed m l)
-unfolding placed
+placed-permuted : (m : Model) (l : List Model) → Permuted (m ∷ l) (placedByOffset m l)
+unfolding placedByOffset
 placed-permuted m [] = permuted-refl _
 placed-permuted m (n ∷ l) = go (noLater m n) (placed-permuted m l)
   where
-    go : (b : Bool) → Permuted (m ∷ l) (placed m l) → Permuted (m ∷ n ∷ l) (cond b (m ∷ n ∷ l) (n ∷ placed m l))
+    go : (b : Bool) → Permuted (m ∷ l) (placedByOffset m l) → Permuted (m ∷ n ∷ l) (cond b (m ∷ n ∷ l) (n ∷ placedByOffset m l))
     go true h = permuted-refl _
     go false h = then swap (same h)
 
@@ -42,8 +42,8 @@ from-less a b u (m ∷ l) h =
     let v = leb-true b (m .offset) (and-left (leb b (m .offset)) _ h) in
     and-both (le-leb a (m .offset) (omega arith)) (from-less a b u l (and-right (leb b (m .offset)) _ h))
 
-placed-order : (m : Model) (l : List Model) → inOrder l ≡ true → inOrder (placed m l) ≡ true
-unfolding placed noLater inOrder all from
+placed-order : (m : Model) (l : List Model) → inOrder l ≡ true → inOrder (placedByOffset m l) ≡ true
+unfolding placedByOffset noLater inOrder all from
 placed-order m [] h = refl
 placed-order m (n ∷ l) h = go (noLater m n) refl (placed-order m l rest)
   where
@@ -53,8 +53,8 @@ placed-order m (n ∷ l) h = go (noLater m n) refl (placed-order m l rest)
     rest : inOrder l ≡ true
     rest = and-right (all (from (n .offset)) l) (inOrder l) h
 
-    go : (b : Bool) → noLater m n ≡ b → inOrder (placed m l) ≡ true
-        → inOrder (cond b (m ∷ n ∷ l) (n ∷ placed m l)) ≡ true
+    go : (b : Bool) → noLater m n ≡ b → inOrder (placedByOffset m l) ≡ true
+        → inOrder (cond b (m ∷ n ∷ l) (n ∷ placedByOffset m l)) ≡ true
     go true e f = and-both (and-both e (from-less (m .offset) (n .offset) (leb-true (m .offset) (n .offset) e) l behind)) h
     go false e f =
         let u = leb-false (m .offset) (n .offset) e in

@@ -8,18 +8,18 @@ use Rattle.records.specs.Record.{Location, onSurface, inVolume, locationOf, loc
 use Rattle.cifti.specs.Maps.{Listed, vertices, voxels, Model, voxelAt, locationsBy, locations}
 use Rattle.models.specs.Kind.{typeNumber, typeAndStructure}
 use Rattle.table.specs.Located.{Entry, here, further}
-use Rattle.shortlist.specs.Runs.{kindNumber, kindOf, kindIn}
+use Rattle.shortlist.specs.Runs.{structureKind, kindOf, kindIn}
 use Rattle.table.specs.ByOffset.{ofVoxels, entryOf}
 
 unfoldable locationKind : Location → ℕ
-locationKind (onSurface s v) = kindNumber false s
-locationKind (inVolume s i j k) = kindNumber true s
+locationKind (onSurface s v) = structureKind false s
+locationKind (inVolume s i j k) = structureKind true s
 
 kind-located : (r : ℕ) → kindOf r ≡ locationKind (locationOf r)
 unfolding kindOf locationOf locationIn locationKind
 kind-located r = go (isVoxel r)
   where
-    go : (b : Bool) → kindNumber b (structureOf r)
+    go : (b : Bool) → structureKind b (structureOf r)
         ≡ locationKind (cond b (inVolume (structureOf r) (iOf r) (jOf r) (kOf r)) (onSurface (structureOf r) (payloadOf r)))
     go true = refl
     go false = refl
@@ -32,14 +32,14 @@ each-kind f k h (a ∷ l) (further e) = each-kind f k h l e
 
 -- of a model, by the name that its own crate has for it
 pub kind-entry : (m : Model) → kindIn (entryOf m) ≡ typeAndStructure m
-unfolding kindIn kindNumber typeAndStructure typeNumber ofVoxels
+unfolding kindIn structureKind typeAndStructure typeNumber ofVoxels
 kind-entry m = go (m .listed)
   where
     go : (l : Listed) → cond (ofVoxels l) 32 0 + m .structure ≡ typeNumber l + m .structure
     go (vertices n l) = refl
     go (voxels l) = refl
 
-listed-kind : (s : ℕ) (l : Listed) {i : ℕ} {x : Location} → Entry (locationsBy s l) i x → locationKind x ≡ kindNumber (ofVoxels l) s
+listed-kind : (s : ℕ) (l : Listed) {i : ℕ} {x : Location} → Entry (locationsBy s l) i x → locationKind x ≡ structureKind (ofVoxels l) s
 unfolding locationsBy ofVoxels locationKind voxelAt
 listed-kind s (vertices n l) e = each-kind (onSurface s) _ (λ v. refl) l e
 listed-kind s (voxels l) e = each-kind (voxelAt s) _ (λ v. refl) _ e

@@ -21,12 +21,12 @@ use Rattle.models.specs.Laws.Numbers.{number-passes, number-ends, number-bad}
 use Rattle.models.specs.Laws.Numbers.{voxel-passes, voxels-end, voxels-cut}
 use Rattle.models.specs.declared.listing.Triple.{Triple}
 use Rattle.models.specs.declared.listing.Triple.the-variants as triple
-use Rattle.table.specs.Listing.{located, recordsListed, AllFit, one-fits, Writable}
+use Rattle.table.specs.Listing.{located, recordsListed, AllFit, one-fits, ListWritable}
 
 -- what a loop has still to write
 pub record Writing (inVoxels : Bool) (structure : ℕ) (text : List ℕ) (start at : ℕ) (before : List ℕ) (i p : ℕ) (out : List ℕ) :
     Type 0 where
-  pub ahead : Writable inVoxels structure text i p out
+  pub ahead : ListWritable inVoxels structure text i p out
   pub kept : length out ≡ length before
   pub same : wrote at (recordsListed inVoxels structure (valuesAt text start)) before
       ≡ wrote p (recordsListed inVoxels structure (valuesAt text i)) out
@@ -40,7 +40,7 @@ fit-first (one-fits h k) = h
 fit-rest : {a : Location} {l : List Location} → AllFit (a ∷ l) → AllFit l
 fit-rest (one-fits h k) = k
 
-pub writing-start : {v : Bool} {s : ℕ} {text : List ℕ} {start at : ℕ} {out : List ℕ} → Writable v s text start at out
+pub writing-start : {v : Bool} {s : ℕ} {text : List ℕ} {start at : ℕ} {out : List ℕ} → ListWritable v s text start at out
     → Writing v s text start at out start at out
 writing-start h = record { ahead = h; kept = refl; same = refl }
 

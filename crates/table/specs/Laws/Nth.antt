@@ -16,9 +16,9 @@ use Rattle.cifti.specs.Answer.{stretch}
 use Rattle.cifti.specs.Laws.Meaning.{even-iff, covers-iff, record-at}
 use Rattle.cifti.specs.Laws.Said.{stretch-at}
 use Rattle.maps.specs.Laws.Fill.{wrote-in}
-use Rattle.maps.specs.Table.{recordsOf}
+use Rattle.maps.specs.Table.{modelRecords}
 use Rattle.models.specs.declared.gather.Models.{Models}
-use Rattle.table.specs.Ready.{mapAt, Ready}
+use Rattle.table.specs.Ready.{mapAt, MapReady}
 use Rattle.table.specs.Laws.Ready.{nobody, in-range}
 
 at-each : {A B : Type 0} (f : A → B) (l : List A) (z : A) (y : B) (p : ℕ) → p < length l → getD (each f l) p y ≡ f (getD l p z)
@@ -48,30 +48,31 @@ three-at (i ∷ j ∷ k ∷ l) (suc n) h =
     let s : List ℕ = i ∷ j ∷ k ∷ l in
     (omega arith, e ∙ same-voxel (ap (λ p. getD s p 0) (sym a)) (ap (λ p. getD s p 0) (sym b)) (ap (λ p. getD s p 0) (sym c)))
 
-module _ (m : Model) (at : ℕ) (out : List ℕ) (room : at + length (recordsOf m) ≤ length out) where
+module _ (m : Model) (at : ℕ) (out : List ℕ) (room : at + length (modelRecords m) ≤ length out) where
   pub nth-vertex : (surface : ℕ) (l : List ℕ) → m .listed ≡ vertices surface l → (n : ℕ) → n < length l
-      → getD (wrote at (recordsOf m) out) (at + n) 0 ≡ recordOf (onSurface (m .structure) (getD l n 0))
-  unfolding recordsOf locations locationsBy
+      → getD (wrote at (modelRecords m) out) (at + n) 0 ≡ recordOf (onSurface (m .structure) (getD l n 0))
+  unfolding modelRecords locations locationsBy
   nth-vertex surface l e n h =
-      let r : recordsOf m ≡ each recordOf (each (onSurface (m .structure)) l) = ap (λ t. each recordOf (locationsBy (m .structure) t)) e in
+      let r : modelRecords m ≡ each recordOf (each (onSurface (m .structure)) l) =
+      ap (λ t. each recordOf (locationsBy (m .structure) t)) e in
       let k : length (each (onSurface (m .structure)) l) ≡ length l = length-each (onSurface (m .structure)) l in
-      let u : n < length (recordsOf m) = omega (arith, ap length r, length-each recordOf (each (onSurface (m .structure)) l)) in
-      wrote-in at (recordsOf m) out room n u
+      let u : n < length (modelRecords m) = omega (arith, ap length r, length-each recordOf (each (onSurface (m .structure)) l)) in
+      wrote-in at (modelRecords m) out room n u
       ∙ ap (λ x. getD x n 0) r
       ∙ at-each recordOf (each (onSurface (m .structure)) l) (onSurface 0 0) 0 n (omega arith)
       ∙ ap recordOf (at-each (onSurface (m .structure)) l 0 (onSurface 0 0) n h)
 
   pub nth-voxel : (l : List ℕ) → m .listed ≡ voxels l → (n : ℕ) → 3 * n + 2 < length l
-      → getD (wrote at (recordsOf m) out) (at + n) 0
+      → getD (wrote at (modelRecords m) out) (at + n) 0
       ≡ recordOf (inVolume (m .structure) (getD l (3 * n) 0) (getD l (3 * n + 1) 0) (getD l (3 * n + 2) 0))
-  unfolding recordsOf locations locationsBy voxelAt
+  unfolding modelRecords locations locationsBy voxelAt
   nth-voxel l e n h =
       let (v, t) = three-at l n h in
-      let r : recordsOf m ≡ each recordOf (each (voxelAt (m .structure)) (threes l)) =
+      let r : modelRecords m ≡ each recordOf (each (voxelAt (m .structure)) (threes l)) =
       ap (λ t. each recordOf (locationsBy (m .structure) t)) e in
       let k : length (each (voxelAt (m .structure)) (threes l)) ≡ length (threes l) = length-each (voxelAt (m .structure)) (threes l) in
-      let u : n < length (recordsOf m) = omega (arith, ap length r, length-each recordOf (each (voxelAt (m .structure)) (threes l))) in
-      wrote-in at (recordsOf m) out room n u
+      let u : n < length (modelRecords m) = omega (arith, ap length r, length-each recordOf (each (voxelAt (m .structure)) (threes l))) in
+      wrote-in at (modelRecords m) out room n u
       ∙ ap (λ x. getD x n 0) r
       ∙ at-each recordOf (each (voxelAt (m .structure)) (threes l)) (onSurface 0 0) 0 n (omega arith)
       ∙ ap recordOf (at-each (voxelAt (m .structure)) (threes l) (voxel 0 0 0) (onSurface 0 0) n v)
@@ -79,7 +80,7 @@ module _ (m : Model) (at : ℕ) (out : List ℕ) (room : at + length (recordsOf 
 
 -- ---- In the map: the n-th of a model's list is at IndexOffset + n of the stretch.
 
-module _ {text : List ℕ} {map : ℕ} {m : Models} {room start : ℕ} (r : Ready text map m room start) (a : ℕ)
+module _ {text : List ℕ} {map : ℕ} {m : Models} {room start : ℕ} (r : MapReady text map m room start) (a : ℕ)
     (u : a < length ((mapAt text map) .models)) where
   abbrev here : Model
   here = getD ((mapAt text map) .models) a nobody

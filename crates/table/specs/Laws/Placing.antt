@@ -11,21 +11,21 @@ use Rattle.lists.specs.Lists.{total}
 use Rattle.records.specs.Fill.{wrote, length-wrote}
 use Rattle.cifti.specs.Maps.{Model}
 use Rattle.maps.specs.Laws.Fill.{filled}
-use Rattle.maps.specs.Table.{recordsOf}
-use Rattle.models.specs.Held.{modelAt, modelsAt}
+use Rattle.maps.specs.Table.{modelRecords}
+use Rattle.models.specs.Held.{heldModel, modelsAt}
 use Rattle.lists.specs.Laws.Tables.{size-of-table, entry-of-table}
 use Rattle.models.specs.declared.gather.Models.{Models}
-use Rattle.table.specs.Model.{Fillable}
-use Rattle.table.specs.Placing.{nthModel, Placing, Placed}
+use Rattle.table.specs.Model.{ModelFillable}
+use Rattle.table.specs.Placing.{nthModel, Placing, ModelsPlaced}
 
 module _ (text : List ℕ) (m : Models) where
   models-count : length (modelsAt text m) ≡ m .count
   unfolding modelsAt
-  models-count = size-of-table (modelAt text m) (m .count)
+  models-count = size-of-table (heldModel text m) (m .count)
 
   models-at : (b : Model) (i : ℕ) → i < m .count → getD (modelsAt text m) i b ≡ nthModel text m i
-  unfolding modelsAt modelAt
-  models-at b i h = entry-of-table (modelAt text m) b (m .count) i h
+  unfolding modelsAt heldModel
+  models-at b i h = entry-of-table (heldModel text m) b (m .count) i h
 
   ahead : (i : ℕ) → i < m .count → drop i (modelsAt text m) ≡ nthModel text m i ∷ drop (i + 1) (modelsAt text m)
   ahead i h =
@@ -42,7 +42,7 @@ pub record PlacedTo (text : List ℕ) (m : Models) (before : List ℕ) (start n 
   pub placing : Placing text m (length before) start
   pub within : i ≤ m .count
   pub kept : length out ≡ length before
-  pub same : filled recordsOf start (modelsAt text m) before ≡ filled recordsOf start (drop i (modelsAt text m)) out
+  pub same : filled modelRecords start (modelsAt text m) before ≡ filled modelRecords start (drop i (modelsAt text m)) out
   pub counted : n + total (λ b. b .count) (drop i (modelsAt text m)) ≡ total (λ b. b .count) (modelsAt text m)
 
 pub placed-start : {text : List ℕ} {m : Models} {out : List ℕ} {start : ℕ} → Placing text m (length out) start
@@ -53,12 +53,12 @@ module _ {text : List ℕ} {m : Models} {before : List ℕ} {start n i : ℕ} {o
   pub placed-kept : length out ≡ length before
   placed-kept = go .kept
 
-  pub placed-done : m .count ≤ i → Placed text m before start n out
+  pub placed-done : m .count ≤ i → ModelsPlaced text m before start n out
   unfolding filled total
   placed-done h =
       let e : drop i (modelsAt text m) ≡ [] = none-ahead text m i (omega (arith, go .within)) in
       record {
-        written = sym (go .same ∙ ap (λ l. filled recordsOf start l out) e);
+        written = sym (go .same ∙ ap (λ l. filled modelRecords start l out) e);
         counted = omega (arith, go .counted, ap (total (λ b. b .count)) e);
       }
 
@@ -80,7 +80,7 @@ module _ {text : List ℕ} {m : Models} {before : List ℕ} {start n i : ℕ} {o
     pub placed-sum : n + getD (m .length) i 0 ≤ length before
     placed-sum = omega (arith, sums, go .counted, go .placing .sum)
 
-    pub placed-can : Fillable text (getD (m .at) i 0) (getD (m .kind) i 0) out (start + getD (m .offset) i 0)
+    pub placed-can : ModelFillable text (getD (m .at) i 0) (getD (m .kind) i 0) out (start + getD (m .offset) i 0)
     placed-can = record {
       model = go .placing .holding .holds i h .model;
       kind-is = go .placing .holding .holds i h .kind-is;
@@ -88,18 +88,18 @@ module _ {text : List ℕ} {m : Models} {before : List ℕ} {start n i : ℕ} {o
       room = omega (arith, offset-is, go .placing .place i h, go .kept);
     }
 
-    pub placed-on : {after : List ℕ} → after ≡ wrote (start + getD (m .offset) i 0) (recordsOf (nthModel text m i)) out
+    pub placed-on : {after : List ℕ} → after ≡ wrote (start + getD (m .offset) i 0) (modelRecords (nthModel text m i)) out
         → PlacedTo text m before start (n + getD (m .length) i 0) (i + 1) after
     unfolding filled
     placed-on {after} e = record {
       placing = go .placing;
       within = omega arith;
-      kept = ap length e ∙ length-wrote (start + getD (m .offset) i 0) (recordsOf (nthModel text m i)) out
+      kept = ap length e ∙ length-wrote (start + getD (m .offset) i 0) (modelRecords (nthModel text m i)) out
           (omega (arith, offset-is, go .placing .place i h, go .kept)) ∙ go .kept;
-      same = go .same ∙ ap (λ l. filled recordsOf start l out) (ahead text m i h)
-          ∙ ap (λ o. filled recordsOf start (drop (i + 1) (modelsAt text m)) (wrote (start + o) (recordsOf (nthModel text m i)) out))
+      same = go .same ∙ ap (λ l. filled modelRecords start l out) (ahead text m i h)
+          ∙ ap (λ o. filled modelRecords start (drop (i + 1) (modelsAt text m)) (wrote (start + o) (modelRecords (nthModel text m i)) out))
           (sym offset-is)
-          ∙ ap (filled recordsOf start (drop (i + 1) (modelsAt text m))) (sym e);
+          ∙ ap (filled modelRecords start (drop (i + 1) (modelsAt text m))) (sym e);
       counted = omega (arith, sums, go .counted);
     }
 

@@ -18,7 +18,7 @@ use Rattle.cifti.specs.Answer.{stretch}
 use Rattle.maps.specs.Laws.Chain.{Counting, none-counts, one-counts}
 use Rattle.maps.specs.Laws.Fill.{filled, Fitting, none-fits}
 use Rattle.maps.specs.Laws.Fill as Fill
-use Rattle.maps.specs.Table.{recordsOf}
+use Rattle.maps.specs.Table.{modelRecords}
 use Rattle.maps.specs.Laws.Table.{fitting, table-law}
 use Rattle.maps.specs.Laws.Good.{AllGood, none-left, one-good}
 use Rattle.maps.specs.Laws.Kinds.{good-model, brainRows, brain-children}
@@ -30,9 +30,9 @@ use Rattle.models.specs.Laws.Held.{holding, held-models, held-count, held-at}
 use Rattle.models.specs.declared.gather.Models.{Models}
 use Rattle.models.specs.Laws.Listings.{count-some}
 use Rattle.table.specs.Listing.{AllFit}
-use Rattle.table.specs.Placing.{nthModel, Placing, Placed}
+use Rattle.table.specs.Placing.{nthModel, Placing, ModelsPlaced}
 use Rattle.table.specs.Laws.Volumes.{InBits, brain-sized, all-fit, model-fits, none-beyond}
-use Rattle.table.specs.Ready.{mapAt, Ready}
+use Rattle.table.specs.Ready.{mapAt, MapReady}
 
 -- the stretch is written from `start` on, and its length told
 pub record Filled (text : List ℕ) (map : ℕ) (before : List ℕ) (start n : ℕ) (after : List ℕ) : Type 0 where
@@ -105,7 +105,7 @@ sum-is {text} {map} b = brain-sum (the text map) (b .is-brain)
 
 -- where 11 does not apply, every model has its place in the map
 all-places : {text : List ℕ} {map : ℕ} → BrainAt text map → uneven (mapAt text map) ≡ false
-    → Fitting recordsOf (lengthOf (mapAt text map)) ((mapAt text map) .models)
+    → Fitting modelRecords (lengthOf (mapAt text map)) ((mapAt text map) .models)
 all-places {text} {map} b e = fitting nobody (mapAt text map) e (counting b) (sum-is b)
 
 pub in-range : {text : List ℕ} {map : ℕ} → BrainAt text map → uneven (mapAt text map) ≡ false → (i : ℕ)
@@ -113,8 +113,8 @@ pub in-range : {text : List ℕ} {map : ℕ} → BrainAt text map → uneven (ma
     → (getD ((mapAt text map) .models) i nobody) .offset + (getD ((mapAt text map) .models) i nobody) .count ≤ lengthOf (mapAt text map)
 in-range b e i u = fits-by (all-places b e) nobody i u .1
 
-module _ {text : List ℕ} {map : ℕ} {m : Models} {room start : ℕ} (r : Ready text map m room start) where
-  places : Fitting recordsOf (lengthOf (mapAt text map)) ((mapAt text map) .models)
+module _ {text : List ℕ} {map : ℕ} {m : Models} {room start : ℕ} (r : MapReady text map m room start) where
+  places : Fitting modelRecords (lengthOf (mapAt text map)) ((mapAt text map) .models)
   places = all-places (r .brain) (r .even)
 
   held : BrainHeld text map m
@@ -130,10 +130,10 @@ module _ {text : List ℕ} {map : ℕ} {m : Models} {room start : ℕ} (r : Read
   fits-in i h = rw (is-at i h) at (all-fit (locations (getD ((mapAt text map) .models) i nobody))
       (all-fits (r .brain) (r .in-volume) i (many i h)))
 
-  place-in : (i : ℕ) → i < m .count → start + (nthModel text m i) .offset + length (recordsOf (nthModel text m i)) ≤ room
+  place-in : (i : ℕ) → i < m .count → start + (nthModel text m i) .offset + length (modelRecords (nthModel text m i)) ≤ room
   place-in i h =
       let (x, y) = fits-by places nobody i (many i h) in
-      let x₁ : length (recordsOf (nthModel text m i)) ≡ (nthModel text m i) .count = rw (is-at i h) at x in
+      let x₁ : length (modelRecords (nthModel text m i)) ≡ (nthModel text m i) .count = rw (is-at i h) at x in
       let y₁ : (nthModel text m i) .offset + (nthModel text m i) .count ≤ lengthOf (mapAt text map) = rw (is-at i h) at y in
       omega (arith, r .enough)
 
@@ -148,10 +148,10 @@ module _ {text : List ℕ} {map : ℕ} {m : Models} {room start : ℕ} (r : Read
     sum = omega (arith, sum-in, r .enough);
   }
 
-  pub ready-filled : {before : List ℕ} {n : ℕ} {after : List ℕ} → Placed text m before start n after → length before ≡ room
+  pub ready-filled : {before : List ℕ} {n : ℕ} {after : List ℕ} → ModelsPlaced text m before start n after → length before ≡ room
       → Filled text map before start n after
   ready-filled {before} p e = record {
-    written = p .written ∙ ap (λ l. filled recordsOf start l before) (sym (held-models held))
+    written = p .written ∙ ap (λ l. filled modelRecords start l before) (sym (held-models held))
         ∙ table-law nobody (mapAt text map) (r .even) (counting (r .brain)) (sum-is (r .brain)) start before (omega (arith, r .enough));
     counted = p .counted ∙ sym sum-in;
   }

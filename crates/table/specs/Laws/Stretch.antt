@@ -14,8 +14,8 @@ use Rattle.cifti.specs.Laws.Said.{stretch-length}
 use Rattle.maps.specs.declared.survey.MapNote.{MapNote}
 use Rattle.models.specs.Laws.Brain.{noted-kind, noted-brain}
 use Rattle.models.specs.declared.gather.Models.{Models}
-use Rattle.table.specs.Placing.{Placing, Placed}
-use Rattle.table.specs.Ready.{Ready, mapAt}
+use Rattle.table.specs.Placing.{Placing, ModelsPlaced}
+use Rattle.table.specs.Ready.{MapReady, mapAt}
 use Rattle.table.specs.Laws.Ready.{Filled, ready-placing, ready-filled}
 use Rattle.table.specs.Stretch.{stretchOf, Writable, Written}
 
@@ -66,7 +66,7 @@ module _ {text : List ℕ} {n : MapNote} {m : Models} {room start : ℕ} (w : Wr
     its-length = ap length its-stretch ∙ stretch-length (mapAt text (n .at))
 
     -- a fine brain map can be filled
-    pub stretch-ready : Ready text (n .at) m room start
+    pub stretch-ready : MapReady text (n .at) m room start
     stretch-ready = record {
       brain = noted-brain (w .noted) p t;
       gathered = w .held .gathered (sym p ∙ t);
@@ -79,7 +79,7 @@ module _ {text : List ℕ} {n : MapNote} {m : Models} {room start : ℕ} (w : Wr
     pub stretch-placing : Placing text m room start
     stretch-placing = ready-placing stretch-ready
 
-    module _ {before : List ℕ} {k : ℕ} {after : List ℕ} (f : Placed text m before start k after) (e : length before ≡ room) where
+    module _ {before : List ℕ} {k : ℕ} {after : List ℕ} (f : ModelsPlaced text m before start k after) (e : length before ≡ room) where
       filled : Filled text (n .at) before start k after
       filled = ready-filled stretch-ready f e
 

@@ -46,7 +46,7 @@ use Rattle.table.specs.Laws.Indexed.{indexed, lawful-back, lawful-legal}
 use Rattle.table.specs.Laws.Located.{is-described, length-is}
 use Rattle.shortlist.specs.Runs as short
 use Rattle.shortlist.specs.Making.{listRefusal}
-use Rattle.table.specs.ByOffset.{entryOf, byOffset, stretchOf, ListsModels}
+use Rattle.table.specs.ByOffset.{entryOf, byOffset, toldStretch, ListsModels}
 use Rattle.table.specs.Laws.ByOffset.{from, offset-permuted, offset-order}
 use Rattle.table.specs.Laws.Kinds.{kind-entry, record-kind}
 use Rattle.table.specs.Laws.Chain.{whole, whole-is, says, Ahead, chain}
@@ -116,10 +116,10 @@ alike-turned a b = go (a .listed) (b .listed)
     go (voxels l) (voxels k) = eqb-turned (a .structure) (b .structure)
 
 -- models that share none make entries that share none
-entries-apart : (n : ℕ) (l : List Model) → all (whole n) l ≡ true → twoOf alike l ≡ false → twoOf short.alike (each entryOf l) ≡ false
-unfolding short.alike
-entries-apart n l w h = two-each entryOf short.alike l ∙ refute _ (λ t. (
-    let (i, j, u, v, s) = twoOf-iff nobody (λ a b. short.alike (entryOf a) (entryOf b)) l .0 t in
+entries-apart : (n : ℕ) (l : List Model) → all (whole n) l ≡ true → twoOf alike l ≡ false → twoOf short.ofOneKind (each entryOf l) ≡ false
+unfolding short.ofOneKind
+entries-apart n l w h = two-each entryOf short.ofOneKind l ∙ refute _ (λ t. (
+    let (i, j, u, v, s) = twoOf-iff nobody (λ a b. short.ofOneKind (entryOf a) (entryOf b)) l .0 t in
     let a : Model = getD l i nobody in
     let b : Model = getD l j nobody in
     let k : typeAndStructure a ≡ typeAndStructure b = sym (kind-entry a) ∙ eqb-true _ _ s ∙ kind-entry b in
@@ -217,7 +217,7 @@ module _ {x : Element} (g : GoodMap x) (f : FineMap (mapOf x)) (brain : isBrain 
 
   once-each : short.comesBack rs ≡ false
   unfolding short.comesBack
-  once-each = ap (twoOf short.alike) runs-are ∙ entries-apart (length rs) (byOffset models) wholes-placed apart-placed
+  once-each = ap (twoOf short.ofOneKind) runs-are ∙ entries-apart (length rs) (byOffset models) wholes-placed apart-placed
 
   runs-size : length (short.runs rs) ≡ length models
   runs-size = ap length runs-are ∙ length-each entryOf (byOffset models) ∙ sym (length-permuted permuted)
@@ -269,7 +269,7 @@ module _ {text lengths records work : List ℕ} {a : Answer} {after cleared : Li
   unfolding described
   map-brain = let e : (lister .one) .kind ≡ Brain = sym (ap (λ (t : Dimension). t .kind) told-is) ∙ brain in rw e refl
 
-  stretch-is : stretchOf told after ≡ stretch (lister .one)
+  stretch-is : toldStretch told after ≡ stretch (lister .one)
   unfolding described
   stretch-is =
       let m : Map = lister .one in

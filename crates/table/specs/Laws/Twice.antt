@@ -16,7 +16,7 @@ use Rattle.nodes.specs.Places.{the}
 use Rattle.records.specs.Record.{keyOf}
 use Rattle.records.specs.Laws.Record.{key-at}
 use Rattle.records.specs.Fill.{wrote, wrote-none, wrote-next, length-wrote}
-use Rattle.records.specs.Repeat.{Repeats, repeatRefusal, Checks}
+use Rattle.records.specs.Repeat.{Repeats, repeatRefusal, ChecksRepeats}
 use Rattle.records.specs.Laws.Repeat.{two-repeats, repeat-told}
 use Rattle.cifti.specs.Maps.{Map, mapOf, lengthOf, isBrain, brainMaps}
 use Rattle.cifti.specs.Conditions.{repeats, locationTwice}
@@ -37,8 +37,8 @@ use Rattle.models.specs.Laws.Fine.{fine-first, fine-rest}
 use Rattle.models.specs.Laws.Judged.{OverHeld, held-place, held-here}
 use Rattle.models.specs.declared.gather.Models.{Models}
 use Rattle.models.specs.declared.judge.Judged.{Judged}
-use Rattle.table.specs.Placing.{Placed}
-use Rattle.table.specs.Ready.{mapAt, Ready}
+use Rattle.table.specs.Placing.{ModelsPlaced}
+use Rattle.table.specs.Ready.{mapAt, MapReady}
 use Rattle.table.specs.Laws.Ready.{Filled, nobody, counts, all-fits, sum-is, ready-filled}
 use Rattle.table.specs.Stretch.{stretchOf, Writable}
 use Rattle.table.specs.Laws.Stretch.{stretch-long, stretch-ready, stretch-placing}
@@ -102,7 +102,7 @@ module _ {n : ℕ} (before : List ℕ) (h : n ≤ length before) {w₁ : List �
   keys-are : take n w₁ ≡ map keyOf (take n before)
   keys-are = ap (take n) k ∙ take-at (map keyOf (take n before)) (drop (0 + length (map keyOf (take n before))) before) n keys-n
 
-  pub key-told : {a : ℕ} {w₂ : List ℕ} → Checks n (take n w₁) w₁ a w₂ → KeyTwice n before (eqb a 14) w₂
+  pub key-told : {a : ℕ} {w₂ : List ℕ} → ChecksRepeats n (take n w₁) w₁ a w₂ → KeyTwice n before (eqb a 14) w₂
   key-told {a} c =
       let room : n ≤ length w₁ = omega (arith, kept₁) in
       record {
@@ -115,7 +115,7 @@ pub ruleset key-twice = (key-told, needs)
 
 -- ---- A key twice in the stretch.
 
-module _ {text : List ℕ} {m : ℕ} {held : Models} {room : ℕ} (r : Ready text m held room 0) where
+module _ {text : List ℕ} {m : ℕ} {held : Models} {room : ℕ} (r : MapReady text m held room 0) where
   size : lengthOf (mapAt text m) ≡ total (λ b. b .count) ((mapAt text m) .models)
   size = sum-is (r .brain)
 
@@ -190,7 +190,7 @@ module _ {text : List ℕ} {m : ℕ} {held : Models} {room : ℕ} (r : Ready tex
         same = key-of (t .first) u ∙ t .same ∙ sym (key-of (t .second) v);
       }
 
-module _ {text : List ℕ} {m : ℕ} {held : Models} {before : List ℕ} (r : Ready text m held (length before) 0) {n : ℕ} {w₁ : List ℕ}
+module _ {text : List ℕ} {m : ℕ} {held : Models} {before : List ℕ} (r : MapReady text m held (length before) 0) {n : ℕ} {w₁ : List ℕ}
     (f : Filled text m before 0 n w₁) where
   long : length (stretch (mapAt text m)) ≡ n
   long = stretch-length (mapAt text m) ∙ sym (f .counted)
@@ -225,7 +225,7 @@ module _ {text : List ℕ} {n : MapNote} {m : Models} {before : List ℕ} (w : W
   twice-other f = record { told = rw (noted-plain (w .noted) p f); long = refl }
 
   module _ (t : b ≡ true) where
-    module _ {k : ℕ} {w₁ : List ℕ} (f : Placed text m before 0 k w₁) where
+    module _ {k : ℕ} {w₁ : List ℕ} (f : ModelsPlaced text m before 0 k w₁) where
       pub twice-enough : k ≤ length w₁
       twice-enough = enough (stretch-ready w p t) (ready-filled (stretch-ready w p t) f refl)
 

@@ -19,7 +19,7 @@ use Rattle.grammar.specs.Grammar.{Absent, Distinct, Attributes}
 use Rattle.grammar.specs.Look.{is, attributesOf, textOf}
 use Rattle.grammar.specs.Read.{fail, got, bind, byte}
 use Rattle.grammar.specs.Laws.Read.{ok-got}
-use Rattle.grammar.specs.Parser.{name-at, gap-at, value-at, ends, closing, same}
+use Rattle.grammar.specs.Parser.{name-at, gap-at, value-at, ends, closing, sameBytes}
 use Rattle.grammar.specs.Laws.Sound.{gap-sound, name-sound, attributes-sound, same-refl}
 use Rattle.grammar.specs.Laws.Tokens.{gap-each, ends-blanks, ends-name, same-equal}
 use Rattle.steps.specs.Step.{stepped}
@@ -57,7 +57,8 @@ use Rattle.schema.specs.Laws.Attributes.{attribute-there, attribute-missing, at
 use Rattle.schema.specs.Laws.Attributes.{Fitting, fitting-start, fitting-attributed, fitting-room, fitting-on, fitting-end}
 use Rattle.schema.specs.Laws.Attributes.{own-six, own-other, own-text}
 use Rattle.schema.specs.Laws.Keys.{by-name, key-ahead, key-inside}
-use Rattle.values.specs.InTurn.{keysFrom, Over, none-passed, one-passed, Within, Placed, Asking, Asked, Begins, Walked}
+use Rattle.values.specs.InTurn.{keysFrom, Over, none-passed, one-passed, TagGoesOn, AttributePlaced, AskingAttribute, AttributeAsked}
+use Rattle.values.specs.InTurn.{Begins, AttributesWalked}
 
 -- NO NAME TWICE
 distinct-law : {text : List ℕ} {at : ℕ} → Stands text at → Distinct (attributesOf (the text at))
@@ -78,7 +79,7 @@ module _ {text : List ℕ} (n : List ℕ) (v : ℕ) (rest : List Key) where
   unfolding place-in
   first-place [] h d = rw (same-refl n)
   first-place (key m u ∷ before) (one-key k h) (grammar.distinct-more a d) =
-      rw (refute (same m n) (λ e. other-name before h a (same-equal m n e))) (first-place before h d)
+      rw (refute (sameBytes m n) (λ e. other-name before h a (same-equal m n e))) (first-place before h d)
 
 place-law : {text : List ℕ} {at : ℕ} (name : List ℕ) → Stands text at → (before rest : List Key) {v : ℕ}
     → keys text at ≡ before ++ (key name v ∷ rest) → At v ≡ place text at name
@@ -95,8 +96,9 @@ module _ (text : List ℕ) (i : ℕ) {k : token-key.Key} (ek : k ≡ keyed (leng
       let n = ok-got (rw (f .name .reads) at (name-sound (drop from text))) in
       rw (g .0, n .0) (ends-blanks closing (gap-each (g .1)) (f .name .value ++ drop to text) ∙ ends-name (n .1) (drop to text))
 
-  pub sought-met : {at : ℕ} → Within text at i → (name : List ℕ) {t : Bool} → t ≡ same (part from to text) name → t ≡ true → {x : Step}
-      → x ≡ stepped (length text) (value-at (drop end text)) → {j : ℕ} → x ≡ To j → Placed text at i name (At end) j
+  pub sought-met : {at : ℕ} → TagGoesOn text at i → (name : List ℕ) {t : Bool} → t ≡ sameBytes (part from to text) name → t ≡ true
+      → {x : Step}
+      → x ≡ stepped (length text) (value-at (drop end text)) → {j : ℕ} → x ≡ To j → AttributePlaced text at i name (At end) j
   sought-met p name et h ex {j} w =
       let e : part from to text ≡ name = same-equal (part from to text) name (sym et ∙ h) in
       let q : keysFrom text i ≡ key name end ∷ keysFrom text j =
@@ -106,33 +108,33 @@ module _ (text : List ℕ) (i : ℕ) {k : token-key.Key} (ek : k ≡ keyed (leng
         passed = one-passed q (keys-tag text i (sym goes-on) refl ek z ex w);
       }
 
-pub sought-searched : {text : List ℕ} {at i : ℕ} {name : List ℕ} {f : Found} → f ≡ place text at name → Placed text at i name f i
+pub sought-searched : {text : List ℕ} {at i : ℕ} {name : List ℕ} {f : Found} → f ≡ place text at name → AttributePlaced text at i name f i
 sought-searched e = record { there = e; passed = none-passed }
 
 pub ruleset seeking = (sought-met, sought-searched, key-ahead, key-inside, needs)
 
 -- ONE OF THE ROW
-module _ {text : List ℕ} {at a i : ℕ} (p : Asking text at a i) where
-  pub asking-within : Within text at i
+module _ {text : List ℕ} {at a i : ℕ} (p : AskingAttribute text at a i) where
+  pub asking-within : TagGoesOn text at i
   asking-within = p .within
 
   pub asking-small : a < 4294967304
   asking-small = p .known .known
 
-module _ (t l : List ℕ) {text : List ℕ} {at a i : ℕ} (p : Asking text at a i) {c : ℕ} (ce : c ≡ attributeCell t a 0) {x : List ℕ}
-    (ex : x ≡ ascii (wordAt t l c)) {f : Found} {j : ℕ} (s : Placed text at i x f j) where
+module _ (t l : List ℕ) {text : List ℕ} {at a i : ℕ} (p : AskingAttribute text at a i) {c : ℕ} (ce : c ≡ attributeCell t a 0) {x : List ℕ}
+    (ex : x ≡ ascii (wordAt t l c)) {f : Found} {j : ℕ} (s : AttributePlaced text at i x f j) where
   over : Over text (ascii (wordAt t l (attributeCell t a 0))) i j
   over = let e : x ≡ ascii (wordAt t l (attributeCell t a 0)) = ex ∙ rw ce in rw e at (s .passed)
 
   pub asked-there : {v : ℕ} → f ≡ At v → {g : ℕ} → g ≡ attributeCell t a 1 → {r : ℕ} → r ≡ valueFault t l g (value-there text v)
-      → Asked t l text at a i r j
+      → AttributeAsked t l text at a i r j
   asked-there e ge re = record { right = attribute-there t l (p .known) ce ex (s .there) e ge re; passed = over }
 
   module _ (e : f ≡ Nothing) {n : ℕ} (ne : n ≡ attributeCell t a 2) where
-    pub asked-missing : n ≡ 0 → Asked t l text at a i 6 j
+    pub asked-missing : n ≡ 0 → AttributeAsked t l text at a i 6 j
     asked-missing h = record { right = attribute-missing t l (p .known) ce ex (s .there) e ne h; passed = over }
 
-    pub asked-spared : (n ≡ 0 → ⊥) → Asked t l text at a i 0 j
+    pub asked-spared : (n ≡ 0 → ⊥) → AttributeAsked t l text at a i 0 j
     asked-spared h = record { right = attribute-spared t l (p .known) ce ex (s .there) e ne h; passed = over }
 
 pub ruleset asking = (asking-within, asking-small, asked-there, asked-missing, asked-spared, needs)
@@ -226,7 +228,7 @@ listed-here t l kind w h k =
     (kindCell t kind 0) w h (omega arith) (here-named t l w)
 
 module _ {t l text : List ℕ} {at kind to worst w i : ℕ} (go : Walking t l text at kind to worst w i) where
-  pub walking-asks : w < to → Asking text at w i
+  pub walking-asks : w < to → AskingAttribute text at w i
   walking-asks h = record {
     known = fitting-attributed (go .fits) h;
     within = record { stands = go .fits .of-kind .stands; before = go .before; parts = go .parts };
@@ -235,7 +237,7 @@ module _ {t l text : List ℕ} {at kind to worst w i : ℕ} (go : Walking t l te
   pub walking-room : w < to → w + 1 < 18446744073709551616
   walking-room h = fitting-room (go .fits) h
 
-  pub walking-on : w < to → {r j : ℕ} → Asked t l text at w i r j → {worst₁ : ℕ} → worst₁ ≡ sooner worst r
+  pub walking-on : w < to → {r j : ℕ} → AttributeAsked t l text at w i r j → {worst₁ : ℕ} → worst₁ ≡ sooner worst r
       → Walking t l text at kind to worst₁ (w + 1) j
   unfolding all keyListed
   walking-on h {r} {j} a {worst₁} e = by (a .passed)
@@ -266,7 +268,7 @@ module _ {t l text : List ℕ} {at kind to worst w i : ℕ} (go : Walking t l te
             inside = record { same-tag = go .inside .same-tag ∙ s };
           }
 
-  pub walking-end : to ≤ w → Walked t l text at kind worst i
+  pub walking-end : to ≤ w → AttributesWalked t l text at kind worst i
   walking-end h = record {
     right = fitting-end (go .fits) h;
     named = ap (all (keyListed (attributesOfKind t l kind))) (go .parts)
@@ -277,7 +279,7 @@ module _ {t l text : List ℕ} {at kind to worst w i : ℕ} (go : Walking t l te
 pub ruleset walking = (walking-start, walking-asks, walking-room, walking-on, walking-end, known-small, needs)
 
 -- THE ELEMENT'S OWN PART
-module _ {t l text : List ℕ} {at kind a i : ℕ} (p : Known text at kind) (s : Walked t l text at kind a i) where
+module _ {t l text : List ℕ} {at kind a i : ℕ} (p : Known text at kind) (s : AttributesWalked t l text at kind a i) where
   pub walked-six : a ≡ 6 → Owns t l text at kind 6 i
   walked-six e = record { fault-is = own-six t l p (s .right) e; inside = s .inside }
 

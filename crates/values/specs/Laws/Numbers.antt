@@ -8,10 +8,10 @@ use borrow.Author.Needs.{needs}
 use Rattle.grammar.specs.Look.{Word}
 use Rattle.schema.specs.Schema.{isNumber}
 use Rattle.schema.specs.Table.{formAt, formCell}
-use Rattle.schema.specs.Parts.{labelBy}
+use Rattle.schema.specs.Parts.{labelByForm}
 use Rattle.schema.specs.Laws.Values.{right-number, by-label}
 
-pub right-label : (t l : List ℕ) (x : Word) (f : ℕ) {id : ℕ} → id ≡ formCell t f 0 → 6 < id → {r : Bool} → r ≡ labelBy id x
+pub right-label : (t l : List ℕ) (x : Word) (f : ℕ) {id : ℕ} → id ≡ formCell t f 0 → 6 < id → {r : Bool} → r ≡ labelByForm id x
     → r ≡ isNumber (formAt t l f) x
 right-label t l x f {id} i h k =
     right-number t l x f i refl refl refl

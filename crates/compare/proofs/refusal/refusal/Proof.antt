@@ -4,7 +4,7 @@ use Prim.Native.Nat.{ℕ}
 use native.Mathlib.Omega.{arith}
 use borrow.Author.Needs.{needs}
 use Rattle.compare.specs.Laws.Rows.{front-refused, fits-second, second-twice, none-refused}
-use Rattle.compare.specs.Refused.{Fits}
+use Rattle.compare.specs.Refused.{SheetFits}
 use Rattle.compare.proofs.refusal.refusal.Statement.{statement}
 use Rattle.compare.proofs.refusal.refusal.Tie as tie
 
@@ -17,7 +17,7 @@ start c = c .before .before .before .before .before
 location-twice-requires : tie.Need-location-twice-requires
 location-twice-requires c κs =
     let said = c .before .before .before .before .front-refusal in
-    subst (λ (n : ℕ). Fits (start (c .before .before .before .before) .args .second .now) n) (sym
+    subst (λ (n : ℕ). SheetFits (start (c .before .before .before .before) .args .second .now) n) (sym
     (said .kept .1 .1 .0))
     (fits-second _ _ _ (said .ensures) (c .before .if1 .left))
 

@@ -4,7 +4,7 @@ use mathlib.Core.List.{List}
 use Prim.Native.Nat.{ℕ, _+_, _-_}
 use lib.ListN.{getD}
 use Rattle.records.specs.Fill.{wrote}
-use Rattle.maps.specs.Table.{recordsOf}
+use Rattle.maps.specs.Table.{modelRecords}
 use Rattle.models.specs.declared.gather.Models.{Models}
 use Rattle.table.specs.Placing.{nthModel}
 use Rattle.table.specs.Laws.Placing.{PlacedTo, placing, placed-offset, placed-sum, placed-can, placed-on, placed-done}
@@ -20,7 +20,7 @@ abbrev μ-loop : tie.MeasureT-loop
 
 -- the i-th model is written from its offset on
 abbrev Wrote : (text : List ℕ) (m : Models) (start i : ℕ) (before after : List ℕ) → Type 0
-Wrote text m start i before after = after ≡ wrote (start + getD (m .offset) i 0) (recordsOf (nthModel text m i)) before
+Wrote text m start i before after = after ≡ wrote (start + getD (m .offset) i 0) (modelRecords (nthModel text m i)) before
 
 -- the turn that wrote it
 abbrev turn : tie.After-fill-model Inv-loop μ-loop → tie.In-loop Inv-loop μ-loop

@@ -4,7 +4,7 @@ use Prim.Native.Nat.{ℕ, _/_, _%_, _^_}
 use borrow.Author.Tests.{eq-eqb, ne-eqb}
 use native.Mathlib.Nat.{div-one}
 use Rattle.records.specs.Width.{five, seven}
-use Rattle.records.specs.Fields.{bits, parted}
+use Rattle.records.specs.Fields.{bits, partsOf}
 use Rattle.records.specs.Record.{Location, onSurface, inVolume, recordOf, wrapped, widened, locationIn, isVoxelIn, structureIn, payloadIn}
 use Rattle.records.specs.Record.{iIn, jIn, kIn}
 use Rattle.records.specs.Laws.Record.{within-fits, location-fits}
@@ -19,11 +19,11 @@ whole r l e = ap recordOf (ap wrapped (sym e) ∙ within-fits (fits-wider seven-
 
 volume : (r : ℕ) → r / 2 ^ 39 % 2 ≡ 1
     → recordOf (wrapped (inVolume (r / 2 ^ 34 % 32) (r / 2 ^ 23 % 2048) (r / 2 ^ 12 % 2048) (r % 4096))) ≡ widened r
-unfolding locationIn isVoxelIn structureIn iIn jIn kIn bits parted
+unfolding locationIn isVoxelIn structureIn iIn jIn kIn bits partsOf
 volume r h = whole r _ (rw (eq-eqb (r / 2 ^ 39 % 2) 1 h, div-one))
 
 surface : (r : ℕ) → (r / 2 ^ 39 % 2 ≡ 1 → ⊥) → recordOf (wrapped (onSurface (r / 2 ^ 34 % 32) (r % 2 ^ 34))) ≡ widened r
-unfolding locationIn isVoxelIn structureIn payloadIn bits parted
+unfolding locationIn isVoxelIn structureIn payloadIn bits partsOf
 surface r h = whole r _ (rw (ne-eqb (r / 2 ^ 39 % 2) 1 h, div-one))
 
 returns : tie.Need-returns

@@ -46,7 +46,7 @@ use denote.Triple.Walked.{walk-meets}
 use denote.Exit.{yes}
 use denote.Triple.Clauses.{ensured, lasts}
 use Rattle.shortlist.specs.Making.{Lists}
-use Rattle.shortlist.specs.Made.{modelAt, filled, listedBy, MadeOf}
+use Rattle.shortlist.specs.Made.{modelAt, entriesFilled, listAnswer, MadeOf}
 use Rattle.shortlist.specs.Laws.Made.{lists-made}
 use Rattle.shortlist.specs.declared.answer.Model.{Model}
 use Rattle.shortlist.specs.declared.answer.Listed.{Listed}
@@ -170,8 +170,8 @@ module _ {M : Type 1} (𝓤 : URA M) (H : Heap 𝓤) (A : Atoms 𝓤) (W : Given
       move ! (1 ∷ 0 ∷ []) $ join ! $ frame ! $ done !
 
   list-said : (m : Made) (z : Listed) → ent 𝓤 (ensured 𝓤 H A listed.ended (listed.clauses 𝓤 H A mem run) tt (m, tt) tt z) (fact 𝓤 (z ≡
-      listedBy (m .number) (m .count)))
-  list-said m z = exE 𝓤 _ (λ ws. snd∗ 𝓤 (sem 𝓤 H A (lasts listed.ended tt (m, tt) ws)) (fact 𝓤 (z ≡ listedBy (m .number) (m .count))))
+      listAnswer (m .number) (m .count)))
+  list-said m z = exE 𝓤 _ (λ ws. snd∗ 𝓤 (sem 𝓤 H A (lasts listed.ended tt (m, tt) ws)) (fact 𝓤 (z ≡ listAnswer (m .number) (m .count))))
 
   exits : (z : Listed) (u : Val) (zs : List Model) → Lists (x .now) (y .now) z zs → length zs ≡ length (y .now)
       → ent 𝓤 (⋆ 𝓤 H A (‵ (S.the-row .own z (u ∷ [])) ∷ ‵ (flft κ q) ∷ (‵ (flft κ′ q′) ⊛ ‵ ftrue) ∷ ‵ (finally R (y .name) zs) ∷ ‵ Own ∷
@@ -242,8 +242,8 @@ module _ {M : Type 1} (𝓤 : URA M) (H : Heap 𝓤) (A : Atoms 𝓤) (W : Given
         (fill.clauses 𝓤 H A mem run) (κ′, tt) (y, (m, (m .count, tt))) tt r)))) (id⊢ 𝓤 _) $ await ! tt $ pick ! (λ r.
         -- what `fill` ensures, at some last list
         split ! $ move ! (1 ∷ []) $ use1 W (some (λ (zs : List Model × (Unit {0} × (Unit {0} × Unit {0}))). ‵ (lasts fill.ended (κ′, tt)
-        (y, (m, (m .count, tt))) zs) ⊛ raw (fact 𝓤 (zs .0 ≡ filled (m .count) (modelAt m) (y .now))))) (id⊢ 𝓤 _) $ pick ! (λ zs.
-        split ! $ move ! (1 ∷ []) $ heard ! (zs .0 ≡ filled (m .count) (modelAt m) (y .now)) (λ e₂. fsplit ! $ fsplit ! $
+        (y, (m, (m .count, tt))) zs) ⊛ raw (fact 𝓤 (zs .0 ≡ entriesFilled (m .count) (modelAt m) (y .now))))) (id⊢ 𝓤 _) $ pick ! (λ zs.
+        split ! $ move ! (1 ∷ []) $ heard ! (zs .0 ≡ entriesFilled (m .count) (modelAt m) (y .now)) (λ e₂. fsplit ! $ fsplit ! $
         move ! (1 ∷ []) $ feqL ! (λ l.
         -- [the last list; …; κ′'s token and the result; κ's token; Own; _7; …]
         move ! (1 ∷ []) $ lose ! $ move ! (1 ∷ []) $ split ! $ move ! (1 ∷ []) $
@@ -256,8 +256,8 @@ module _ {M : Type 1} (𝓤 : URA M) (H : Heap 𝓤) (A : Atoms 𝓤) (W : Given
         (λ u₃.
         use1 W (later (some (λ (z : Listed). (‵ ftrue ⊛ ‵ (S.the-row .own z (u₃ ∷ []))) ⊛ raw (ensured 𝓤 H A listed.ended (listed.clauses
         𝓤 H A mem run) tt (m, tt) tt z)))) (id⊢ 𝓤 _) $ await ! tt $ pick ! (λ z.
-        split ! $ move ! (1 ∷ []) $ use1 W (raw (fact 𝓤 (z ≡ listedBy (m .number) (m .count)))) (list-said m z) $
-        heard ! (z ≡ listedBy (m .number) (m .count)) (λ e₃. split ! $ lose ! $
+        split ! $ move ! (1 ∷ []) $ use1 W (raw (fact 𝓤 (z ≡ listAnswer (m .number) (m .count)))) (list-said m z) $
+        heard ! (z ≡ listAnswer (m .number) (m .count)) (λ e₃. split ! $ lose ! $
         peeks ! S.the-row (Is S.the-row) (shows 𝓤 H A S.the-row) z (u₃ ∷ []) (λ is₃.
         land ! (from ! (stop !)) (init ! 19 refl (EL.lawful S.the-type S′.the-laws 𝓤 H A W tt .typed z _ is₃ .0)) $
         -- [the answer; κ′'s token; the last list; κ's token; Own; _7; …; room for _0; …]

@@ -57,7 +57,7 @@ use denote.Signature.{plain}
 use Rattle.shortlist.specs.declared.answer.Model.{Model}
 use Rattle.shortlist.specs.declared.state.Made.{Made}
 use Rattle.shortlist.specs.Asking.{noModel}
-use Rattle.shortlist.specs.Made.{modelAt, filled}
+use Rattle.shortlist.specs.Made.{modelAt, entriesFilled}
 use Rattle.shortlist.proofs.answer.Model as T
 use Rattle.shortlist.proofs.answer.Model.Laws as T′
 use Rattle.shortlist.proofs.state.Made as U
@@ -81,9 +81,9 @@ K = U.the-row
 abbrev stayed : Stays (fill.ended .signature .params) (fill.ended .kept)
 stayed = (stay-slice (0 ∷ []) tt (plain (λ _. R)), (stay-none (λ _. K) yes, (stay-none (λ _. usize) yes, tt)))
 
-length-filled : (n : ℕ) (f : ℕ → Model) (l : List Model) → length (filled n f l) ≡ length l
+length-filled : (n : ℕ) (f : ℕ → Model) (l : List Model) → length (entriesFilled n f l) ≡ length l
 length-filled zero f l = refl
-length-filled (suc n) f l = length-set (filled n f l) n (f n) ∙ length-filled n f l
+length-filled (suc n) f l = length-set (entriesFilled n f l) n (f n) ∙ length-filled n f l
 
 scaled : {i n : ℕ} → n * 32 < 2 ^ 63 → i < n → i * 32 < 2 ^ 64
 scaled h k = omega arith
@@ -136,7 +136,7 @@ module _ {M : Type 1} (𝓤 : URA M) (H : Heap 𝓤) (A : Atoms 𝓤) (W : Given
 
   -- the list after i turns
   abbrev upTo : ℕ → List Model
-  upTo i = filled i (modelAt made) ys
+  upTo i = entriesFilled i (modelAt made) ys
 
   abbrev Post : Val → SProp 𝓤
   Post = walkOf 𝓤 H A fill.ended stayed (fill.clauses 𝓤 H A mem run) .post (((κ, tt), (q, tt), tt, a, vals), tt)
