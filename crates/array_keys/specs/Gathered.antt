@@ -1,8 +1,8 @@
 -- Bytes gathered until four are held, and the key of four bytes, as the code keeps them.
 use mathlib.Core.Path.{_≡_}
 use mathlib.Core.List.{List, [], _++_}
-use mathlib.Core.Bool.{Bool, true, false, cond}
-use Prim.Native.Nat.{ℕ, _+_, _*_, _/_, _%_, _^_, _<_, _≤_}
+use mathlib.Core.Bool.{Bool, cond}
+use Prim.Native.Nat.{ℕ, _+_, _/_, _%_, _^_, _<_, _≤_}
 use lib.Dec.{ltb}
 use lib.IntN.{ℤ}
 use Rattle.nodes.specs.Texts.{left}

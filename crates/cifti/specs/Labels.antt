@@ -1,10 +1,9 @@
 -- LABELS: the keys of one label table in text order, and the name of a key, which is the part of the text between the tags of its Label,
 -- undecoded. Both check 1 to 9, 24, 25 and 18; then 17 where the list lent is short, or 19 where there is no such key.
-use mathlib.Core.Path.{_≡_}
 use mathlib.Core.List.{List, [], _∷_, _++_}
 use mathlib.Core.Option.{Option, some}
 use mathlib.Core.Option
-use mathlib.Core.Bool.{Bool, false, _&&_, not}
+use mathlib.Core.Bool.{Bool, _&&_, not}
 use Prim.Native.Nat.{ℕ, zero, suc}
 use lib.Dec.{eqb, ltb}
 use lib.IntN.{ℤ}

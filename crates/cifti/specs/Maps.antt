@@ -1,7 +1,7 @@
 -- WHAT A HEADER SAYS: the maps of a document, in text order, with their numbers read. It means something for documents that pass
 -- conditions 4 to 7.
 use mathlib.Core.List.{List, [], _∷_}
-use mathlib.Core.Bool.{Bool, true, false, _&&_, _||_, cond}
+use mathlib.Core.Bool.{Bool, true, _&&_, _||_, cond}
 use mathlib.Core.Path.{_≡_, refl, sym, ap, _∙_}
 use Prim.Native.Nat.{ℕ, _+_, _%_}
 use Prim.Native.String.{String}

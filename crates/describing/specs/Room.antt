@@ -1,8 +1,7 @@
 -- CONDITION 13, map after map.
-use mathlib.Core.Path.{_≡_, _∙_}
-use mathlib.Core.List.{[], _∷_}
-use mathlib.Core.Bool.{cond, _||_}
-use Prim.Native.Nat.{ℕ, _+_, _-_, _≤_, _<_}
+use mathlib.Core.List.{[]}
+use mathlib.Core.Bool.{cond}
+use Prim.Native.Nat.{ℕ}
 use lib.ListN.{length}
 use Rattle.cifti.specs.Maps.{isBrain}
 use Rattle.maps.specs.declared.survey.MapNote.{MapNote}

@@ -1,8 +1,7 @@
 -- WHAT THE ANSWER SAYS OF THE MAPS.
-use mathlib.Core.Path.{_≡_, _∙_}
-use mathlib.Core.List.{List, [], _∷_}
+use mathlib.Core.List.{List, []}
 use mathlib.Core.Bool.{cond}
-use Prim.Native.Nat.{ℕ, _+_, _*_, _^_, _≤_, _<_}
+use Prim.Native.Nat.{ℕ}
 use Rattle.nodes.specs.Places.{the}
 use Rattle.cifti.specs.Maps.{isBrain, isSeries, seriesOf}
 use Rattle.cifti.specs.Answer.{noSeries, asSeries}

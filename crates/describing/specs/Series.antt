@@ -1,5 +1,4 @@
 -- WHAT A SERIES MAP SAYS, attribute by attribute.
-use mathlib.Core.Path.{_≡_, _∙_}
 use mathlib.Core.List.{List}
 use Prim.Native.Nat.{ℕ}
 use lib.IntN.{ℤ, pos}

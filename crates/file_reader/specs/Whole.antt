@@ -1,6 +1,6 @@
 -- THE PROMISES ON A FILE: its front is refused, and so all is; or what is promised of the read holds of its part and its lengths.
 use mathlib.Core.Path.{_≡_}
-use mathlib.Core.List.{List, [], _∷_}
+use mathlib.Core.List.{List, []}
 use mathlib.Core.Bool.{cond}
 use Prim.Native.Nat.{ℕ, _+_}
 use lib.Dec.{eqb}

@@ -6,7 +6,7 @@ use mathlib.Core.List.{List}
 use Prim.Native.Nat.{ℕ, suc, _≤_, _<_}
 use lib.IntN.{ℤ}
 use lib.ListN.{length}
-use Rattle.lists.specs.Lists.{all, each}
+use Rattle.lists.specs.Lists.{all}
 use Rattle.numbers.specs.Numbers.{inKeys}
 use Rattle.known_keys.specs.Known.{knownIn, codesOf}
 use Rattle.array_keys.specs.Ahead.{keysAhead, spareBytes}

@@ -1,8 +1,6 @@
 -- CONDITIONS 4 AND 29, as the code asks them.
-use mathlib.Core.Path.{_≡_, _∙_}
-use mathlib.Core.List.{[], _∷_}
-use mathlib.Core.Bool.{Bool, _&&_, _||_, not}
-use Prim.Native.Nat.{ℕ, _<_}
+use mathlib.Core.List.{[]}
+use mathlib.Core.Bool.{Bool, not}
 use Rattle.grammar.specs.Document.{Element}
 use Rattle.gifti.specs.Conditions.{arrayRead}
 

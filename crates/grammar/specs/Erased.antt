@@ -1,7 +1,7 @@
 -- THE PAPER'S DOCUMENT: a root that has a name, attributes in order (name, decoded value), and contents in order: elements, and runs of
 -- decoded characters. An element of `Document` also keeps the bytes between its tags; `erased` drops them, and nothing else.
-use mathlib.Core.Path.{_≡_, refl}
-use mathlib.Core.List.{List, [], _∷_}
+use mathlib.Core.Path.{_≡_}
+use mathlib.Core.List.{List, []}
 use mathlib.Core.Option.{Option, some}
 use mathlib.Core.Option
 use Prim.Native.Nat.{ℕ}

@@ -1,17 +1,17 @@
 -- THE GRAMMAR: `Writes e s` says that the bytes `s` may write the document whose root is `e`. It is a relation, production by production;
 -- `_⊹_` is one text after another. Nothing here reads: no production looks at what stands behind it, but for those on `]]>` and for a
 -- carriage return, which is no end of a line by itself where a line feed stands right behind it (`parted`).
-use mathlib.Core.Path.{_≡_, refl}
+use mathlib.Core.Path.{_≡_}
 use mathlib.Core.Logic.{_≢_}
-use mathlib.Core.List.{List, [], _∷_, _++_}
+use mathlib.Core.List.{List, [], _∷_}
 use Prim.Native.Nat.{ℕ, suc, _≤_}
-use mathlib.Core.Bool.{Bool, true, false}
+use mathlib.Core.Bool.{true, false}
 use lib.Dec.{eqb}
 use lib.ListN.{length}
 use Rattle.grammar.specs.Bytes.{_⊹_, ascii, blank, nameStart, nameByte, quote, special, Each, Sequence, SequenceUnless, begins}
 use Rattle.grammar.specs.Bytes.{parted, closed, skipped}
 use Rattle.grammar.specs.Characters.{Character}
-use Rattle.grammar.specs.Document.{Attribute, attribute, Element, element, Contents, nothing, child, run, merged, together}
+use Rattle.grammar.specs.Document.{Attribute, attribute, Element, element, Contents, nothing, child, merged, together}
 
 -- A name: a letter or `_`, then letters, digits, `_ - . :`; at most 64 bytes.
 pub data Name : List ℕ → Type 0 where

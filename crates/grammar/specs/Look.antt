@@ -2,12 +2,12 @@
 use mathlib.Core.List.{List, [], _∷_, _++_}
 use mathlib.Core.Option.{Option, some}
 use mathlib.Core.Option
-use mathlib.Core.Bool.{Bool, true, false, _&&_, _||_, not, cond}
+use mathlib.Core.Bool.{Bool, cond}
 use Prim.Native.Nat.{ℕ}
 use Prim.Native.String.{String}
 use Rattle.grammar.specs.Bytes.{ascii, sameBytes}
 use Rattle.grammar.specs.Document.{Attribute, attribute, Element, element, Contents, nothing, child, run}
-use Rattle.lists.specs.Lists.{those, any}
+use Rattle.lists.specs.Lists.{those}
 
 -- bytes: a name, a value, a text
 abbrev pub Word : Type 0

@@ -1,7 +1,6 @@
 -- A parser: a total function that finds the document that a text writes, if one does (`Theorems`). It falls with its fuel, the length of
 -- the text.
-use mathlib.Core.Path.{_≡_, refl}
-use mathlib.Core.List.{List, [], _∷_, _++_}
+use mathlib.Core.List.{List, [], _∷_}
 use mathlib.Core.Option.{Option, some}
 use mathlib.Core.Option
 use Prim.Native.Nat.{ℕ, zero, suc}

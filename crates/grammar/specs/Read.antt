@@ -1,10 +1,8 @@
 -- A reader of lists of bytes: it fails, or has read a value off the front and left a rest. Nothing here knows of markup.
-use mathlib.Core.Path.{_≡_, _∙_}
-use mathlib.Core.List.{List, [], _∷_, _++_}
+use mathlib.Core.List.{List, [], _∷_}
 use lib.ListN.{length, take}
-use Rattle.grammar.specs.Bytes.{_⊹_}
-use Prim.Native.Nat.{ℕ, zero, suc, _+_, _-_, _≤_, _<_}
-use mathlib.Core.Bool.{Bool, true, false, _&&_, _||_, not}
+use Prim.Native.Nat.{ℕ, zero, suc, _-_}
+use mathlib.Core.Bool.{Bool, true, false, not}
 use lib.Dec.{eqb}
 
 pub data Read (A : Type 0) : Type 0 where

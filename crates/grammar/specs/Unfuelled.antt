@@ -1,8 +1,6 @@
 -- The parser without its fuel: the equations that a program's loops and calls follow. Fuel beyond the length of the text changes nothing.
-use mathlib.Core.Path.{_≡_, _∙_}
-use mathlib.Core.List.{[], _∷_, _++_}
-use Prim.Native.Nat.{ℕ, suc, _+_, _≤_, _<_}
-use mathlib.Core.Bool.{_&&_, _||_}
+use mathlib.Core.List.{[]}
+use Prim.Native.Nat.{ℕ, suc}
 use lib.ListN.{length}
 use Rattle.grammar.specs.Document.{Contents}
 use Rattle.grammar.specs.Read.{Reader}

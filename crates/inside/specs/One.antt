@@ -1,9 +1,8 @@
 -- A WAY HAS ONE PLACE IN A TEXT: it is where the walk by places leads to.
-use mathlib.Core.Path.{_≡_, _∙_}
-use mathlib.Core.List.{List, [], _∷_, _++_}
-use Prim.Native.Nat.{ℕ, _+_, _-_, _≤_, _<_}
+use mathlib.Core.Path.{_≡_}
+use mathlib.Core.List.{List, []}
+use Prim.Native.Nat.{ℕ, _+_, _-_, _≤_}
 use lib.ListN.{length, take, drop}
-use Rattle.grammar.specs.Bytes.{_⊹_}
 use Rattle.nodes.specs.Scan.{tag-at}
 use Rattle.nodes.specs.ScanSteps.{tagTold}
 use Rattle.nodes.specs.Inside.{between-tags}

@@ -1,9 +1,8 @@
 -- A WAY BY PLACES: what a walk over first and next children finds; and that it finds what the way reaches in the document.
-use mathlib.Core.Path.{_≡_, _∙_}
 use mathlib.Core.List.{List, [], _∷_}
 use mathlib.Core.Option
 use mathlib.Core.Bool.{Bool}
-use Prim.Native.Nat.{ℕ, zero, suc, _<_}
+use Prim.Native.Nat.{ℕ, zero, suc}
 use lib.ListN.{length}
 use Rattle.lists.specs.Lists.{those}
 use Rattle.nodes.specs.Places.{the}

@@ -1,10 +1,10 @@
 -- WAYS TO AN ELEMENT: a way is a list of steps, and a step goes to the n-th, from 0, of the children that pass a test.
 -- `reached` says what a way leads to in a document; `Place` says where that stands in a text, by the grammar.
-use mathlib.Core.Path.{_≡_, refl}
-use mathlib.Core.List.{List, [], _∷_, _++_}
+use mathlib.Core.Path.{_≡_}
+use mathlib.Core.List.{List, [], _∷_}
 use mathlib.Core.Option.{Option, some}
 use mathlib.Core.Option
-use mathlib.Core.Bool.{Bool, true, false}
+use mathlib.Core.Bool.{Bool, true}
 use Prim.Native.Nat.{ℕ, zero, suc}
 use lib.ListN.{length}
 use Rattle.lists.specs.Lists.{those, count}

@@ -1,6 +1,5 @@
 -- CONDITIONS 1 TO 9, 24 AND 25 in their order.
-use mathlib.Core.Path.{_≡_, _∙_}
-use mathlib.Core.List.{List, [], _∷_, _++_}
+use mathlib.Core.List.{List, [], _++_}
 use Prim.Native.Nat.{ℕ}
 use lib.ListN.{length}
 use Rattle.lists.specs.Refusals.{Refusal, first}

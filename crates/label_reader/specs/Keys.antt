@@ -1,8 +1,7 @@
 -- THE KEYS OF A TABLE written into a lent list: on any bytes, and, behind 1 to 9, 24 and 25, what is promised.
-use mathlib.Core.Path.{_≡_, _∙_}
-use mathlib.Core.List.{List, [], _∷_, _++_}
+use mathlib.Core.List.{List, []}
 use mathlib.Core.Option
-use Prim.Native.Nat.{ℕ, _≤_, _<_}
+use Prim.Native.Nat.{ℕ}
 use lib.IntN.{ℤ}
 use Rattle.label_table.specs.Labels.{tableKeysAt, Wrote}
 

@@ -1,6 +1,6 @@
 -- THE NAME OF A KEY: where it stands in the text. On any bytes, and, behind 1 to 9, 24 and 25, what is promised.
-use mathlib.Core.Path.{_≡_, _∙_}
-use mathlib.Core.List.{List, [], _∷_, _++_}
+use mathlib.Core.Path.{_≡_}
+use mathlib.Core.List.{List, []}
 use mathlib.Core.Option
 use Prim.Native.Nat.{ℕ}
 use lib.IntN.{ℤ}

@@ -1,7 +1,7 @@
 -- DEMAND 2 OF LABELS: what is told is what the Labels of the table write. The table is what the way leads to: the LabelTable of the
 -- NamedMap of the index, in the map that lists the dimension.
 use mathlib.Core.Path.{_≡_}
-use mathlib.Core.List.{List, [], _∷_}
+use mathlib.Core.List.{List, []}
 use mathlib.Core.Option.{some}
 use Prim.Native.Nat.{ℕ, _<_}
 use lib.IntN.{ℤ, pos}

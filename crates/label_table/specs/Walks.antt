@@ -1,7 +1,6 @@
 -- The keys of the labels that are still to come, as codes.
-use mathlib.Core.Path.{_≡_}
-use mathlib.Core.List.{List, [], _∷_}
-use Prim.Native.Nat.{ℕ, _<_}
+use mathlib.Core.List.{List, []}
+use Prim.Native.Nat.{ℕ}
 use Rattle.lists.specs.Lists.{each}
 use Rattle.nodes.specs.declared.Kid.{Kid}
 use Rattle.label_table.specs.Laws.Labels.{row}

@@ -1,9 +1,8 @@
 -- A KEY TWICE in the tables of labels maps: the loops over the children of a name, on any bytes; and, where elements stand that pass 6 and
 -- 7, that they say condition 24.
-use mathlib.Core.Path.{_≡_, _∙_}
-use mathlib.Core.List.{List, [], _∷_}
-use mathlib.Core.Bool.{Bool, _||_, _&&_}
-use Prim.Native.Nat.{ℕ, _+_, _≤_, _<_}
+use mathlib.Core.List.{List, []}
+use mathlib.Core.Bool.{Bool, _&&_}
+use Prim.Native.Nat.{ℕ}
 use Rattle.lists.specs.Lists.{any, those, twoOf}
 use Rattle.grammar.specs.Bytes.{ascii}
 use Rattle.numbers.specs.Numbers.{sameKey}

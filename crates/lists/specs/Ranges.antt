@@ -2,7 +2,7 @@
 -- of them; then none reaches past the sum.
 -- A CHAIN DECIDES IT: from 0, go to the range that begins where the last one ended. The ranges tile if and only if that comes out at the
 -- sum.
-use mathlib.Core.Path.{_≡_, refl, _∙_}
+use mathlib.Core.Path.{_≡_, refl}
 use mathlib.Core.List.{List, [], _∷_}
 use mathlib.Core.Option.{Option, some}
 use mathlib.Core.Option

@@ -1,5 +1,5 @@
 -- THE PROMISE of `place_of`: what the program finds, and what it answers.
-use mathlib.Core.Path.{_≡_, _∙_}
+use mathlib.Core.Path.{_≡_}
 use mathlib.Core.List.{List}
 use Prim.Native.Nat.{ℕ}
 use lib.ListN.{length}

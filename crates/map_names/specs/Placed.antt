@@ -1,7 +1,7 @@
 -- THE PROMISE on the place of a map name: the number is that of the map name;
 -- where it is 0, the part is what stands at the place of the way to the name.
-use mathlib.Core.Path.{_≡_, _∙_}
-use mathlib.Core.List.{List, [], _∷_, _++_}
+use mathlib.Core.Path.{_≡_}
+use mathlib.Core.List.{List, []}
 use mathlib.Core.Option
 use Prim.Native.Nat.{ℕ, _+_, _≤_}
 use lib.ListN.{length, take, drop}

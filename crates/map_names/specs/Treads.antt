@@ -1,8 +1,7 @@
 -- THE WAY TO A MAP NAME AS THE PROGRAM GOES IT, on any bytes.
-use mathlib.Core.Path.{_≡_, _∙_}
 use mathlib.Core.List.{List, [], _∷_}
-use mathlib.Core.Bool.{Bool, false, _&&_, _||_}
-use Prim.Native.Nat.{ℕ, _+_}
+use mathlib.Core.Bool.{Bool, false, _&&_}
+use Prim.Native.Nat.{ℕ}
 use lib.Dec.{ltb}
 use Rattle.grammar.specs.Bytes.{ascii}
 use Rattle.nodes.specs.Attributes.{place}

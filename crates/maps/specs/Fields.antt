@@ -1,9 +1,7 @@
 -- The attributes of an element, as words and numbers.
-use mathlib.Core.Path.{_≡_, _∙_}
-use mathlib.Core.List.{List, [], _∷_}
+use mathlib.Core.List.{List, []}
 use mathlib.Core.Option
-use mathlib.Core.Bool.{_&&_}
-use Prim.Native.Nat.{ℕ, _≤_}
+use Prim.Native.Nat.{ℕ}
 use Rattle.grammar.specs.Document.{Element}
 use Rattle.grammar.specs.Look.{Word, attributesOf, orEmpty}
 use Rattle.nodes.specs.Attributes.{lookup}

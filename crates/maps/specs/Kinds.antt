@@ -1,12 +1,10 @@
 -- A model that passes 6 and 7: of a surface or of voxels, as its ModelType says.
-use mathlib.Core.Path.{_≡_, _∙_}
-use mathlib.Core.List.{[], _∷_, _++_}
+use mathlib.Core.Path.{_≡_}
+use mathlib.Core.List.{[]}
 use mathlib.Core.Option
-use mathlib.Core.Bool.{true, false, _&&_, _||_}
-use Prim.Native.Nat.{ℕ, _+_, _<_, _≤_}
+use mathlib.Core.Bool.{true, false}
 use Rattle.grammar.specs.Document.{Element}
 use Rattle.grammar.specs.Look.{has}
-use Rattle.schema.specs.Schema.{_⇒_}
 use Rattle.cifti.specs.Rows.{surface, voxels}
 use Rattle.maps.specs.Good.{Good}
 

@@ -1,8 +1,7 @@
 -- CONDITIONS 8 AND 9 BY DIGITS: all listed dimensions are digits, so ten counts tell what they are.
-use mathlib.Core.Path.{_≡_, _∙_}
-use mathlib.Core.List.{[], _∷_, _++_}
-use mathlib.Core.Bool.{cond, _&&_, _||_}
-use Prim.Native.Nat.{ℕ, _+_, _-_, _≤_, _<_}
+use mathlib.Core.List.{[]}
+use mathlib.Core.Bool.{cond}
+use Prim.Native.Nat.{ℕ}
 use lib.Dec.{ltb}
 
 -- how often a dimension is to be listed where there are n

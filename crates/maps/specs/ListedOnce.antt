@@ -1,7 +1,6 @@
 -- EVERY DIMENSION IS LISTED ONCE, and no other: the loop over the ten digits, and the loop over the maps.
-use mathlib.Core.Path.{_≡_, _∙_}
-use mathlib.Core.List.{List, [], _∷_, _++_}
-use Prim.Native.Nat.{ℕ, _+_, _≤_, _<_, _^_}
+use mathlib.Core.List.{List, []}
+use Prim.Native.Nat.{ℕ, _≤_, _<_}
 use lib.ListN.{length}
 use Rattle.nodes.specs.Places.{the}
 use Rattle.cifti.specs.Rows.{matrix}

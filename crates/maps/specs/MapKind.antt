@@ -1,12 +1,10 @@
 -- A map that passes 6 and 7: of a kind that is read, and good as the row of its kind.
-use mathlib.Core.Path.{_≡_, _∙_}
+use mathlib.Core.Path.{_≡_}
 use mathlib.Core.List.{List, [], _∷_}
 use mathlib.Core.Option
-use mathlib.Core.Bool.{_||_}
-use Prim.Native.Nat.{ℕ}
 use Rattle.lists.specs.Lists.{each}
 use Rattle.grammar.specs.Document.{Element}
-use Rattle.schema.specs.Schema.{Case, _⇒_}
+use Rattle.schema.specs.Schema.{Case}
 use Rattle.cifti.specs.Rows.{ElementKind}
 use Rattle.cifti.specs.Maps.{caseKind, allKinds, rowFor, kindOfMap}
 use Rattle.cifti.specs.declared.answer.Kind.{Kind}

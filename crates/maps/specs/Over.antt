@@ -1,7 +1,6 @@
 -- A LOOP OVER THE MAPS, of which there are three at most: what is known of the maps that are left, from the first to the last.
-use mathlib.Core.Path.{_≡_, _∙_}
-use mathlib.Core.List.{List, [], _∷_}
-use Prim.Native.Nat.{ℕ, _+_, _≤_, _<_}
+use mathlib.Core.List.{List, []}
+use Prim.Native.Nat.{ℕ}
 use lib.ListN.{getD}
 use Rattle.lists.specs.Lists.{each}
 use Rattle.nodes.specs.Places.{the}

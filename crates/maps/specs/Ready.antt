@@ -1,8 +1,8 @@
 -- THE MAPS OF A GOOD MATRIX, by their places: at most three, once condition 8 is known not to apply.
-use mathlib.Core.Path.{_≡_, _∙_}
-use mathlib.Core.List.{List, [], _∷_, _++_}
-use mathlib.Core.Bool.{false, _||_}
-use Prim.Native.Nat.{ℕ, _+_, _-_, _≤_, _<_}
+use mathlib.Core.Path.{_≡_}
+use mathlib.Core.List.{List, []}
+use mathlib.Core.Bool.{false}
+use Prim.Native.Nat.{ℕ, _-_, _≤_, _<_}
 use lib.ListN.{length, getD, take, replicate}
 use Rattle.lists.specs.Lists.{count, each}
 use Rattle.grammar.specs.Document.{Element}

@@ -1,8 +1,8 @@
 -- THE LENGTH OF A MAP: a sum over its children.
-use mathlib.Core.Path.{_≡_, _∙_}
+use mathlib.Core.Path.{_≡_}
 use mathlib.Core.List.{List, [], _∷_}
 use mathlib.Core.Bool.{Bool, true, false, cond}
-use Prim.Native.Nat.{ℕ, _+_, _*_, _-_, _^_, _≤_, _<_}
+use Prim.Native.Nat.{ℕ, _-_, _≤_}
 use Prim.Native.String.{String}
 use lib.ListN.{length, drop}
 use Rattle.lists.specs.Lists.{all, total, those}

@@ -1,6 +1,6 @@
 -- WHAT IS NOTED OF THE MAPS OF A MATRIX: how many there are, told up to four, and of the first three where each begins, its end, kind,
 -- dimensions and length.
-use mathlib.Core.Path.{_≡_, _∙_}
+use mathlib.Core.Path.{_≡_}
 use mathlib.Core.List.{List, [], _∷_, _++_}
 use mathlib.Core.Bool.{Bool, true}
 use Prim.Native.Nat.{ℕ, _+_, _≤_, _<_, min}

@@ -1,7 +1,6 @@
 -- THE TABLE OF A MAP: all its models' records, each written at its offset, one model after the other, are its stretch.
-use mathlib.Core.Path.{_≡_, _∙_}
-use mathlib.Core.List.{List, [], _∷_, _++_}
-use Prim.Native.Nat.{ℕ, _+_, _-_, _<_, _≤_}
+use mathlib.Core.List.{List, []}
+use Prim.Native.Nat.{ℕ}
 use Rattle.lists.specs.Lists.{each}
 use Rattle.records.specs.Record.{recordOf}
 use Rattle.cifti.specs.Maps.{Model, locations}

@@ -1,7 +1,7 @@
 -- Marking a place.
 use mathlib.Core.Path.{_≡_, refl, sym, ap, _∙_}
 use mathlib.Core.List.{List, [], _∷_}
-use mathlib.Core.Bool.{Bool, true, false, false≢true}
+use mathlib.Core.Bool.{true, false, false≢true}
 use Prim.Native.Nat.{ℕ, zero, suc, _+_, _/_, _%_, _^_, _≤_, _<_}
 use native.Mathlib.Omega.{arith}
 use native.Mathlib.Nat.{zero-div}
@@ -9,7 +9,7 @@ use lib.Dec.{eqb}
 use borrow.Author.Needs.{needs}
 use lib.ListN.{length, getD, set, length-set}
 use lib.Seq.{getD-set-same, getD-set-other}
-use Rattle.marks.specs.Marks.{bit, marked, Stay, Marked, Unset}
+use Rattle.marks.specs.Marks.{bit, marked, Marked, Unset}
 use Rattle.lists.specs.Laws.Bits.{Side, under, same, over, side, sets, keeps, fits, one-shifted}
 use Rattle.marks.specs.Laws.Apart.{all-stay}
 

@@ -1,9 +1,9 @@
 -- THINGS WHOSE PLACES WERE ALL NEW WHEN THEY WERE MARKED ARE APART: the law by which condition 14 is decided in one reading. `place` is
 -- any function that gives equal things equal places; nothing more is asked of it.
-use mathlib.Core.Path.{_≡_, _∙_}
+use mathlib.Core.Path.{_≡_}
 use mathlib.Core.List.{List, [], _∷_, _++_}
-use mathlib.Core.Bool.{Bool, true, false, _||_, _&&_}
-use Prim.Native.Nat.{ℕ, _%_}
+use mathlib.Core.Bool.{Bool, true, false}
+use Prim.Native.Nat.{ℕ}
 use Rattle.lists.specs.Lists.{twoOf}
 use Rattle.marks.specs.Marks.{marked, Stay}
 

@@ -1,7 +1,7 @@
 -- A BRAIN MAP AT A PLACE OF A TEXT, good as conditions 6 and 7 ask: what it holds, and what its children are.
-use mathlib.Core.Path.{_≡_, _∙_}
+use mathlib.Core.Path.{_≡_}
 use mathlib.Core.List.{List, []}
-use Prim.Native.Nat.{ℕ, _≤_}
+use Prim.Native.Nat.{ℕ}
 use Rattle.nodes.specs.Places.{Stands, the}
 use Rattle.cifti.specs.Rows.{brainModels}
 use Rattle.cifti.specs.Maps.{kindOfMap}

@@ -1,7 +1,6 @@
 -- THE GATHERED MODELS, as lists: what the arrays hold is what the map's models are.
-use mathlib.Core.Path.{_≡_, _∙_}
 use mathlib.Core.List.{List}
-use Prim.Native.Nat.{ℕ, _<_, _≤_}
+use Prim.Native.Nat.{ℕ, _<_}
 use lib.ListN.{getD}
 use Rattle.lists.specs.Lists.{table, count}
 use Rattle.lists.specs.Ranges.{holds}

@@ -1,8 +1,6 @@
 -- The turns of the loop over all models, and the rule of the map.
-use mathlib.Core.Path.{_≡_, _∙_}
-use mathlib.Core.List.{List, [], _∷_}
-use mathlib.Core.Bool.{_||_, _&&_}
-use Prim.Native.Nat.{ℕ, _+_, _-_, _<_, _≤_}
+use mathlib.Core.List.{List, []}
+use Prim.Native.Nat.{ℕ}
 use Rattle.nodes.specs.Places.{the}
 use Rattle.grammar.specs.Look.{contentsOf, elements}
 use Rattle.maps.specs.Sums.{VolumeLeft}

@@ -1,8 +1,6 @@
 -- The type and the structure of a model, in one number: two models share both if it is the same.
-use mathlib.Core.Path.{_≡_}
 use mathlib.Core.List.{List, []}
-use mathlib.Core.Bool.{_&&_}
-use Prim.Native.Nat.{ℕ, _+_, _<_, _≤_}
+use Prim.Native.Nat.{ℕ, _+_}
 use Rattle.nodes.specs.Places.{Stands, the}
 use Rattle.cifti.specs.Maps.{Listed, vertices, voxels, Model}
 use Rattle.maps.specs.Kinds.{GoodModel}

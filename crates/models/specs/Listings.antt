@@ -1,7 +1,7 @@
 -- THE LIST OF A MODEL: the text of its only child.
-use mathlib.Core.Path.{_≡_, _∙_}
+use mathlib.Core.Path.{_≡_}
 use mathlib.Core.List.{List, [], _∷_}
-use mathlib.Core.Bool.{true, _&&_}
+use mathlib.Core.Bool.{true}
 use Prim.Native.Nat.{ℕ}
 use Rattle.lists.specs.Lists.{all}
 use Rattle.grammar.specs.Document.{Element}

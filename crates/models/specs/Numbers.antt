@@ -1,5 +1,5 @@
 -- THE NUMBERS OF A LIST, one after the other from a place of the text on; voxels three at a time.
-use mathlib.Core.Path.{_≡_, _∙_}
+use mathlib.Core.Path.{_≡_}
 use mathlib.Core.List.{List, [], _∷_}
 use mathlib.Core.Bool.{true}
 use Prim.Native.Nat.{ℕ, _<_}

@@ -1,6 +1,6 @@
 -- THE FIELDS OF A FILE: a number in so many bytes, in one order or the other, in two's complement. Assumes nothing.
 use mathlib.Core.List.{List, reverse}
-use mathlib.Core.Bool.{Bool, true, false, cond}
+use mathlib.Core.Bool.{Bool, false, cond}
 use Prim.Native.Nat.{ℕ, _+_, _-_, _*_, _^_}
 use lib.Dec.{eqb, leb, ltb}
 use lib.IntN.{ℤ, pos, negsuc}

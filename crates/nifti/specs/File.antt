@@ -1,15 +1,15 @@
 -- THE FRONT OF A FILE: its fields, the list that is written in it, the conditions in their order, the answer, and the promise.
 use mathlib.Core.Path.{_≡_}
-use mathlib.Core.List.{List, [], _∷_, _++_}
+use mathlib.Core.List.{List, [], _∷_}
 use mathlib.Core.Option.{Option, some}
 use mathlib.Core.Option
-use mathlib.Core.Bool.{Bool, true, false, _&&_, _||_, not, cond}
+use mathlib.Core.Bool.{Bool, _&&_, _||_, not, cond}
 use Prim.Native.Nat.{ℕ, zero, suc, _+_, _*_, _≤_}
-use lib.Dec.{eqb, leb, ltb}
+use lib.Dec.{eqb, ltb}
 use lib.IntN.{ℤ, pos}
 use lib.ListN.{length, getD, take, drop}
 use lib.Seq.{slice}
-use Rattle.lists.specs.Lists.{all, allBelow, table, isSome}
+use Rattle.lists.specs.Lists.{allBelow, isSome}
 use Rattle.lists.specs.Refusals.{Refusal, _when_, first}
 use Rattle.nifti.specs.Fields.{numberAt, signed, fieldIs, fieldAtLeast, natural}
 use Rattle.nifti.specs.Extensions.{Extension, ExtensionList, Body, firstText, withoutZeros}

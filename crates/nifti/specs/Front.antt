@@ -1,9 +1,9 @@
 -- What is known of a file behind 20; and of one with the body of an extension in it.
-use mathlib.Core.Path.{_≡_, _∙_}
-use mathlib.Core.List.{List, [], _∷_, _++_}
+use mathlib.Core.Path.{_≡_}
+use mathlib.Core.List.{List, []}
 use mathlib.Core.Option
-use mathlib.Core.Bool.{true, _&&_, _||_}
-use Prim.Native.Nat.{ℕ, _+_, _-_, _≤_, _<_}
+use mathlib.Core.Bool.{true}
+use Prim.Native.Nat.{ℕ, _+_, _≤_}
 use lib.ListN.{length}
 use Rattle.nifti.specs.File.{frontStands}
 use Rattle.nifti.specs.Header.{OrderKnown}

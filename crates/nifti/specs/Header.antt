@@ -1,8 +1,7 @@
 -- What is known of a file of 544 bytes or more: its order; a place among its lengths; the answer where nothing is refused.
-use mathlib.Core.Path.{_≡_, _∙_}
-use mathlib.Core.List.{List, [], _∷_, _++_}
-use mathlib.Core.Bool.{_&&_}
-use Prim.Native.Nat.{ℕ, _+_, _-_, _*_, _^_, _≤_, _<_}
+use mathlib.Core.Path.{_≡_}
+use mathlib.Core.List.{List, []}
+use Prim.Native.Nat.{ℕ, _≤_, _<_}
 use lib.ListN.{length, take, drop}
 use Rattle.nifti.specs.Extensions.{withoutZeros}
 use Rattle.nifti.specs.File.{orderOf, lengthCount}

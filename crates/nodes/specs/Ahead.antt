@@ -1,8 +1,7 @@
 -- What stands ahead in contents: behind comments and blanks (or, where words may stand, any characters), some of them in CDATA, a child
 -- or the end tag. Total on any bytes.
-use mathlib.Core.Path.{_≡_, _∙_}
-use mathlib.Core.List.{List, [], _++_}
-use Prim.Native.Nat.{ℕ, zero, suc, _-_, _≤_, _<_}
+use mathlib.Core.List.{List, []}
+use Prim.Native.Nat.{ℕ, zero, suc, _-_}
 use mathlib.Core.Bool.{Bool, true, false, _||_}
 use Rattle.lists.specs.Lists.{all}
 use lib.ListN.{length, drop}

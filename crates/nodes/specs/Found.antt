@@ -1,5 +1,4 @@
 -- The value of an attribute by its name, decoded: what was found, as the document has it.
-use mathlib.Core.Path.{_≡_, _∙_}
 use mathlib.Core.List.{List, []}
 use mathlib.Core.Option.{Option, some}
 use mathlib.Core.Option

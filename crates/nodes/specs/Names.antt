@@ -1,5 +1,4 @@
 -- The name of the element at a position.
-use mathlib.Core.Path.{_≡_}
 use mathlib.Core.List.{List, [], _∷_}
 use Prim.Native.Nat.{ℕ}
 use mathlib.Core.Bool.{Bool, false}

@@ -1,7 +1,6 @@
 -- The root of a document stands where all ends that may stand before it.
-use mathlib.Core.Path.{_≡_, _∙_}
 use mathlib.Core.List.{List}
-use Prim.Native.Nat.{ℕ, _-_, _<_}
+use Prim.Native.Nat.{ℕ, _-_}
 use lib.ListN.{length}
 use Rattle.grammar.specs.Read.{Read, fail, got}
 use Rattle.steps.specs.Prologue.{preamble-at}

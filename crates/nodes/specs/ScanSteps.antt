@@ -1,5 +1,4 @@
 -- The scan as a program takes it: what it answers at each turn.
-use mathlib.Core.Path.{_≡_, _∙_}
 use mathlib.Core.List.{List}
 use Prim.Native.Nat.{ℕ, _-_}
 use mathlib.Core.Bool.{Bool, true, false}

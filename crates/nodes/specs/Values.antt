@@ -1,8 +1,7 @@
 -- The decoded bytes of a value, one by one. Behind the first byte of a character stand bytes of 128 and more, so that bytes can be
 -- decoded for characters.
-use mathlib.Core.Path.{_≡_, _∙_}
-use mathlib.Core.List.{List, [], _∷_, _++_}
-use Prim.Native.Nat.{ℕ, zero, suc, _+_, _-_, _≤_, _<_}
+use mathlib.Core.List.{List, [], _∷_}
+use Prim.Native.Nat.{ℕ, zero, suc, _+_, _-_}
 use lib.Dec.{eqb}
 use lib.ListN.{length, drop, getD}
 use Rattle.grammar.specs.Bytes.{ascii, blank}

@@ -1,7 +1,7 @@
 -- What the reader of one number among commas finds: the number and the place behind its comma, or the last number, or that its part is no
 -- such number.
-use mathlib.Core.Path.{_≡_, refl, sym, ap, _∙_}
-use mathlib.Core.List.{List, [], _∷_, _++_, append-nil}
+use mathlib.Core.Path.{_≡_}
+use mathlib.Core.List.{List, [], _∷_}
 use mathlib.Core.Bool.{Bool, true, false, _&&_}
 use Prim.Native.Nat.{ℕ, _<_}
 use Rattle.grammar.specs.Bytes.{between}

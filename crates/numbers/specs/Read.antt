@@ -1,8 +1,7 @@
 -- What is the same from here as from the start, for the loops over letters and digits.
-use mathlib.Core.Path.{_≡_, _∙_}
-use mathlib.Core.List.{List, [], _∷_, _++_}
-use mathlib.Core.Bool.{_&&_}
-use Prim.Native.Nat.{ℕ, _+_, _*_, _-_, _^_, _≤_, _<_}
+use mathlib.Core.Path.{_≡_}
+use mathlib.Core.List.{List, []}
+use Prim.Native.Nat.{ℕ, _+_, _-_, _^_, _≤_, _<_}
 use Rattle.numbers.specs.Stream.{letterAt, digitsAt}
 use Rattle.numbers.specs.declared.Source.{Source}
 

@@ -1,8 +1,7 @@
 -- The sixteen decimals of a transformation, one by one: so many are still to come.
-use mathlib.Core.Path.{_≡_, _∙_}
-use mathlib.Core.List.{[], _∷_, _++_}
-use mathlib.Core.Bool.{Bool, true, _&&_, cond}
-use Prim.Native.Nat.{ℕ, _+_, _*_, _-_, _^_, _≤_, _<_}
+use mathlib.Core.List.{[]}
+use mathlib.Core.Bool.{Bool, true, cond}
+use Prim.Native.Nat.{ℕ}
 use lib.Dec.{eqb, leb}
 use Rattle.numbers.specs.Numbers.{inValue, isWhole}
 use Rattle.numbers.specs.declared.Decimal.{Decimal}

@@ -1,10 +1,10 @@
 -- CONDITIONS 1 TO 7, one after the other: the number of the first that applies, or that none does and where the matrix stands.
-use mathlib.Core.Path.{_≡_, _∙_}
-use mathlib.Core.List.{List, [], _∷_, _++_}
+use mathlib.Core.Path.{_≡_}
+use mathlib.Core.List.{List, [], _∷_}
 use mathlib.Core.Option.{some}
 use mathlib.Core.Option
-use mathlib.Core.Bool.{false, _||_, _&&_, cond}
-use Prim.Native.Nat.{ℕ, _+_, _-_, _≤_, _<_}
+use mathlib.Core.Bool.{false, cond}
+use Prim.Native.Nat.{ℕ, _-_, _≤_}
 use lib.ListN.{length}
 use Rattle.grammar.specs.Document.{Element}
 use Rattle.grammar.specs.Look.{children}

@@ -1,7 +1,6 @@
 -- CONDITIONS 10 TO 14, 24 AND 25, where 1 to 9 do not apply.
-use mathlib.Core.Path.{_≡_, _∙_}
+use mathlib.Core.Path.{_≡_}
 use mathlib.Core.List.{List, [], _∷_, _++_}
-use mathlib.Core.Bool.{_||_}
 use Prim.Native.Nat.{ℕ}
 use lib.ListN.{length}
 use Rattle.lists.specs.Refusals.{Refusal}

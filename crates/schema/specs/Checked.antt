@@ -1,26 +1,16 @@
 -- THE PROMISE of the walker, for any table: 3 where the text is no document; else 6 where its root is not everywhere of the shape
 -- that the rows say, else 7 where not everywhere of their numbers, else 0. Where it is not 3, the root stands at `root`.
-use mathlib.Core.Path.{_≡_, refl, ap, sym, _∙_}
+use mathlib.Core.Path.{_≡_}
 use mathlib.Core.List.{List}
-use mathlib.Core.Option.{Option, some}
+use mathlib.Core.Option.{Option}
 use mathlib.Core.Option
-use mathlib.Core.Bool.{Bool, true, false}
 use Prim.Native.Nat.{ℕ, _<_}
-use native.Mathlib.Omega.{arith}
-use borrow.Author.Needs.{needs}
 use Rattle.grammar.specs.Document.{Element}
 use Rattle.grammar.specs.Grammar.{Writes}
-use Rattle.grammar.specs.Parser.{parse}
-use Rattle.grammar.specs.Laws.Theorems.{parse-iff}
-use Rattle.steps.specs.WellFormed.{WellFormed}
 use Rattle.nodes.specs.Places.{Stands, the}
 use Rattle.nodes.specs.Root.{root}
-use Rattle.nodes.specs.Laws.Root.{Rooted, root-law}
-use Rattle.nodes.specs.declared.Kid.{Kid}
-use Rattle.nodes.specs.declared.Kid.the-variants.{Child, Done}
+use Rattle.nodes.specs.declared.Kid.the-variants.{Child}
 use Rattle.schema.specs.Faults.{faultOf}
-use Rattle.schema.specs.Walked.{Walks}
-use Rattle.schema.specs.declared.Walked.{Walked}
 use Rattle.schema.specs.declared.Checked.{Checked}
 
 pub record ChecksDocument (t l : List ℕ) (k : ℕ) (text : List ℕ) (r : Checked) (e : Element) : Type 0 where

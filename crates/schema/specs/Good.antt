@@ -1,9 +1,8 @@
 -- An element that is as a row says, with all that is in it; a list of one such element.
-use mathlib.Core.Path.{_≡_, _∙_}
+use mathlib.Core.Path.{_≡_}
 use mathlib.Core.List.{List, [], _∷_}
 use mathlib.Core.Option
-use mathlib.Core.Bool.{true, _&&_}
-use Prim.Native.Nat.{ℕ, _+_, _<_}
+use mathlib.Core.Bool.{true}
 use Rattle.grammar.specs.Document.{Element}
 use Rattle.schema.specs.Schema.{number, Row}
 use Rattle.schema.specs.Schema.{everywhere}

@@ -9,7 +9,7 @@ use Prim.Native.String.{String}
 use lib.Dec.{leb, ltb}
 use Rattle.lists.specs.Lists.{countUp}
 use Rattle.grammar.specs.Document.{Element}
-use Rattle.grammar.specs.Look.{Word, is, attributesOf, valueIn}
+use Rattle.grammar.specs.Look.{Word, attributesOf, valueIn}
 use Rattle.schema.specs.Schema.{ChildRow, kindChosen, kindOf, orElse, rowPlace, inOrderOf}
 use Rattle.schema.specs.Words.{numberIn}
 use Rattle.schema.specs.Table.{wordAt, entryWord, choiceCell, casesOf, orderAt, linesOfKind}

@@ -1,6 +1,6 @@
 -- A TABLE of numbers and a text of letters, and the rows that they stand for: a total function, so that any table is one of a schema.
 use mathlib.Core.List.{List, [], _++_}
-use mathlib.Core.Bool.{Bool, _&&_, cond}
+use mathlib.Core.Bool.{_&&_, cond}
 use Prim.Native.Nat.{ℕ, zero, suc, _+_, _-_, _*_}
 use Prim.Native.String.{String}
 use lib.Dec.{eqb, leb}

@@ -1,7 +1,7 @@
 -- The walk of `Schema`, one element at a time: its test, then the walk at each child. This is the form that a loop over children meets.
-use mathlib.Core.Path.{_≡_, refl, ap, _∙_}
+use mathlib.Core.Path.{_≡_, refl, ap}
 use mathlib.Core.List.{List, []}
-use mathlib.Core.Bool.{Bool, _&&_, _||_}
+use mathlib.Core.Bool.{Bool, _&&_}
 use Rattle.lists.specs.Lists.{all, ifThere}
 use Rattle.grammar.specs.Document.{Attribute, Element, element, Contents, nothing, child as inside, run}
 use Rattle.grammar.specs.Look.{elements, contentsOf, attributesOf}

@@ -1,9 +1,9 @@
 -- THE LIST OF RECORDS: their runs of one type and structure, in order. Each run is a model: its first index, its count, its type and its
 -- structure. Assumes nothing.
 use mathlib.Core.List.{List, [], _∷_, _++_}
-use mathlib.Core.Bool.{Bool, true, false, cond, _||_}
+use mathlib.Core.Bool.{Bool, cond}
 use Prim.Native.Nat.{ℕ, _+_}
-use lib.Dec.{eqb, ltb}
+use lib.Dec.{eqb}
 use lib.ListN.{length, drop}
 use Rattle.lists.specs.Lists.{twoOf}
 use Rattle.records.specs.Record.{isVoxel, structureOf}

@@ -1,7 +1,6 @@
 -- The name of an attribute, and the head of a tag: parts of the grammar's readers, with their places.
-use mathlib.Core.Path.{_≡_, _∙_}
-use mathlib.Core.List.{List, _++_}
-use Prim.Native.Nat.{ℕ, _+_, _-_, _≤_, _<_}
+use mathlib.Core.List.{List}
+use Prim.Native.Nat.{ℕ, _-_}
 use lib.ListN.{length}
 use Rattle.grammar.specs.Bytes.{ascii, blank}
 use Rattle.grammar.specs.Document.{Attribute}

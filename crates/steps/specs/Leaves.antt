@@ -1,7 +1,6 @@
 -- Readers that are parts of the grammar's, and what each reader leaves.
-use mathlib.Core.Path.{_≡_}
 use mathlib.Core.List.{List, [], _∷_}
-use Prim.Native.Nat.{ℕ, _-_, _<_}
+use Prim.Native.Nat.{ℕ, _-_}
 use mathlib.Core.Bool.{Bool, true, _&&_, not}
 use lib.Dec.{eqb}
 use lib.ListN.{length}

@@ -1,7 +1,6 @@
 -- What stands round the root.
-use mathlib.Core.Path.{_≡_}
-use mathlib.Core.List.{List, [], _∷_, _++_}
-use Prim.Native.Nat.{ℕ, _<_}
+use mathlib.Core.List.{List, [], _∷_}
+use Prim.Native.Nat.{ℕ}
 use Rattle.grammar.specs.Bytes.{ascii, begins}
 use Rattle.grammar.specs.Read.{Reader, _>>=_, _>>_, mark, byte, all-of}
 use Rattle.grammar.specs.Bytes.{quote}

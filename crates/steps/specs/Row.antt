@@ -1,7 +1,6 @@
 -- Children of an element, without their contents' positions: how the reader of contents goes from one child to the next.
-use mathlib.Core.Path.{_≡_, _∙_}
-use mathlib.Core.List.{List, [], _∷_, _++_}
-use Prim.Native.Nat.{ℕ, _+_, _-_, _≤_, _<_}
+use mathlib.Core.List.{List, []}
+use Prim.Native.Nat.{ℕ, _-_}
 use mathlib.Core.Bool.{Bool, true, false, not}
 use Rattle.grammar.specs.Bytes.{ascii, begins}
 use Rattle.grammar.specs.Read.{fail, Reader, bind, _>>=_, _>>_, pure, test, all-of}

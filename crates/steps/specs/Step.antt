@@ -1,7 +1,7 @@
 -- What a reader of the program answers, given what the grammar's reader finds: the position behind what was read.
-use mathlib.Core.Path.{_≡_, _∙_}
-use mathlib.Core.List.{List, [], _∷_, _++_}
-use Prim.Native.Nat.{ℕ, _+_, _-_, _≤_, _<_}
+use mathlib.Core.Path.{_≡_}
+use mathlib.Core.List.{List, []}
+use Prim.Native.Nat.{ℕ, _-_, _≤_}
 use lib.ListN.{length, drop}
 use Rattle.grammar.specs.Read.{Read, fail, got, Reader}
 use Rattle.steps.specs.declared.Step.{Step}

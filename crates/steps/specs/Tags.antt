@@ -1,5 +1,5 @@
 -- Tags: what the readers of a start tag and of an end tag answer.
-use mathlib.Core.List.{List, [], _∷_}
+use mathlib.Core.List.{List, []}
 use Prim.Native.Nat.{ℕ}
 use Rattle.grammar.specs.Bytes.{ascii, blank}
 use Rattle.grammar.specs.Read.{Read, fail, got, Reader, bind, _>>=_, _>>_, mark, span}

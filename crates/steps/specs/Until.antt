@@ -1,8 +1,7 @@
 -- A reader again and again, up to where a test says so.
-use mathlib.Core.Path.{_≡_, _∙_}
-use mathlib.Core.List.{List, _∷_}
+use mathlib.Core.List.{List}
 use mathlib.Core.Bool.{Bool}
-use Prim.Native.Nat.{ℕ, _<_}
+use Prim.Native.Nat.{ℕ}
 use Rattle.grammar.specs.Read.{Reader, bind, all-of}
 
 -- `p` again and again, up to where `stop` says so, and then `k`

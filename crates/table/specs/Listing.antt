@@ -1,8 +1,7 @@
 -- THE RECORDS OF ONE LIST, written one after the other: the n-th of the list stands n places behind the first.
-use mathlib.Core.Path.{_≡_, _∙_}
 use mathlib.Core.List.{List, [], _∷_}
 use mathlib.Core.Bool.{Bool, true, false}
-use Prim.Native.Nat.{ℕ, _+_, _/_, _%_, _^_, _<_, _≤_}
+use Prim.Native.Nat.{ℕ, _+_, _≤_}
 use lib.ListN.{length}
 use Rattle.lists.specs.Lists.{each}
 use Rattle.records.specs.Record.{Location, onSurface, recordOf, Fits}

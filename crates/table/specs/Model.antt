@@ -1,7 +1,7 @@
 -- ONE MODEL: its list, written from a place on.
-use mathlib.Core.Path.{_≡_, _∙_}
+use mathlib.Core.Path.{_≡_}
 use mathlib.Core.List.{List, []}
-use Prim.Native.Nat.{ℕ, _+_, _-_, _<_, _≤_}
+use Prim.Native.Nat.{ℕ, _+_, _-_, _≤_}
 use lib.ListN.{length}
 use Rattle.nodes.specs.Places.{the}
 use Rattle.cifti.specs.Maps.{modelOf, locations}

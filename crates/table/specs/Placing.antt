@@ -1,7 +1,7 @@
 -- THE MODELS OF A MAP, one after the other, each from its offset on.
-use mathlib.Core.Path.{_≡_, _∙_}
-use mathlib.Core.List.{List, [], _∷_}
-use Prim.Native.Nat.{ℕ, _+_, _-_, _<_, _≤_}
+use mathlib.Core.Path.{_≡_}
+use mathlib.Core.List.{List, []}
+use Prim.Native.Nat.{ℕ, _+_, _<_, _≤_}
 use lib.ListN.{length, getD}
 use Rattle.lists.specs.Lists.{total}
 use Rattle.nodes.specs.Places.{the}

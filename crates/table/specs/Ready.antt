@@ -1,8 +1,8 @@
 -- A BRAIN MAP TO WHICH 10, 11 AND 12 DO NOT APPLY: its models can be placed, and placed they are its stretch.
-use mathlib.Core.Path.{_≡_, _∙_}
-use mathlib.Core.List.{List, [], _∷_}
+use mathlib.Core.Path.{_≡_}
+use mathlib.Core.List.{List, []}
 use mathlib.Core.Bool.{false}
-use Prim.Native.Nat.{ℕ, _+_, _<_, _≤_}
+use Prim.Native.Nat.{ℕ, _+_, _≤_}
 use Rattle.lists.specs.Lists.{any, twoOf}
 use Rattle.nodes.specs.Places.{the}
 use Rattle.cifti.specs.Maps.{Map, mapOf, lengthOf}

@@ -1,8 +1,8 @@
 -- THE STRETCH OF ONE MAP, where it has one: written from a place on.
-use mathlib.Core.Path.{_≡_, _∙_}
-use mathlib.Core.List.{List, [], _∷_, _++_}
+use mathlib.Core.Path.{_≡_}
+use mathlib.Core.List.{List, []}
 use mathlib.Core.Bool.{cond}
-use Prim.Native.Nat.{ℕ, _+_, _<_, _≤_, _^_}
+use Prim.Native.Nat.{ℕ, _+_, _≤_}
 use lib.ListN.{length}
 use Rattle.records.specs.Fill.{wrote}
 use Rattle.cifti.specs.Maps.{Map, isBrain}

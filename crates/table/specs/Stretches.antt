@@ -1,7 +1,6 @@
 -- ALL STRETCHES, map after map.
-use mathlib.Core.Path.{_≡_, _∙_}
-use mathlib.Core.List.{List, [], _∷_, _++_}
-use Prim.Native.Nat.{ℕ, _+_, _<_, _≤_}
+use mathlib.Core.List.{List, []}
+use Prim.Native.Nat.{ℕ, _≤_}
 use Rattle.lists.specs.Lists.{total}
 use Rattle.cifti.specs.Maps.{brainMaps, lengthOf}
 use Rattle.maps.specs.Ready.{Ready, mapsAt}

@@ -1,9 +1,8 @@
 -- CONDITION 14 OF A MAP, by the keys of its stretch in the work space.
-use mathlib.Core.Path.{_≡_, _∙_}
-use mathlib.Core.Logic.{_↔_}
-use mathlib.Core.List.{List, [], _∷_, map}
-use mathlib.Core.Bool.{Bool, _||_}
-use Prim.Native.Nat.{ℕ, _+_, _-_, _<_, _≤_}
+use mathlib.Core.Path.{_≡_}
+use mathlib.Core.List.{List, [], map}
+use mathlib.Core.Bool.{Bool}
+use Prim.Native.Nat.{ℕ, _≤_}
 use lib.Dec.{eqb}
 use lib.ListN.{length, take, replicate}
 use Rattle.lists.specs.Lists.{greatest, twoOf}
@@ -17,7 +16,6 @@ use Rattle.maps.specs.declared.survey.Maps.{Maps}
 use Rattle.models.specs.Fine.{Fine}
 use Rattle.models.specs.Judged.{HeldAll}
 use Rattle.models.specs.declared.judge.Judged.{Judged}
-use Rattle.table.specs.Ready.{MapReady}
 
 -- ---- A key twice.
 

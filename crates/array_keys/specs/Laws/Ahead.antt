@@ -11,13 +11,13 @@ use lib.IntN.{ℤ}
 use lib.ListN.{length}
 use lib.Seq.{drop-length}
 use borrow.Author.Needs.{needs}
-use Rattle.lists.specs.Lists.{all, each, isSome, those}
+use Rattle.lists.specs.Lists.{all, each, isSome}
 use Rattle.lists.specs.Laws.Booleans.{and-halves, never-some, both-ways}
 use Rattle.grammar.specs.Look.{Word}
 use Rattle.grammar.specs.Parser.{look, look-if}
 use Rattle.nodes.specs.TextBytes.{step, step-by, say}
 use Rattle.nodes.specs.Laws.TextBytes.{says, says-step}
-use Rattle.nodes.specs.Texts.{saysAt, left, inside, text-of}
+use Rattle.nodes.specs.Texts.{saysAt, inside, text-of}
 use Rattle.nodes.specs.Laws.TextSteps.{saysAt-outside, left-most, text-none, text-some}
 use Rattle.nodes.specs.declared.Found.{Found}
 use Rattle.nodes.specs.declared.Found.the-variants.{At, Nothing}

@@ -14,16 +14,15 @@ use borrow.Author.Needs.{needs}
 use borrow.Author.Tests.{lt-ltb, le-ltb, ltb-true}
 use Rattle.nodes.specs.Texts.{left}
 use Rattle.base64.specs.Base64.{decode}
-use Rattle.base64.specs.Fours.{Endian, big, little, inEndian, bits32, twos, keysIn}
+use Rattle.base64.specs.Fours.{Endian, inEndian, bits32, twos, keysIn}
 use Rattle.base64.specs.Laws.Fours.{whole-back}
-use Rattle.base64_reader.specs.Groups.{lettersAt, lowBytes, bytesAhead, BytesTaken, GroupRead, GroupTold, QuickGroup}
+use Rattle.base64_reader.specs.Groups.{lettersAt, lowBytes, bytesAhead, BytesTaken, GroupTold, QuickGroup}
 use Rattle.base64_reader.specs.declared.Group.{Group}
 use Rattle.base64_reader.specs.declared.Group.the-variants as groups
 use Rattle.array_keys.specs.Ahead.{heldBytes, bytesFrom, codedAhead, keysAhead, spareBytes, keysLeft, endianIf, encodingIf}
 use Rattle.array_keys.specs.Ahead.{KeyTold, told-key, told-end}
 use Rattle.array_keys.specs.Gathered.{keptBytes, BytesRead, BytesGathered, keyBy}
 use Rattle.array_keys.specs.Laws.Low.{low-behind, topOf, top-low}
-use Rattle.array_keys.specs.declared.Encoding.the-variants.{Big, Little}
 use Rattle.array_keys.specs.declared.KeyPlace.{KeyPlace}
 use Rattle.array_keys.specs.declared.NextKey.the-variants.{Key, End}
 

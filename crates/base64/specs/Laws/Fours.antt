@@ -1,19 +1,17 @@
 -- Keys written as bytes, in either order, read back; and through Base64.
-use mathlib.Core.Path.{_≡_, refl, sym, ap, ap₂, _∙_}
+use mathlib.Core.Path.{_≡_, refl, ap, _∙_}
 use mathlib.Core.List.{List, [], _∷_, _++_}
-use mathlib.Core.Option.{some}
-use mathlib.Core.Bool.{Bool, true, false, _&&_, cond}
-use Prim.Native.Nat.{ℕ, zero, suc, _+_, _*_, _-_, _/_, _%_, _<_, _≤_}
+use mathlib.Core.Bool.{true}
+use Prim.Native.Nat.{ℕ, _+_, _*_, _-_, _/_, _%_, _<_}
 use native.Mathlib.Omega.{arith}
 use lib.IntN.{ℤ, pos, negsuc}
-use lib.Dec.{ltb, leb}
 use borrow.Author.Tests.{lt-ltb, le-ltb}
 use Rattle.lists.specs.Lists.{all, eachIn}
 use Rattle.lists.specs.Laws.Booleans.{and-halves}
 use Rattle.numbers.specs.Numbers.{inKeys}
 use Rattle.numbers.specs.Laws.Keys.{above-in, below-in}
-use Rattle.base64.specs.Base64.{encode, bytesIn}
-use Rattle.base64.specs.Fours.{Endian, big, little, inEndian, bits32, twos, keysIn, bytesOr, codedKeys, codedBytes}
+use Rattle.base64.specs.Base64.{encode}
+use Rattle.base64.specs.Fours.{Endian, big, little, inEndian, bits32, twos, keysIn, bytesOr, codedKeys}
 use Rattle.base64.specs.Fours.{bitsOfKey, fourBytes, bytesOfKey, keyBytes}
 use Rattle.base64.specs.Laws.Base64.{Bytes, none, more, written-found}
 

@@ -3,15 +3,14 @@ use mathlib.Core.Path.{_≡_, refl}
 use mathlib.Core.List.{List, [], _∷_}
 use mathlib.Core.Option.{Option, some}
 use mathlib.Core.Option
-use mathlib.Core.Bool.{Bool, true, false, not}
-use Prim.Native.Nat.{ℕ}
+use mathlib.Core.Bool.{true, not}
 use Prim.Native.String.{String}
-use lib.IntN.{ℤ, pos, negsuc}
-use Rattle.lists.specs.Lists.{lists, all, each, those, isSome}
+use lib.IntN.{pos, negsuc}
+use Rattle.lists.specs.Lists.{lists, all, each}
 use Rattle.grammar.specs.Bytes.{ascii, blank}
 use Rattle.grammar.specs.Look.{Word}
 use Rattle.base64.specs.Base64.{base64, encode, bytesIn, coded}
-use Rattle.base64.specs.Fours.{fours, Endian, big, little, codedKeys, codedBytes}
+use Rattle.base64.specs.Fours.{fours, big, little, codedKeys, codedBytes}
 
 unfoldable rows : List String → List Word
 rows l = each ascii l

@@ -13,7 +13,6 @@ use Rattle.lists.specs.Laws.Quantifiers.{allBelow-iff}
 use Rattle.lists.specs.Laws.Tables.{entry-of-table, size-of-table}
 use Rattle.lists.specs.Laws.Booleans.{clash}
 use Rattle.grammar.specs.Bytes.{blank}
-use Rattle.grammar.specs.Look.{Word}
 use Rattle.nodes.specs.Texts.{saysAt, left}
 use Rattle.nodes.specs.declared.Char.{Char}
 use Rattle.nodes.specs.declared.Char.the-variants as chars

@@ -1,8 +1,8 @@
 -- Four plain letters.
-use mathlib.Core.Path.{_≡_, refl, sym, ap, _∙_}
+use mathlib.Core.Path.{_≡_, refl, ap}
 use mathlib.Core.List.{List}
 use mathlib.Core.Bool.{Bool, true, false, _&&_, _||_, not}
-use Prim.Native.Nat.{ℕ, suc, _+_, _*_, _-_, _<_, _≤_}
+use Prim.Native.Nat.{ℕ, _+_, _-_, _<_, _≤_}
 use native.Mathlib.Omega.{arith}
 use lib.Dec.{eqb}
 use lib.ListN.{length, getD}
@@ -13,9 +13,8 @@ use Rattle.lists.specs.Laws.Quantifiers.{allBelow-iff}
 use Rattle.lists.specs.Laws.Booleans.{and-left, and-right, both-ways}
 use Rattle.grammar.specs.Bytes.{blank, special}
 use Rattle.nodes.specs.declared.Char.the-variants as chars
-use Rattle.numbers.specs.Stream.{letterAt, charAt}
+use Rattle.numbers.specs.Stream.{charAt}
 use Rattle.numbers.specs.Laws.Listed.{plain-char}
-use Rattle.numbers.specs.declared.Source.the-variants.{Contents}
 use Rattle.base64.specs.Base64.{worth, isValue}
 use Rattle.base64.specs.Laws.Letters.{value-byte, is-value}
 use Rattle.base64_reader.specs.Groups.{LetterTold, GroupTold, bitsOf, QuickGroup}

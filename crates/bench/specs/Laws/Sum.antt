@@ -1,7 +1,6 @@
 -- The sum of a list, number after number.
-use mathlib.Core.Path.{_≡_, refl, sym, ap, _∙_}
+use mathlib.Core.Path.{_≡_, refl, sym, _∙_}
 use mathlib.Core.List.{List}
-use mathlib.Core.Bool.{false}
 use Prim.Native.Nat.{ℕ, _+_, _%_, _^_, _<_}
 use native.Mathlib.Omega.{arith}
 use borrow.Author.Needs.{needs}
@@ -10,7 +9,7 @@ use Rattle.grammar.specs.Look.{Word}
 use Rattle.nodes.specs.Texts.{saysAt, left}
 use Rattle.numbers.specs.Numbers.{digits, value, words}
 use Rattle.numbers.specs.Answers.{nextNumber}
-use Rattle.numbers.specs.Laws.Walk.{Handed, Wrong, number-law, end-law, bad-law}
+use Rattle.numbers.specs.Laws.Walk.{number-law, end-law, bad-law}
 use Rattle.numbers.specs.declared.Next.{Next}
 use Rattle.numbers.specs.declared.Next.the-variants.{Number, End, Bad}
 use Rattle.bench.specs.Sum.{sumOfWords, sumFrom}

@@ -2,8 +2,8 @@
 -- start that it tells, the location of every index: that of the one model whose range the index is in.
 use mathlib.Core.Path.{_≡_, refl, sym, ap, _∙_}
 use mathlib.Core.List.{List, [], _∷_, _++_}
-use mathlib.Core.Option.{Option, some}
-use mathlib.Core.Bool.{Bool, true, false, _||_, cond, true≢false}
+use mathlib.Core.Option.{some}
+use mathlib.Core.Bool.{Bool, true, false, cond}
 use Prim.Native.Nat.{ℕ, zero, suc, _+_, _-_, _<_, _≤_}
 use native.Mathlib.Omega.{arith}
 use lib.Dec.{eqb}
@@ -22,7 +22,7 @@ use Rattle.cifti.specs.Answer.{recordsBy, answerTo, recordsAfter, unused
 use Rattle.cifti.specs.Laws.Smallest.{refusal-none}
 use Rattle.cifti.specs.Laws.Text.{answers-of}
 use Rattle.cifti.specs.Laws.Theorems.{answer-number}
-use Rattle.cifti.specs.Laws.Meaning.{Even, even-iff, record-at}
+use Rattle.cifti.specs.Laws.Meaning.{even-iff, record-at}
 use Rattle.cifti.specs.Laws.Said.{stretch-length, placed, dimension-of}
 use Rattle.cifti.specs.declared.answer.Answer.{Answer}
 

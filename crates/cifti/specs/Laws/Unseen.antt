@@ -25,7 +25,7 @@ use Rattle.cifti.specs.Conditions.{_when_, textTooLong, noDocument, root
 use Rattle.cifti.specs.Conditions.{conditionsOfHeader, conditionsOfTable, conditionsOfLabels, conditions, first, refusal}
 use Rattle.cifti.specs.Names.{noName, nameRefusal}
 use Rattle.cifti.specs.Answer.{answerBy, recordsBy, mapsIn, answerTo, recordsAfter}
-use Rattle.cifti.specs.Labels.{noTable, labelsRefusals, keysShort, keysRefusal, keysBy, keysGiven, keysCount, overwritten}
+use Rattle.cifti.specs.Labels.{labelsRefusals, keysShort, keysRefusal, keysBy, keysGiven, keysCount, overwritten}
 use Rattle.cifti.specs.Labels.{keysAfterwards, noKey, labelRefusal}
 use Rattle.cifti.specs.Laws.Text.{Unseeing}
 

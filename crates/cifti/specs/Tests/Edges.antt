@@ -1,6 +1,6 @@
 -- Texts at an edge of the rows and of the names: each holds a limit, a count or an index that no law does.
 use mathlib.Core.Path.{_≡_, refl}
-use mathlib.Core.List.{List, [], _∷_}
+use mathlib.Core.List.{[], _∷_}
 use mathlib.Core.Bool.{true}
 use Rattle.cifti.specs.Laws.Theorems.{numberOf, nameNumberOf, namePartOf}
 use Rattle.cifti.specs.Tests.Cases.{cases, three}

@@ -1,16 +1,16 @@
 -- Tables of labels, computed: one key written in two ways, the names of a key.
 use mathlib.Core.Path.{_≡_, refl}
-use mathlib.Core.List.{List, [], _∷_}
+use mathlib.Core.List.{[], _∷_}
 use mathlib.Core.Option.{Option, some}
 use mathlib.Core.Option
-use mathlib.Core.Bool.{Bool, true, false}
+use mathlib.Core.Bool.{true, false}
 use Prim.Native.String.{String}
-use lib.IntN.{ℤ, pos, negsuc}
+use lib.IntN.{pos, negsuc}
 use Rattle.lists.specs.Lists.{lists}
 use Rattle.grammar.specs.Bytes.{ascii}
 use Rattle.grammar.specs.Document.{Element}
 use Rattle.grammar.specs.Parser.{parse, computing}
-use Rattle.grammar.specs.Look.{Word, looks}
+use Rattle.grammar.specs.Look.{looks}
 use Rattle.numbers.specs.Numbers.{numbers}
 use Rattle.cifti.specs.LabelTable.{labelWords, keysRight, tableKeys, keyTwiceIn, namesWith}
 

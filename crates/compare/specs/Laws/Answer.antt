@@ -2,7 +2,7 @@
 use mathlib.Core.Path.{_≡_, refl, sym, ap, _∙_}
 use mathlib.Core.Bool.{Bool, true, false, not, _&&_}
 use mathlib.Core.List.{List}
-use Prim.Native.Nat.{ℕ, _+_, _-_, _≤_}
+use Prim.Native.Nat.{ℕ, _-_, _≤_}
 use native.Mathlib.Omega.{arith}
 use lib.Dec.{eqb}
 use lib.ListN.{length}
@@ -10,7 +10,7 @@ use borrow.Author.Tests.{eq-eqb, ne-eqb}
 use Rattle.lists.specs.Lists.{count, twoOf}
 use Rattle.records.specs.Outcome.{ends, applies, passes, gives-first}
 use Rattle.records.specs.Sheet.{countOf}
-use Rattle.comparison.specs.Compare.{recordsOf, wellFormed, hasRecord, same, moved, firstOnly, secondOnly, compareRefusal, compared}
+use Rattle.comparison.specs.Compare.{recordsOf, hasRecord, same, moved, firstOnly, secondOnly, compareRefusal, compared}
 use Rattle.comparison.specs.declared.Compared.{Compared}
 use Rattle.comparison.specs.Laws.Accepted.{fine}
 use Rattle.comparison.specs.Laws.Held.{held-long}

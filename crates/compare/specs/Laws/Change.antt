@@ -1,22 +1,20 @@
 -- What is said of an index, and the end of the first sheet, by the tests of the code. Assumes nothing.
 use mathlib.Core.Path.{_≡_, refl, sym, ap, _∙_}
-use mathlib.Core.Bool.{Bool, true, false, cond, not}
+use mathlib.Core.Bool.{Bool, true, false, not}
 use mathlib.Core.List.{List, [], _∷_}
 use Prim.Native.Nat.{ℕ, _+_, _-_, _*_, _≤_, _<_}
 use native.Mathlib.Omega.{arith}
-use borrow.Author.Needs.{needs}
-use lib.Dec.{eqb, ltb}
+use lib.Dec.{eqb}
 use lib.ListN.{length, getD}
 use borrow.Author.Tests.{lt-ltb, le-ltb, eq-eqb, ne-eqb}
 use Rattle.lists.specs.Lists.{any}
 use Rattle.lists.specs.Refusals.{_when_, first}
 use Rattle.records.specs.Find.{Finds, findRefusal}
 use Rattle.records.specs.Width.{widthSaid}
-use Rattle.records.specs.Sheet.{countOf, widthOf}
+use Rattle.records.specs.Sheet.{countOf}
 use Rattle.records.specs.Laws.Computed.{count-three}
 use Rattle.records.specs.declared.search.Found.{Found}
 use Rattle.comparison.specs.Compare.{hasRecord, hasAt, sameAt}
-use Rattle.compare.specs.declared.changes.Change.{Change}
 use Rattle.compare.specs.declared.changes.Change.the-variants.{Same, Moved, First, Second}
 use Rattle.compare.specs.Change.{ofFirst, ofSecond, changeAt, endSaid, firstEnd}
 

@@ -1,23 +1,23 @@
 -- THEOREMS ON THE PART: one answer, its place holds it, and it is those records of the longer sheet, in its width. Assumes nothing.
 use mathlib.Core.Path.{_≡_, refl, sym, ap, _∙_, subst}
-use mathlib.Core.Bool.{Bool, true, false, cond}
+use mathlib.Core.Bool.{true, cond}
 use mathlib.Core.List.{List, [], _∷_, map}
 use mathlib.Core.Logic.{_⊎_, ⊎-elim}
 use Prim.Native.Nat.{ℕ, zero, suc, _+_, _-_, _*_, _≤_, _<_}
 use native.Mathlib.Omega.{arith}
 use native.Mathlib.Nat.{mul-zero, mul-suc, mul-add}
-use lib.Dec.{eqb, ltb}
-use lib.ListN.{length, getD, take, drop, length-drop}
+use lib.Dec.{eqb}
+use lib.ListN.{length, take, drop, length-drop}
 use lib.Seq.{drop-drop}
 use borrow.Author.Tests.{lt-ltb, le-ltb, eq-eqb, ne-eqb}
 use Rattle.lists.specs.Laws.Numbers.{eq?}
 use Rattle.records.specs.Outcome.{unless}
 use Rattle.records.specs.Width.{seven}
-use Rattle.records.specs.Bytes.{numberWritten, numbersIn}
+use Rattle.records.specs.Bytes.{numbersIn}
 use Rattle.records.specs.Record.{carried}
 use Rattle.records.specs.Sheet.{countOf, wordsIn, bare, widthOf, heldBy}
 use Rattle.records.specs.Laws.Sheet.{sheet-good}
-use Rattle.comparison.specs.Compare.{recordsOf, wellFormed, compareRefusal, recordPlace, behindRecords, tailOf, TailPlaced, Tails}
+use Rattle.comparison.specs.Compare.{recordsOf, wellFormed, compareRefusal, behindRecords, tailOf, TailPlaced, Tails}
 use Rattle.comparison.specs.declared.TailPlace.{TailPlace}
 use Rattle.comparison.specs.Laws.Accepted.{accepted, fine}
 use Rattle.comparison.specs.Laws.Part.{part-second, part-first}

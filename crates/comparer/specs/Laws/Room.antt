@@ -13,7 +13,7 @@ use Rattle.lists.specs.Refusals.{_when_, first}
 use Rattle.lists.specs.Lists.{twoOf}
 use Rattle.records.specs.Width.{widthSaid, five, seven}
 use Rattle.records.specs.Sheet.{countOf, widthOf}
-use Rattle.records.specs.Laws.Sheet.{GoodSheet, sheet-good}
+use Rattle.records.specs.Laws.Sheet.{sheet-good}
 use Rattle.comparison.specs.Compare.{recordsOf, wellFormed, wellFilled, compareRefusal, compared, Compares}
 use Rattle.comparison.specs.declared.Compared.{Compared}
 use Rattle.compare.specs.Change.{firstEnd}

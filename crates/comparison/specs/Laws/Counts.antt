@@ -1,14 +1,13 @@
 -- The count of a sheet in good form by its bytes, and where its records begin. Assumes nothing.
 use mathlib.Core.Path.{_≡_, refl, sym, ap, _∙_}
-use mathlib.Core.Bool.{Bool, true}
+use mathlib.Core.Bool.{true}
 use mathlib.Core.List.{List}
-use Prim.Native.Nat.{ℕ, _+_, _-_, _*_, _/_, _^_, _≤_, _<_}
+use Prim.Native.Nat.{ℕ, _+_, _-_, _*_, _/_, _≤_}
 use native.Mathlib.Omega.{arith}
 use native.Mathlib.Nat.{mul-le-mul-left}
-use borrow.Author.Needs.{needs}
 use borrow.Author.Tests.{eq-eqb, ne-eqb}
 use lib.ListN.{length, getD}
-use Rattle.records.specs.Width.{Width, five, seven, widthSaid}
+use Rattle.records.specs.Width.{widthSaid}
 use Rattle.records.specs.Sheet.{countOf, widthOf}
 use Rattle.records.specs.Laws.Sheet.{GoodSheet, sheet-good, count-small}
 use Rattle.comparison.specs.Compare.{wellFormed, recordPlace}

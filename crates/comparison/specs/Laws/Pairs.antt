@@ -3,7 +3,7 @@ use mathlib.Core.Path.{_≡_, refl, sym, ap, _∙_}
 use mathlib.Core.Bool.{Bool, true, false, cond, _&&_}
 use mathlib.Core.List.{List, [], _∷_, _++_, map, append-nil}
 use mathlib.Core.Logic.{_⊎_, ⊎-elim, inl, inr}
-use Prim.Native.Nat.{ℕ, zero, suc, _+_, _-_, _*_, _%_, _≤_, _<_}
+use Prim.Native.Nat.{ℕ, _+_, _-_, _*_, _%_, _≤_, _<_}
 use native.Mathlib.Omega.{arith}
 use native.Mathlib.Numerals.{add-one}
 use lib.Dec.{eqb, leb}
@@ -16,7 +16,7 @@ use Rattle.lists.specs.Reordered.{member}
 use Rattle.comparison.specs.Matched.{paired, matched}
 use Rattle.comparison.specs.Tagged.{tagged, placeIn, ahead, inHand}
 use Rattle.comparison.specs.Compare.{hasRecord}
-use Rattle.comparison.specs.Laws.Matched.{matched-counts, matched-most}
+use Rattle.comparison.specs.Laws.Matched.{matched-counts}
 use Rattle.comparison.specs.Laws.Sums.{once}
 use Rattle.comparison.specs.Laws.Tagged.{matched-both}
 

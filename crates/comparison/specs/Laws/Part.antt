@@ -1,19 +1,18 @@
 -- The part of the longer sheet by its place: inside the sheet that has it, and the bytes there. Assumes nothing.
 use mathlib.Core.Path.{_≡_, refl, sym, ap, _∙_, subst}
 use mathlib.Core.Logic.{_⊎_, ⊎-elim, inl, inr}
-use mathlib.Core.Bool.{Bool, true, false, cond}
+use mathlib.Core.Bool.{Bool, true, false}
 use mathlib.Core.List.{List, []}
-use Prim.Native.Nat.{ℕ, _+_, _-_, _*_, _≤_, _<_}
+use Prim.Native.Nat.{ℕ, _+_, _-_, _≤_, _<_}
 use native.Mathlib.Omega.{arith}
 use lib.Dec.{eqb, ltb}
 use lib.ListN.{length, take, drop, length-drop}
 use lib.Seq.{take-all}
-use borrow.Author.Tests.{lt-ltb, le-ltb, ltb-true, ltb-false, ne-eqb, eqb-true, eqb-false}
+use borrow.Author.Tests.{lt-ltb, le-ltb, ltb-true, ltb-false, ne-eqb, eqb-true}
 use Rattle.lists.specs.Laws.Numbers.{eq?}
 use Rattle.records.specs.Outcome.{unless}
-use Rattle.records.specs.Sheet.{countOf, widthOf}
+use Rattle.records.specs.Sheet.{countOf}
 use Rattle.comparison.specs.Compare.{compareRefusal, recordPlace, behindRecords, tailOf, placed}
-use Rattle.comparison.specs.Accepted.{Accepted}
 use Rattle.comparison.specs.declared.TailPlace.{TailPlace}
 use Rattle.comparison.specs.Laws.Accepted.{accepted, fine}
 use Rattle.comparison.specs.Laws.Counts.{start-inside}

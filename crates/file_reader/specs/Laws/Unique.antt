@@ -1,8 +1,8 @@
 -- ONE ANSWER FOR EVERY FILE, and one content of each slice lent. Assumes nothing.
-use mathlib.Core.Path.{_≡_, refl, sym, ap, _∙_, subst}
-use mathlib.Core.List.{List, [], _∷_}
-use Prim.Native.Nat.{ℕ, _+_}
-use lib.ListN.{length, take, drop, replicate}
+use mathlib.Core.Path.{_≡_, sym, ap, _∙_, subst}
+use mathlib.Core.List.{List, []}
+use Prim.Native.Nat.{ℕ}
+use lib.ListN.{length, take, drop}
 use Rattle.nifti.specs.File.{Fronts, partOf}
 use Rattle.nifti.specs.Laws.File.{front-unique}
 use Rattle.nifti.specs.declared.Front.{Front}

@@ -1,28 +1,22 @@
 -- FILES WHOSE FIELDS ARE ALIKE: the same number in each, in the order of its own file. With the same list they have the same front.
-use mathlib.Core.Path.{_≡_, refl, sym, ap, _∙_, subst}
-use mathlib.Core.List.{List, [], _∷_, _++_}
+use mathlib.Core.Path.{_≡_, refl, sym, ap, _∙_}
+use mathlib.Core.List.{List, []}
 use mathlib.Core.Option.{Option, some}
 use mathlib.Core.Option
-use mathlib.Core.Bool.{Bool, true, false, _&&_, _||_, not, cond}
-use Prim.Native.Nat.{ℕ, zero, suc, _+_, _-_, _*_, _%_, _^_, _≤_, _<_}
+use Prim.Native.Nat.{ℕ, zero, suc, _+_, _-_, _*_, _≤_, _<_}
 use native.Mathlib.Omega.{arith}
-use native.Mathlib.Decide.{decLt}
-use lib.Dec.{eqb, leb, ltb}
-use lib.IntN.{ℤ, pos, negsuc}
-use lib.ListN.{length, getD, take, drop, length-append, length-drop, length-take}
-use lib.Seq.{slice, take-take, getD-take, length-take-le}
-use borrow.Author.Tests.{lt-ltb, le-ltb, le-leb, lt-leb}
+use lib.IntN.{pos}
+use lib.ListN.{length, getD}
+use lib.Seq.{slice}
+use borrow.Author.Tests.{le-ltb}
 use Rattle.lists.specs.Lists.{allBelow}
-use Rattle.lists.specs.Refusals.{first}
-use Rattle.nifti.specs.Fields.{numberAt, signed, fieldAtLeast}
+use Rattle.nifti.specs.Fields.{numberAt, signed}
 use Rattle.nifti.specs.Extensions.{Extension, Body, ExtensionList}
-use Rattle.nifti.specs.File.{orderOf, magic, dim, offset, extender, listStart, sizeStands, magicAt, offsetStands, frontStands, noFront}
+use Rattle.nifti.specs.File.{orderOf, dim, offset, extender, listStart, sizeStands, magicAt, offsetStands, frontStands, noFront}
 use Rattle.nifti.specs.File.{lengthCount, oneAt, lengthStands, dimsStand, lengthAt, textBody, conditionsOfFront, acceptedFront, frontBy}
 use Rattle.nifti.specs.File.{frontTo, Fronts, ListOf, list, listed}
-use Rattle.nifti.specs.Model.{cut, cutTo, listIn, frontOf}
 use Rattle.nifti.specs.Laws.Header.{count-few}
 use Rattle.nifti.specs.Laws.File.{list-of-unique}
-use Rattle.nifti.specs.declared.Order.{Order}
 use Rattle.nifti.specs.declared.Front.{Front}
 
 pub record Alike (x y : List ℕ) : Type 0 where

@@ -1,15 +1,14 @@
 -- THE FOUR CASES OF 22: no list is written up to the data offset just where, behind some good extensions, fewer than 16 bytes are left
 -- before the data offset or the end of the bytes, or a size is below 16, not a multiple of 16, or past either.
-use mathlib.Core.Path.{_≡_, refl, sym, ap, _∙_, subst}
+use mathlib.Core.Path.{_≡_, sym, ap, _∙_, subst}
 use mathlib.Core.List.{List, [], _∷_, _++_}
-use mathlib.Core.Option.{Option, some}
+use mathlib.Core.Option.{Option}
 use mathlib.Core.Option
-use mathlib.Core.Bool.{Bool, true, false}
+use mathlib.Core.Bool.{true}
 use mathlib.Core.Logic.{_↔_}
 use Prim.Native.Nat.{ℕ, zero, suc, _+_, _-_, _%_, _^_, _≤_, _<_}
 use native.Mathlib.Omega.{arith}
 use native.Mathlib.Decide.{ℕ-discrete, decLt}
-use lib.Dec.{eqb, leb, ltb}
 use lib.ListN.{length, take, drop, length-drop, length-append}
 use lib.Seq.{length-take-le, take-append-add}
 use Rattle.lists.specs.Laws.Booleans.{refute, never-some}
@@ -17,7 +16,7 @@ use Rattle.records.specs.Bytes.{Below}
 use Rattle.records.specs.Laws.Bytes.{drop-below}
 use Rattle.nifti.specs.Fields.{numberAt}
 use Rattle.nifti.specs.Extensions.{Extension, sizeOf, written, GoodExtension, ExtensionList, nothing, next}
-use Rattle.nifti.specs.Model.{goodSize, extensionIn, oneMoreIf, cut}
+use Rattle.nifti.specs.Model.{extensionIn, oneMoreIf, cut}
 use Rattle.nifti.specs.Laws.Lists.{Fits, size-fits, cut-bad, written-size, found-next, found-good, found-joined, size-is, list-found}
 use Rattle.nifti.specs.Laws.Walk.{number-within}
 use Rattle.nifti.specs.declared.Order.{Order}

@@ -1,30 +1,28 @@
 -- FRONT-CUT: where the data offset is not past the bytes, the front of a file is the front of the bytes before it. So a caller may read no
 -- further than that.
-use mathlib.Core.Path.{_≡_, refl, sym, ap, _∙_, subst}
-use mathlib.Core.List.{List, [], _∷_, _++_}
-use mathlib.Core.Option.{Option, some}
+use mathlib.Core.Path.{_≡_, refl, sym, ap, _∙_}
+use mathlib.Core.List.{List, []}
+use mathlib.Core.Option.{Option}
 use mathlib.Core.Option
-use mathlib.Core.Bool.{Bool, true, false, _&&_, _||_, not, cond}
-use Prim.Native.Nat.{ℕ, zero, suc, _+_, _-_, _*_, _%_, _^_, _≤_, _<_}
+use mathlib.Core.Bool.{Bool, true, false, _&&_, _||_, not}
+use Prim.Native.Nat.{ℕ, _+_, _-_, _*_, _≤_, _<_}
 use native.Mathlib.Omega.{arith}
 use native.Mathlib.Decide.{decLt}
-use lib.Dec.{eqb, leb, ltb}
-use lib.IntN.{ℤ, pos, negsuc}
-use lib.ListN.{length, getD, take, drop, length-append, length-drop, length-take}
-use lib.Seq.{slice, take-take, getD-take, length-take-le}
-use borrow.Author.Tests.{lt-ltb, le-ltb, le-leb, lt-leb}
+use lib.Dec.{ltb}
+use lib.IntN.{pos}
+use lib.ListN.{length, getD, take}
+use lib.Seq.{take-take, getD-take, length-take-le}
+use borrow.Author.Tests.{lt-ltb, le-leb, lt-leb}
 use Rattle.lists.specs.Lists.{allBelow}
 use Rattle.lists.specs.Refusals.{first}
-use Rattle.nifti.specs.Fields.{numberAt, signed, fieldAtLeast}
-use Rattle.nifti.specs.Extensions.{Extension, Body}
-use Rattle.nifti.specs.File.{orderOf, magic, dim, offset, extender, listStart, sizeStands, magicAt, offsetStands, frontStands, noFront}
-use Rattle.nifti.specs.File.{lengthCount, oneAt, lengthStands, dimsStand, lengthAt, textBody, conditionsOfFront, acceptedFront, frontBy}
+use Rattle.nifti.specs.Fields.{numberAt, fieldAtLeast}
+use Rattle.nifti.specs.File.{orderOf, offset, extender, sizeStands, magicAt, offsetStands, frontStands, noFront}
+use Rattle.nifti.specs.File.{conditionsOfFront, frontBy}
 use Rattle.nifti.specs.File.{frontTo, refusedFront}
-use Rattle.nifti.specs.Model.{cut, cutTo, listIn, frontOf}
+use Rattle.nifti.specs.Model.{cutTo, listIn, frontOf}
 use Rattle.nifti.specs.Laws.Walk.{number-within}
 use Rattle.front.specs.Laws.Alike.{Alike, offset-alike, to-alike}
 use Rattle.nifti.specs.declared.Order.{Order}
-use Rattle.nifti.specs.declared.Front.{Front}
 
 module _ (file : List ℕ) (end : ℕ) (inside : end ≤ length file) where
   abbrev short : List ℕ

@@ -1,23 +1,18 @@
 -- The keys of an array, row after row.
 use mathlib.Core.Path.{_≡_, refl, sym, ap, _∙_}
-use mathlib.Core.Bool.{Bool, true, false, cond}
+use mathlib.Core.Bool.{Bool, true, false}
 use mathlib.Core.List.{List, [], _∷_, _++_, append-nil}
 use Prim.Native.Nat.{ℕ, suc, _+_, _≤_, _<_}
 use native.Mathlib.Omega.{arith}
 use lib.Dec.{ltb}
-use lib.IntN.{ℤ, pos, negsuc}
-use lib.ListN.{length, take, drop, getD, length-append}
-use lib.Seq.{drop-cons, drop-length, length-take-le, take-all}
-use mir.Syntax.{w32}
-use mir.Val.{SFits, toZ, ofZ}
-use mir.ValLaws.{toZ-ofZ}
+use lib.IntN.{ℤ}
+use lib.ListN.{length, take, drop, length-append}
+use lib.Seq.{length-take-le, take-all}
 use borrow.Author.Needs.{needs}
-use borrow.Author.Tests.{le-leb, ltb-true, ltb-false}
+use borrow.Author.Tests.{ltb-true, ltb-false}
 use Rattle.lists.specs.Lists.{all, each, count}
-use Rattle.lists.specs.Laws.Booleans.{and-both}
 use Rattle.lists.specs.Laws.Lists.{all-append}
-use Rattle.numbers.specs.Numbers.{inKeys, withSign}
-use Rattle.lists.specs.Reordered.{member}
+use Rattle.numbers.specs.Numbers.{inKeys}
 use Rattle.label_table.specs.Labels.{keysWritten}
 use Rattle.label_table.specs.Laws.Told.{filled-told}
 use Rattle.known_keys.specs.Known.{knownIn, codesOf, KnownAmong}

@@ -1,14 +1,14 @@
 -- THE CLASSES OF BYTES, held to the paper's words: each is computed at all 256 bytes, and one law gives the rule at each of them.
 use mathlib.Core.Path.{_≡_, refl}
 use mathlib.Core.List.{List, [], _∷_, _++_}
-use Prim.Native.Nat.{ℕ, zero, suc, _+_, _≤_, _<_}
+use Prim.Native.Nat.{ℕ, zero, suc, _+_, _<_}
 use native.Mathlib.Omega.{arith}
 use mathlib.Core.Bool.{Bool, true, false, _&&_, _||_, not}
-use lib.Dec.{eqb, leb, ltb}
+use lib.Dec.{eqb, ltb}
 use borrow.Author.Tests.{eqb-true, eqb-false}
 use Rattle.lists.specs.Laws.Booleans.{and-left, and-right}
 use Rattle.grammar.specs.Bytes.{ascii, blank, letter, nameStart, nameByte, quote, special, skipped}
-use Rattle.grammar.specs.Characters.{lead1, lead2, continues}
+use Rattle.grammar.specs.Characters.{lead1}
 
 -- the byte is one of the list
 unfoldable pub oneOf : List ℕ → ℕ → Bool

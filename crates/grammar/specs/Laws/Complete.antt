@@ -1,21 +1,21 @@
 -- Completeness, elements and documents: what the grammar writes, the parser reads.
-use mathlib.Core.Path.{_≡_, refl, ap, sym, subst}
+use mathlib.Core.Path.{_≡_, refl}
 use mathlib.Core.List.{List, [], _∷_, _++_, append-assoc, append-nil}
-use mathlib.Core.Option.{Option, some}
-use Prim.Native.Nat.{ℕ, zero, suc, _+_, _≤_, _<_}
-use mathlib.Core.Bool.{Bool, true, false, _&&_, _||_, not}
-use lib.Dec.{eqb, leb}
+use mathlib.Core.Option.{some}
+use Prim.Native.Nat.{ℕ, suc, _+_, _≤_, _<_}
+use mathlib.Core.Bool.{Bool, true, false, _&&_, not}
+use lib.Dec.{eqb}
 use lib.ListN.{length, length-append}
 use native.Mathlib.Omega.{arith}
-use borrow.Author.Tests.{eq-eqb, ne-eqb, not-true}
+use borrow.Author.Tests.{ne-eqb, not-true}
 use Rattle.lists.specs.Laws.Booleans.{or-left, not-so}
 use Rattle.grammar.specs.Bytes.{_⊹_, ascii, blank, nameStart, nameByte, letter, quote, special, Each, no-byte, a-byte, Sequence}
 use Rattle.grammar.specs.Bytes.{no-more, one-more, begins, parted}
-use Rattle.grammar.specs.Document.{Attribute, attribute, Element, element, Contents, nothing, child, merged}
+use Rattle.grammar.specs.Document.{Attribute, Element, element, Contents, nothing, child, merged}
 use Rattle.grammar.specs.Grammar
-use Rattle.grammar.specs.Grammar.{Name, Gap, Equals, Reference, TextCharacter, Attributes, Comment, CData, Doctype, Prologue}
-use Rattle.grammar.specs.Grammar.{WritesElement, WritesContents, Setting, Encoding, Declaration, Aside, Writes}
-use Rattle.grammar.specs.Read.{Read, fail, got, Reader, bind, test, mark, byte, span, stops, alt, all-of}
+use Rattle.grammar.specs.Grammar.{Name, TextCharacter, Attributes, Comment, CData, Doctype, Prologue}
+use Rattle.grammar.specs.Grammar.{WritesElement, Setting, Encoding, Declaration, Aside, Writes}
+use Rattle.grammar.specs.Read.{fail, got, bind, byte, stops, alt, all-of}
 use Rattle.grammar.specs.Laws.Read.{test-complete}
 use Rattle.grammar.specs.Laws.Read.{mark-complete, mark-other, byte-complete, byte-other, span-complete, Item, all-of-complete}
 use Rattle.grammar.specs.Laws.Read.{with-fuel, seen-complete}
@@ -24,7 +24,7 @@ use Rattle.grammar.specs.Laws.Tokens.{name-complete, gap-complete, equal
 use Rattle.grammar.specs.Laws.Tokens.{quote-ends-blanks, text-complete, text-long, parted-apart, ends-blanks}
 use Rattle.grammar.specs.Laws.Tokens.{attributes-complete, attributes-end-name, comment-complete}
 use Rattle.grammar.specs.Laws.Data.{data-complete, doctype-complete}
-use Rattle.grammar.specs.Parser.{name-at, attributes-at, ends, closing, comment-at, Look, at-close, at-comment, at-data, at-element}
+use Rattle.grammar.specs.Parser.{ends, closing, at-close, at-comment, at-data, at-element}
 use Rattle.grammar.specs.Parser.{at-text, look, look₂, look₃, look-third, look-by, look-if, empty-at, full-at, element-at}
 use Rattle.grammar.specs.Parser.{contents-by, contents-at, setting-at, asking, encoding-if, declaration-if, declaration-at}
 use Rattle.grammar.specs.Parser.{blank-at, remarked-at, aside-at, no-aside, doctype-if, prologue-at, end-at, document-at, answer}

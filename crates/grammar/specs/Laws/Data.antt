@@ -2,13 +2,13 @@
 use mathlib.Core.Path.{_≡_, refl}
 use mathlib.Core.List.{List, [], _∷_, _++_, append-assoc}
 use Prim.Native.Nat.{ℕ, _<_}
-use mathlib.Core.Bool.{Bool, true, false, _&&_, _||_, not}
+use mathlib.Core.Bool.{Bool, true, false, _&&_, not}
 use lib.Dec.{eqb}
 use lib.ListN.{length, length-append}
 use native.Mathlib.Omega.{arith}
 use borrow.Author.Tests.{not-true}
 use Rattle.lists.specs.Laws.Booleans.{and-right, or-left, or-right, not-so}
-use Rattle.grammar.specs.Bytes.{_⊹_, ascii, begins, parted, closed, skipped}
+use Rattle.grammar.specs.Bytes.{ascii, begins, parted, closed, skipped}
 use Rattle.grammar.specs.Grammar
 use Rattle.grammar.specs.Grammar.{DataCharacter, CData, Skipped, Doctype}
 use Rattle.grammar.specs.Read.{got, bind, alt}

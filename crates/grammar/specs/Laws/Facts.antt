@@ -1,12 +1,12 @@
 -- The classes of bytes lie apart: bounds on each, from which `omega` tells any two apart.
-use mathlib.Core.Path.{_≡_, ap}
-use Prim.Native.Nat.{ℕ, _≤_, _<_}
-use mathlib.Core.Bool.{true, false, _&&_, not}
+use mathlib.Core.Path.{_≡_}
+use Prim.Native.Nat.{ℕ, _≤_}
+use mathlib.Core.Bool.{true, false, _&&_}
 use lib.Dec.{eqb, leb}
 use native.Mathlib.Omega.{arith}
 use borrow.Author.Tests.{leb-true, eqb-true}
 pub use Rattle.lists.specs.Laws.Booleans.{and-left, and-right, or-elim, or-left, or-right, refute}
-use Rattle.grammar.specs.Bytes.{between, blank, letter, nameStart, nameByte, quote, special}
+use Rattle.grammar.specs.Bytes.{between, blank, letter, nameStart, nameByte, quote}
 use Rattle.grammar.specs.Characters.{lead1, lead2, lead3, lead4, continues}
 use Rattle.grammar.specs.Parser.{closing}
 

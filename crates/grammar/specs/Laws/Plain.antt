@@ -9,7 +9,7 @@ use Rattle.lists.specs.Lists.{those, each}
 use Rattle.grammar.specs.Document.{Element, element, Contents, nothing, child, run}
 use Rattle.grammar.specs.Erased
 use Rattle.grammar.specs.Erased.{Node, node, Nodes, erased, erasedAll}
-use Rattle.grammar.specs.Look.{Word, is, nameOf, attributesOf, contentsOf, withinOf, attr, has, elements, characters, children}
+use Rattle.grammar.specs.Look.{is, nameOf, attributesOf, contentsOf, withinOf, attr, has, elements, characters, children}
 use Rattle.grammar.specs.Look.{textOf}
 
 unfoldable mutual

@@ -1,12 +1,12 @@
 -- What is proved of Read.
-use mathlib.Core.Path.{_≡_, refl, ap, _∙_}
+use mathlib.Core.Path.{_≡_, refl, ap}
 use mathlib.Core.List.{List, [], _∷_, _++_, append-assoc}
 use lib.ListN.{length, length-append}
 use lib.Seq.{take-append-seam}
 use native.Mathlib.Omega.{arith}
-use Rattle.grammar.specs.Bytes.{_⊹_, Each, no-byte, a-byte, Sequence, no-more, one-more, SequenceUnless, none-more, and-more}
+use Rattle.grammar.specs.Bytes.{Each, no-byte, a-byte, Sequence, no-more, one-more, SequenceUnless, none-more, and-more}
 use Prim.Native.Nat.{ℕ, zero, suc, _+_, _-_, _≤_, _<_}
-use mathlib.Core.Bool.{Bool, true, false, _&&_, _||_}
+use mathlib.Core.Bool.{Bool, true, false}
 use lib.Dec.{eqb}
 use borrow.Author.Tests.{eqb-true, eq-eqb, not-true}
 use Rattle.grammar.specs.Read.{Read, got, fail, Reader, bind, _>>=_, _>>_, test, mark, byte, span, stops, alt, many-step, many}

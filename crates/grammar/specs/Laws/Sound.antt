@@ -1,25 +1,23 @@
 -- What the readers below elements find, the text writes.
-use mathlib.Core.Path.{_≡_, refl, ap, sym, subst}
-use mathlib.Core.Logic.{_≢_}
+use mathlib.Core.Path.{_≡_, refl, ap}
 use mathlib.Core.List.{List, [], _∷_, _++_, append-assoc, append-nil}
-use Prim.Native.Nat.{ℕ, zero, suc, _+_, _≤_, _<_}
-use mathlib.Core.Bool.{Bool, true, false, _&&_, _||_, not}
+use Prim.Native.Nat.{ℕ, _+_}
+use mathlib.Core.Bool.{Bool, true, false, _&&_, not}
 use lib.Dec.{eqb, leb}
-use lib.ListN.{length, length-append}
-use borrow.Author.Tests.{leb-true, eq-eqb, eqb-true, not-true}
+use lib.ListN.{length}
+use borrow.Author.Tests.{leb-true, eq-eqb, not-true}
 use Rattle.lists.specs.Laws.Booleans.{and-left, and-right, or-left, or-right, clash}
-use Rattle.grammar.specs.Bytes.{_⊹_, ascii, blank, nameStart, nameByte, quote, special, Each, no-byte, a-byte, Sequence, no-more}
-use Rattle.grammar.specs.Bytes.{one-more, begins, parted, closed, skipped}
+use Rattle.grammar.specs.Bytes.{ascii, blank, nameStart, nameByte, quote, special, Sequence}
+use Rattle.grammar.specs.Bytes.{begins, parted, closed, skipped}
 use Rattle.grammar.specs.Characters.{Character, utf8-1, utf8-2, utf8-3, utf8-4, lead1, lead2, lead3, lead4, continues, noncharacter}
-use Rattle.grammar.specs.Document.{Attribute, attribute, together}
+use Rattle.grammar.specs.Document.{Attribute, attribute}
 use Rattle.grammar.specs.Grammar
 use Rattle.grammar.specs.Grammar.{Name, Gap, Equals, Reference, LineEnd, TextCharacter, ValueCharacter, Value, WritesAttribute}
 use Rattle.grammar.specs.Grammar.{Absent, Distinct, Attributes, Remark, Comment, DataCharacter, CData, Setting, Encoding}
 use Rattle.grammar.specs.Grammar.{Declaration, Aside}
 use Rattle.grammar.specs.Grammar.{Skipped, Doctype, Prologue}
-use Rattle.grammar.specs.Read.{Read, fail, got, Reader, bind, test, mark, byte, span, alt, all-of}
-use Rattle.grammar.specs.Laws.Read.{Ok, failed, good, bind-ok}
-use Rattle.grammar.specs.Laws.Read.{ok-map, ok-got, alt-ok, Takes, test-sound, mark-sound, byte-sound, span-sound, all-of-sound}
+use Rattle.grammar.specs.Laws.Read.{Ok, good, bind-ok}
+use Rattle.grammar.specs.Laws.Read.{ok-map, alt-ok, Takes, test-sound, mark-sound, byte-sound, span-sound, all-of-sound}
 use Rattle.grammar.specs.Laws.Read.{TakesWhole, whole-takes, row-sound}
 use Rattle.grammar.specs.Parser
 use Rattle.grammar.specs.Parser.{name-at, gap-at, equals-at, CharacterWidth, one, two, three, four, width, rest-by, rest-at}

@@ -1,5 +1,5 @@
 -- THE GRAMMAR IS DECIDED, AND UNAMBIGUOUS: of elements that keep the bytes between their tags, and of the paper's documents.
-use mathlib.Core.Path.{_≡_, refl, ap, sym, _∙_}
+use mathlib.Core.Path.{_≡_, refl, ap}
 use mathlib.Core.Logic.{_↔_}
 use mathlib.Core.List.{List}
 use mathlib.Core.Option.{Option, some}
@@ -8,7 +8,7 @@ use Prim.Native.Nat.{ℕ}
 use Rattle.lists.specs.Laws.Booleans.{clash}
 use Rattle.grammar.specs.Document.{Element}
 use Rattle.grammar.specs.Grammar.{Writes}
-use Rattle.grammar.specs.Erased.{Node, erased, erasedIn, WritesDocument, documentOf}
+use Rattle.grammar.specs.Erased.{Node, erasedIn, WritesDocument, documentOf}
 use Rattle.grammar.specs.Parser.{parse}
 use Rattle.grammar.specs.Laws.SoundElements.{parse-sound}
 use Rattle.grammar.specs.Laws.Complete.{parse-complete}

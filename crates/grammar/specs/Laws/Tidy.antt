@@ -1,18 +1,17 @@
 -- What a text writes is tidy: no run is empty, no two stand side by side, each name is a name, each tag's attributes have distinct names,
 -- 16 at most, and no run and no value holds a carriage return.
-use mathlib.Core.Path.{_≡_, refl}
-use mathlib.Core.Bool.{Bool, false}
+use mathlib.Core.Path.{refl}
+use mathlib.Core.Bool.{Bool}
 use native.Mathlib.Omega.{arith}
-use lib.Dec.{eqb}
 use mathlib.Core.List.{List, [], _∷_, _++_}
-use Prim.Native.Nat.{ℕ, suc, _≤_, _<_}
+use Prim.Native.Nat.{ℕ, suc, _≤_}
 use lib.ListN.{length}
-use Rattle.grammar.specs.Bytes.{Each, no-byte, a-byte, blank, Sequence, no-more, one-more, SequenceUnless, none-more, and-more}
+use Rattle.grammar.specs.Bytes.{Each, no-byte, a-byte, Sequence, no-more, one-more, SequenceUnless, none-more, and-more}
 use Rattle.grammar.specs.Document.{Attribute, attribute, Element, element, Contents, nothing, child, run, merged, together}
 use Rattle.grammar.specs.Grammar
 use Rattle.grammar.specs.Grammar.{Name, Reference, TextCharacter, ValueCharacter, Value, DataCharacter, CData, WritesAttribute}
 use Rattle.grammar.specs.Grammar.{Distinct, Attributes}
-use Rattle.grammar.specs.Grammar.{WritesElement, WritesContents, Writes}
+use Rattle.grammar.specs.Grammar.{WritesElement, Writes}
 use Rattle.grammar.specs.Laws.Facts.{no-return}
 use Rattle.grammar.specs.Laws.Others.{other, character-other}
 

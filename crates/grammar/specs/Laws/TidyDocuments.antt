@@ -2,7 +2,7 @@
 -- side by side, elements at most 16 deep. And it holds no carriage return.
 use mathlib.Core.List.{List, [], _∷_}
 use Prim.Native.Nat.{ℕ, suc, _≤_}
-use mathlib.Core.Path.{_≡_, subst}
+use mathlib.Core.Path.{subst}
 use lib.ListN.{length}
 use Rattle.grammar.specs.Document.{Attribute, Element, Contents}
 use Rattle.grammar.specs.Grammar.{Name, Distinct}

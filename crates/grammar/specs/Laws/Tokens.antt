@@ -1,28 +1,27 @@
 -- Completeness, below elements: what a production writes, its reader reads, and it leaves what stands behind.
-use mathlib.Core.Path.{_≡_, refl, ap, sym, subst}
-use mathlib.Core.Logic.{_≢_}
-use mathlib.Core.List.{List, [], _∷_, _++_, append-assoc, append-nil}
-use Prim.Native.Nat.{ℕ, zero, suc, _+_, _≤_, _<_}
-use mathlib.Core.Bool.{Bool, true, false, _&&_, _||_, not}
-use lib.Dec.{eqb, leb}
+use mathlib.Core.Path.{_≡_, refl, sym}
+use mathlib.Core.List.{List, [], _∷_, _++_, append-assoc}
+use Prim.Native.Nat.{ℕ, _+_, _≤_, _<_}
+use mathlib.Core.Bool.{Bool, true, false, _&&_, not}
+use lib.Dec.{eqb}
 use lib.ListN.{length, length-append}
 use native.Mathlib.Omega.{arith}
-use borrow.Author.Tests.{leb-true, le-leb, lt-leb, eq-eqb, ne-eqb, eqb-true, not-true}
+use borrow.Author.Tests.{le-leb, lt-leb, eq-eqb, ne-eqb, eqb-true}
 use Rattle.lists.specs.Laws.Booleans.{and-left, and-right, or-right, refute, not-so}
-use Rattle.grammar.specs.Bytes.{_⊹_, ascii, blank, nameStart, nameByte, quote, special, Each, no-byte, a-byte, Sequence, no-more}
+use Rattle.grammar.specs.Bytes.{ascii, blank, nameStart, nameByte, quote, special, Each, no-byte, a-byte, Sequence, no-more}
 use Rattle.grammar.specs.Bytes.{one-more, begins, parted, letter}
-use Rattle.grammar.specs.Characters.{Character, utf8-1, utf8-2, utf8-3, utf8-4, lead1, lead2, lead3, lead4, continues, noncharacter}
-use Rattle.grammar.specs.Document.{Attribute, attribute, together}
+use Rattle.grammar.specs.Characters.{Character, utf8-1, utf8-2, utf8-3, utf8-4, lead3, lead4, continues}
+use Rattle.grammar.specs.Document.{Attribute}
 use Rattle.grammar.specs.Grammar
 use Rattle.grammar.specs.Grammar.{Name, Gap, Equals, Reference, TextCharacter, ValueCharacter, Value, WritesAttribute, Absent}
 use Rattle.grammar.specs.Grammar.{Distinct, Attributes, Remark, Comment, LineEnd}
-use Rattle.grammar.specs.Read.{Read, fail, got, Reader, bind, test, mark, byte, span, stops, alt, all-of}
+use Rattle.grammar.specs.Read.{fail, got, bind, test, mark, stops, alt}
 use Rattle.grammar.specs.Laws.Read.{test-complete}
 use Rattle.grammar.specs.Laws.Read.{mark-complete, mark-other, byte-complete, byte-other, span-complete, Item, all-of-complete}
 use Rattle.grammar.specs.Laws.Read.{RowItem, row-complete}
 use Rattle.grammar.specs.Laws.Facts.{blank-in, nameStart-in, nameByte-in, quote-in, closing-in, lead1-in, lead2-in, lead3-in}
 use Rattle.grammar.specs.Laws.Facts.{lead4-in, no-return}
-use Rattle.grammar.specs.Parser.{name-at, gap-at, equals-at, CharacterWidth, one, two, three, four, width, width-by, rest-by}
+use Rattle.grammar.specs.Parser.{name-at, gap-at, equals-at, one, two, three, four, width, width-by, rest-by}
 use Rattle.grammar.specs.Parser.{rest-at, literal-at, standsFor, reference-at, feed-if, feed-at, line-end-at, text-byte, text-at}
 use Rattle.grammar.specs.Parser.{spacing, space-at, value-byte, value-character-at}
 use Rattle.grammar.specs.Parser.{value-at, attribute-at, ends, closing, sameBytes, absent, distinct, attributes-at, no-dash, plain-at}

@@ -7,8 +7,8 @@ use Prim.Native.Nat.{ℕ, zero, suc}
 use mathlib.Core.Bool.{Bool, true, false, not}
 use Rattle.lists.specs.Lists.{all}
 use Rattle.grammar.specs.Bytes.{ascii}
-use Rattle.grammar.specs.Document.{Element, Attribute, attribute}
-use Rattle.grammar.specs.Erased.{Node, node, none, inner, characters, documentOf, erasing}
+use Rattle.grammar.specs.Document.{Element}
+use Rattle.grammar.specs.Erased.{node, none, characters, documentOf, erasing}
 use Rattle.grammar.specs.Parser.{parse, computing}
 
 -- some document writes the text

@@ -3,14 +3,14 @@ use mathlib.Core.Path.{_≡_, refl}
 use mathlib.Core.List.{List, [], _∷_, _++_}
 use mathlib.Core.Option.{Option, some}
 use mathlib.Core.Option
-use Prim.Native.Nat.{ℕ, zero, suc}
-use mathlib.Core.Bool.{Bool, true, false, not}
+use Prim.Native.Nat.{ℕ}
+use mathlib.Core.Bool.{true}
 use Rattle.lists.specs.Lists.{all}
 use Rattle.grammar.specs.Bytes.{ascii}
-use Rattle.grammar.specs.Document.{Element, Attribute, attribute}
-use Rattle.grammar.specs.Erased.{Node, node, none, inner, characters, documentOf, erasing}
+use Rattle.grammar.specs.Document.{attribute}
+use Rattle.grammar.specs.Erased.{node, none, inner, characters, documentOf, erasing}
 use Rattle.grammar.specs.Parser.{computing}
-use Rattle.grammar.specs.Tests.Documents.{legal, illegal, times, cases}
+use Rattle.grammar.specs.Tests.Documents.{legal, illegal, cases}
 
 -- the contents of an element are the one run `w`; the value of its attribute is `w`
 abbrev pub holds : List ℕ → List ℕ → Type 0

@@ -6,27 +6,26 @@ use Prim.Native.Nat.{ℕ, zero, suc, _+_, _-_, _≤_, _<_}
 use native.Mathlib.Omega.{arith}
 use lib.ListN.{length, drop, length-append}
 use Rattle.lists.specs.Lists.{those, count}
-use Rattle.grammar.specs.Bytes.{_⊹_, ascii, blank, Each}
-use Rattle.grammar.specs.Document.{Element, Contents, nothing, child, run, merged}
+use Rattle.grammar.specs.Bytes.{_⊹_}
+use Rattle.grammar.specs.Document.{Element, Contents, nothing, child, merged}
 use Rattle.grammar.specs.Grammar
 use Rattle.grammar.specs.Grammar.{TextCharacter, Comment, CData, WritesElement, WritesContents}
-use Rattle.grammar.specs.Look.{contentsOf, elements}
-use Rattle.grammar.specs.Read.{Read, fail, got}
-use Rattle.grammar.specs.Parser.{Look, at-close, at-comment, at-data, at-element, at-text, look, comment-at, data-at}
+use Rattle.grammar.specs.Look.{elements}
+use Rattle.grammar.specs.Read.{got}
+use Rattle.grammar.specs.Parser.{at-comment, at-data, at-element}
 use Rattle.grammar.specs.Laws.Tokens.{comment-complete}
 use Rattle.grammar.specs.Laws.Data.{data-complete}
 use Rattle.grammar.specs.Laws.Complete.{opening-looks, comment-looks, data-looks, element-long}
-use Rattle.nodes.specs.Places.{element₁₆, Stands, the}
-use Rattle.nodes.specs.Laws.Places.{stands-read, the-read, Tail, tail-more}
-use Rattle.nodes.specs.Scan.{to-tag, tag-from, tag-at, skip-at}
+use Rattle.nodes.specs.Places.{element₁₆, the}
+use Rattle.nodes.specs.Laws.Places.{the-read, Tail, tail-more}
+use Rattle.nodes.specs.Scan.{tag-at}
 use Rattle.nodes.specs.Laws.ScanEnds.{to-tag-free, text-free, tag-name, tag-blanks, tag-attributes}
-use Rattle.nodes.specs.Laws.Skipping.{no-text-comment, no-text-data, no-text-element, tag-bare, tag-filled, skip-element}
+use Rattle.nodes.specs.Laws.Skipping.{no-text-comment, no-text-data, no-text-element, tag-bare, tag-filled}
 use Rattle.nodes.specs.Children.{kid-then, kid-by, kid-at, first-by, firstChild, next}
 use Rattle.nodes.specs.Laws.Children.{kid-step, kid-look, next-read, elements-joined}
 use Rattle.nodes.specs.declared.Kid.{Kid}
-use Rattle.nodes.specs.declared.Kid.the-variants.{Child, Done}
-use Rattle.nodes.specs.declared.Found.{Found}
-use Rattle.nodes.specs.declared.Found.the-variants.{At, Nothing}
+use Rattle.nodes.specs.declared.Kid.the-variants.{Child}
+use Rattle.nodes.specs.declared.Found.the-variants.{At}
 use Rattle.inside.specs.Way.{Step, step, StartTag, start-tag, OnlyTag, only-tag, Leads, here, down}
 use Rattle.inside.specs.Laws.Written.{element-reads, element-opens}
 use Rattle.inside.specs.Walked.{placesWithin, placesFrom, nthPlace, childAt, thence, walked}

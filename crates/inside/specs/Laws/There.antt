@@ -10,14 +10,14 @@ use lib.ListN.{length}
 use Rattle.lists.specs.Lists.{those, count}
 use Rattle.lists.specs.Laws.Booleans.{never-some}
 use Rattle.grammar.specs.Bytes.{_⊹_, ascii, begins, parted}
-use Rattle.grammar.specs.Document.{Element, element, Contents, nothing, child, run, merged}
+use Rattle.grammar.specs.Document.{Element, element, Contents, nothing, child, merged}
 use Rattle.grammar.specs.Grammar
 use Rattle.grammar.specs.Grammar.{TextCharacter, Comment, CData, WritesElement, WritesContents, Writes}
 use Rattle.grammar.specs.Look.{contentsOf, withinOf, elements}
 use Rattle.grammar.specs.Parser.{parse}
 use Rattle.grammar.specs.Laws.Sound.{begins-less, parted-less}
 use Rattle.grammar.specs.Laws.SoundElements.{parse-sound}
-use Rattle.inside.specs.Way.{Step, step, nth, onward, reached, StartTag, start-tag, OnlyTag, only-tag, Leads, here, down, Tagged}
+use Rattle.inside.specs.Way.{Step, step, nth, onward, reached, StartTag, start-tag, only-tag, Leads, here, down, Tagged}
 use Rattle.inside.specs.Way.{between, nothing-between, Place, place}
 use Rattle.nodes.specs.Laws.Children.{elements-joined}
 

@@ -1,6 +1,6 @@
 -- Numbers in order are twice there where two neighbours are equal; a table is told part by part.
 use mathlib.Core.Path.{_≡_, refl, sym, ap, _∙_}
-use mathlib.Core.List.{List, [], _∷_, _++_, append-nil}
+use mathlib.Core.List.{List, [], _∷_, _++_}
 use mathlib.Core.Bool.{Bool, true, false, _&&_, _||_, false≢true}
 use Prim.Native.Nat.{ℕ, _+_, _^_, _≤_, _<_}
 use native.Mathlib.Omega.{arith}
@@ -21,7 +21,7 @@ use Rattle.nodes.specs.declared.Kid.{Kid}
 use Rattle.nodes.specs.declared.Kid.the-variants.{Child, Done}
 use Rattle.lists.specs.Reordered.{member}
 use Rattle.label_table.specs.Labels.{twiceAt, firstLabel, nextLabel}
-use Rattle.label_table.specs.Codes.{codeHere, codesAt}
+use Rattle.label_table.specs.Codes.{codeHere}
 use Rattle.label_table.specs.Laws.Codes.{twice-codes}
 use Rattle.label_table.specs.Laws.Walks.{walk-less, come-more, come-first, come-done}
 use Rattle.label_table.specs.Walks.{toCome}

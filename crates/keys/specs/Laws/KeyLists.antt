@@ -1,8 +1,8 @@
 -- The next key of a list, and whether a text lists keys: one lemma for each way of the code.
 use mathlib.Core.Path.{_≡_, refl, sym, ap, _∙_}
 use mathlib.Core.List.{List, [], _∷_, _++_, append-nil}
-use mathlib.Core.Bool.{Bool, true, false, _&&_, not, cond}
-use Prim.Native.Nat.{ℕ, zero, suc, _+_, _-_, _/_, _%_, _^_, _<_, _≤_}
+use mathlib.Core.Bool.{Bool, true, false, not, cond}
+use Prim.Native.Nat.{ℕ, suc, _+_, _-_, _/_, _%_, _^_, _<_, _≤_}
 use native.Mathlib.Omega.{arith}
 use lib.IntN.{ℤ, pos}
 use lib.Dec.{leb}
@@ -13,8 +13,8 @@ use mir.ValLaws.{toZ-pos}
 use borrow.Author.Needs.{needs}
 use borrow.Author.Tests.{le-leb, lt-leb, not-true, not-false}
 use Rattle.lists.specs.Lists.{all, those}
-use Rattle.lists.specs.Laws.Booleans.{and-left, both-ways, clash}
-use Rattle.grammar.specs.Bytes.{blank, between}
+use Rattle.lists.specs.Laws.Booleans.{both-ways, clash}
+use Rattle.grammar.specs.Bytes.{blank}
 use Rattle.grammar.specs.Look.{Word}
 use Rattle.nodes.specs.Texts.{saysAt, left, inside, text-of}
 use Rattle.nodes.specs.Laws.TextSteps.{text-none, text-some}
@@ -22,7 +22,7 @@ use Rattle.nodes.specs.declared.Char.{Char}
 use Rattle.nodes.specs.declared.Char.the-variants as chars
 use Rattle.nodes.specs.declared.Found.{Found}
 use Rattle.nodes.specs.declared.Found.the-variants.{At, Nothing}
-use Rattle.numbers.specs.Numbers.{digit, digits, value, number, words, parts, filled, withSign, unsigned, key, keyValue, keyList, inKeys}
+use Rattle.numbers.specs.Numbers.{digit, digits, value, words, parts, filled, withSign, unsigned, key, keyValue, keyList}
 use Rattle.numbers.specs.Answers.{signIf, keyLimit}
 use Rattle.numbers.specs.Stream.{charAt, letterAt, stream, leftIn, behind, leading, wordEnds, digitsAt}
 use Rattle.numbers.specs.Quick.{Quick}
@@ -31,7 +31,7 @@ use Rattle.numbers.specs.Cuts.{Uncut, none, more}
 use Rattle.numbers.specs.Laws.Keys.{within}
 use Rattle.numbers.specs.Laws.Listed.{begun, word-ahead}
 use Rattle.numbers.specs.Laws.Stream.{char-byte, char-end, Ran, digits-law, Blanked, blanked}
-use Rattle.numbers.specs.Laws.Walk.{Behind, behind-law, Handed, number-law}
+use Rattle.numbers.specs.Laws.Walk.{behind-law, Handed, number-law}
 use Rattle.numbers.specs.declared.Source.the-variants.{Contents}
 use Rattle.numbers.specs.declared.Run.{Run}
 use Rattle.keys.specs.Laws.Keys.{signed-small, signed-fits, signed-back}

@@ -1,21 +1,16 @@
 -- Words that are keys and words that are not: a sign, digits, and what ends them.
-use mathlib.Core.Path.{_≡_, refl, sym, ap, _∙_}
-use mathlib.Core.List.{List, [], _∷_, _++_}
-use mathlib.Core.Bool.{Bool, true, false, _&&_, and-false}
-use Prim.Native.Nat.{ℕ, zero, suc, _+_, _^_, _<_, _≤_}
+use mathlib.Core.Path.{_≡_, refl}
+use mathlib.Core.List.{[], _∷_, _++_}
+use mathlib.Core.Bool.{Bool, true, false, _&&_}
+use Prim.Native.Nat.{ℕ, _+_}
 use native.Mathlib.Omega.{arith}
-use lib.Dec.{eqb, leb}
-use lib.ListN.{length}
-use borrow.Author.Tests.{le-leb, lt-leb, ne-eqb, eq-eqb}
+use borrow.Author.Tests.{ne-eqb}
 use Rattle.lists.specs.Lists.{all}
 use Rattle.lists.specs.Laws.Booleans.{and-left}
-use Rattle.grammar.specs.Bytes.{blank, between}
 use Rattle.grammar.specs.Look.{Word}
 use Rattle.numbers.specs.Numbers.{digit, digits, value, unsigned, withSign, key, keyValue, inKeys}
-use Rattle.numbers.specs.Answers.{signIf, keyLimit}
-use Rattle.numbers.specs.Laws.Cuts.{digit-in, digit-no-blank, digits-uncut, digits-are, digits-stopped}
-use Rattle.numbers.specs.Cuts.{Uncut, none, more}
-use Rattle.numbers.specs.Laws.Keys.{within}
+use Rattle.numbers.specs.Answers.{signIf}
+use Rattle.numbers.specs.Laws.Cuts.{digit-in}
 use Rattle.keys.specs.KeyLists.{spelled}
 
 -- a word that does not begin with a minus

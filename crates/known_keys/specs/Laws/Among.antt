@@ -19,7 +19,7 @@ use Rattle.lists.specs.Reordered.{member}
 use Rattle.label_table.specs.Codes.{codeOf}
 use Rattle.known_keys.specs.Order.{inOrder}
 use Rattle.known_keys.specs.Known.{knownIn, codesOf, KnownAmong, Placed}
-use Rattle.known_keys.specs.Sieve.{sifted, Sieve, Sifting}
+use Rattle.known_keys.specs.Sieve.{sifted, Sifting}
 use Rattle.known_keys.specs.Laws.Search.{placed-member}
 
 -- a key of 32 bits is in the range of keys

@@ -1,8 +1,8 @@
 -- Marking the numbers of a part one after the other.
 use mathlib.Core.Path.{_≡_, refl, sym, ap, _∙_}
-use mathlib.Core.Bool.{Bool, true, false, _||_}
+use mathlib.Core.Bool.{Bool, true, _||_}
 use mathlib.Core.List.{List}
-use Prim.Native.Nat.{ℕ, _+_, _/_, _%_, _≤_, _<_}
+use Prim.Native.Nat.{ℕ, _+_, _≤_, _<_}
 use native.Mathlib.Omega.{arith}
 use native.Mathlib.Decide.{decLt}
 use lib.Dec.{eqb, ltb}
@@ -10,8 +10,7 @@ use lib.ListN.{length, getD, take}
 use borrow.Author.Needs.{needs}
 use borrow.Author.Tests.{lt-ltb, le-ltb, eq-eqb}
 use Rattle.lists.specs.Laws.Booleans.{or-true}
-use Rattle.marks.specs.Marks.{marked, Stay, Marked}
-use Rattle.lists.specs.Reordered.{member}
+use Rattle.marks.specs.Marks.{marked, Marked}
 use Rattle.known_keys.specs.Order.{inOrder}
 use Rattle.known_keys.specs.Sieve.{sievePlace, sifted, Sieve, Sifting}
 use Rattle.known_keys.specs.Laws.Search.{At, stands}

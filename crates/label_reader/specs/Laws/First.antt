@@ -1,5 +1,5 @@
 -- THE ORDER: of keys and of label names the number given is that of a row that applies, and no row before it does; or none applies.
-use mathlib.Core.Path.{_≡_, sym, subst}
+use mathlib.Core.Path.{sym, subst}
 use mathlib.Core.List.{List, [], _∷_, _++_}
 use mathlib.Core.Option.{Option}
 use Prim.Native.Nat.{ℕ}

@@ -4,21 +4,20 @@ use mathlib.Core.Path.{_≡_, refl, sym, ap, _∙_, subst}
 use mathlib.Core.List.{List, [], _∷_, _++_}
 use mathlib.Core.Option.{Option, some}
 use mathlib.Core.Option
-use mathlib.Core.Bool.{Bool, true, false, cond, _&&_, not}
+use mathlib.Core.Bool.{Bool, true, false, cond}
 use Prim.Native.Nat.{ℕ, zero, suc, _≤_}
-use Prim.Native.String.{String}
-use lib.Dec.{eqb, ltb}
+use lib.Dec.{eqb}
 use lib.IntN.{ℤ}
-use lib.ListN.{length, getD}
+use lib.ListN.{getD}
 use Rattle.lists.specs.Lists.{all, any, count, those, each, eachIn}
 use Rattle.lists.specs.Laws.Booleans.{and-left, and-right, never-some}
 use Rattle.grammar.specs.Document.{Element}
-use Rattle.grammar.specs.Look.{Word, is, nameOf, contentsOf, elements, children}
+use Rattle.grammar.specs.Look.{is, contentsOf, elements, children}
 use Rattle.grammar.specs.Parser.{sameBytes}
 use Rattle.schema.specs.Schema.{child, once, always, childShaped, standsSo}
 use Rattle.cifti.specs.LabelTable.{tableKeys, namesWith}
 use Rattle.cifti.specs.Rows.{ElementKind, cifti, rows, words, namedMap, labelledMap, labelTable}
-use Rattle.cifti.specs.Maps.{Map, mapOf, mapsOf, mapElements, kindOfMap, isLabels, isScalars, hasNames, same-kind, rowFor, countedName}
+use Rattle.cifti.specs.Maps.{mapOf, mapsOf, mapElements, kindOfMap, isLabels, isScalars, hasNames, same-kind, rowFor}
 use Rattle.cifti.specs.Maps.{dimensionsOf, tablesIn}
 use Rattle.cifti.specs.Conditions.{listedDimensions}
 use Rattle.cifti.specs.Labels.{holdsTable, noTable, keysOn, tablesOn, labelsOn}
@@ -29,7 +28,7 @@ use Rattle.maps.specs.Laws.Kinds.{root-child}
 use Rattle.maps.specs.Laws.MapKind.{rowsName, namesChild, childless}
 use Rattle.maps.specs.MapKind.{GoodMap}
 use Rattle.maps.specs.Laws.Ready.{GoodMaps, no-maps, one-map, good-maps}
-use Rattle.inside.specs.Way.{Step, step, nth, onward, reached}
+use Rattle.inside.specs.Way.{step, nth, onward, reached}
 use Rattle.map_names.specs.Way.{ofName, inMap}
 use Rattle.map_names.specs.Laws.Held.{OneRow, all-named, scalars-children, labels-children, good-labels, no-named-maps, namedOf, named-kind}
 use Rattle.map_names.specs.Laws.Reached.{OnMap, not-held, on-map, FoundIn, none-held, one-held, found-in, toldOf, toldIn, maps-in}

@@ -3,8 +3,8 @@ use mathlib.Core.Path.{_≡_, refl, sym, ap, _∙_}
 use mathlib.Core.List.{List, [], _∷_, _++_}
 use mathlib.Core.Option.{Option, some}
 use mathlib.Core.Option
-use mathlib.Core.Bool.{Bool, true, false, cond, not, _&&_, _||_}
-use Prim.Native.Nat.{ℕ, zero, suc}
+use mathlib.Core.Bool.{Bool, true, false, cond, _&&_, _||_}
+use Prim.Native.Nat.{ℕ}
 use lib.IntN.{ℤ}
 use lib.ListN.{getD}
 use Rattle.lists.specs.Lists.{all, any, those, each}
@@ -12,7 +12,7 @@ use Rattle.lists.specs.Laws.Lists.{any-each}
 use Rattle.lists.specs.Laws.Booleans.{clash, never-some, and-left, and-right}
 use Rattle.grammar.specs.Bytes.{ascii}
 use Rattle.grammar.specs.Document.{Element}
-use Rattle.grammar.specs.Look.{Word, is, nameOf, attr, contentsOf, withinOf, elements, children}
+use Rattle.grammar.specs.Look.{is, nameOf, attr, withinOf, children}
 use Rattle.nodes.specs.Places.{Stands, the}
 use Rattle.nodes.specs.Laws.Found.{attr-law}
 use Rattle.nodes.specs.Children.{firstChild}

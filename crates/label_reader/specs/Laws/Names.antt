@@ -1,6 +1,6 @@
 -- What is proved of Names.
 use mathlib.Core.Path.{_≡_, refl, sym, ap, _∙_, subst}
-use mathlib.Core.List.{List, [], _∷_, _++_}
+use mathlib.Core.List.{List, []}
 use mathlib.Core.Option.{some}
 use mathlib.Core.Option
 use Prim.Native.Nat.{ℕ, zero, suc, _+_, _-_, _≤_}

@@ -4,7 +4,6 @@ use mathlib.Core.Path.{_≡_, refl, sym, ap, _∙_}
 use mathlib.Core.List.{List, [], _∷_, _++_, append-assoc}
 use mathlib.Core.Option.{Option, some}
 use mathlib.Core.Option
-use mathlib.Core.Bool.{Bool, true, false}
 use Prim.Native.Nat.{ℕ}
 use lib.IntN.{ℤ}
 use lib.ListN.{length}
@@ -23,7 +22,6 @@ use Rattle.cifti.specs.Maps.{mapsOf}
 use Rattle.cifti.specs.Conditions.{conditionsOfHeader, conditionsOfLabels, ofMaps}
 use Rattle.cifti.specs.Labels.{noTable, labelsRefusals, keysOn, labelsOn}
 use Rattle.maps.specs.Good.{Good}
-use Rattle.inside.specs.Way.{reached}
 use Rattle.inside.specs.Walked.{wayAt}
 use Rattle.inside.specs.Laws.Walked.{Agrees, not-there, stands-there, way-agrees}
 use Rattle.map_names.specs.Treads.{namedAt}

@@ -3,7 +3,7 @@ use mathlib.Core.Path.{_≡_, refl, sym, ap, _∙_, subst}
 use mathlib.Core.List.{List, [], _∷_, _++_}
 use mathlib.Core.Option.{Option, some}
 use mathlib.Core.Option
-use mathlib.Core.Bool.{Bool, true, false}
+use mathlib.Core.Bool.{true, false}
 use Prim.Native.Nat.{ℕ, _<_, _≤_}
 use native.Mathlib.Omega.{arith}
 use borrow.Author.Tests.{not-false}
@@ -13,7 +13,7 @@ use lib.ListN.{length, getD, drop, List·getD-append}
 use Rattle.lists.specs.Lists.{any, count, twoOf, each, there}
 use Rattle.lists.specs.Laws.Booleans.{both-ways}
 use Rattle.lists.specs.Laws.Lists.{length-each}
-use Rattle.lists.specs.Refusals.{Refusal, _when_, first, positive, NoneApplies, passed}
+use Rattle.lists.specs.Refusals.{Refusal, _when_, positive, NoneApplies, passed}
 use Rattle.lists.specs.Laws.Refusals.{given-none, row-fails, none-front}
 use Rattle.grammar.specs.Document.{Element}
 use Rattle.grammar.specs.Grammar.{Writes}
@@ -29,7 +29,7 @@ use Rattle.cifti.specs.Labels.{keysAfterwards, noKey, labelRefusal, labelBy, la
 use Rattle.cifti.specs.Laws.Text.{answers-of}
 use Rattle.maps.specs.Good.{Good}
 use Rattle.inside.specs.Way.{reached}
-use Rattle.map_names.specs.Laws.Placed.{Fine, fine}
+use Rattle.map_names.specs.Laws.Placed.{fine}
 use Rattle.map_names.specs.Laws.Reached.{listed-once}
 use Rattle.label_reader.specs.Way.{tableWay}
 use Rattle.label_reader.specs.Laws.Found.{TableOf, no-table, a-table, table-of}

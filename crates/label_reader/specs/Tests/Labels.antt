@@ -3,7 +3,7 @@ use mathlib.Core.Path.{_≡_, refl}
 use mathlib.Core.List.{List, [], _∷_}
 use Prim.Native.Nat.{ℕ}
 use Prim.Native.String.{String}
-use lib.IntN.{ℤ, pos, negsuc}
+use lib.IntN.{pos, negsuc}
 use Rattle.grammar.specs.Bytes.{_⊹_, ascii}
 use Rattle.cifti.specs.Answer.{unused, noSeries}
 use Rattle.cifti.specs.Labels.{labelsWords}

@@ -1,10 +1,10 @@
 -- A key stands twice where its number does.
 use mathlib.Core.Path.{_≡_, refl, sym, ap, _∙_}
 use mathlib.Core.List.{List}
-use mathlib.Core.Bool.{Bool, true, false, _&&_, cond}
-use Prim.Native.Nat.{ℕ, zero, suc, _+_, _-_, _^_, _≤_, _<_}
+use mathlib.Core.Bool.{Bool, true, false}
+use Prim.Native.Nat.{ℕ, suc, _+_, _-_, _^_, _≤_, _<_}
 use native.Mathlib.Omega.{arith}
-use lib.Dec.{eqb, leb, T}
+use lib.Dec.{eqb, T}
 use lib.Signed.{nonNeg}
 use lib.IntN.{ℤ, pos, negsuc, natAbs, _+ℤ_}
 use mir.Syntax.{w32, w64}
@@ -12,14 +12,14 @@ use mir.Val.{Fits, SFits, toZ, ofZ}
 use mir.ValLaws.{toZ-ofZ}
 use borrow.Author.Needs.{needs}
 use borrow.Author.Tests.{ne-eqb, le-ltb}
-use Rattle.lists.specs.Lists.{twoOf, each}
+use Rattle.lists.specs.Lists.{twoOf}
 use Rattle.lists.specs.Laws.Lists.{two-same, two-each}
 use Rattle.lists.specs.Laws.Booleans.{and-right}
 use Rattle.lists.specs.Laws.Numbers.{eqb-same}
 use Rattle.grammar.specs.Bytes.{ascii}
 use Rattle.grammar.specs.Look.{Word}
 use Rattle.nodes.specs.Found.{value-at-name}
-use Rattle.numbers.specs.Numbers.{digits, withSign, plus, minus, unsigned, Signed, inKeys, key, keyValue, sameKey}
+use Rattle.numbers.specs.Numbers.{digits, withSign, unsigned, inKeys, key, keyValue, sameKey}
 use Rattle.numbers.specs.Answers.{keyIn}
 use Rattle.numbers.specs.Laws.Keys.{above-in, below-in}
 use Rattle.label_table.specs.Labels.{labels, keyOrZero, keyHere, tableKeysAt, twiceAt}

@@ -2,7 +2,7 @@
 use mathlib.Core.Path.{_≡_, refl, sym, ap, _∙_}
 use mathlib.Core.List.{List, [], _∷_}
 use mathlib.Core.Bool.{Bool, true, false, cond}
-use Prim.Native.Nat.{ℕ, zero, suc, _+_, _-_, _^_, _≤_, _<_}
+use Prim.Native.Nat.{ℕ, zero, suc, _+_, _-_, _≤_, _<_}
 use native.Mathlib.Omega.{arith}
 use lib.IntN.{ℤ, pos}
 use lib.ListN.{length, set, length-set}
@@ -12,12 +12,10 @@ use mir.ValLaws.{toZ-ofZ}
 use borrow.Author.Needs.{needs}
 use Rattle.lists.specs.Lists.{all, those, each}
 use Rattle.lists.specs.Laws.Lists.{length-each, few-those}
-use Rattle.lists.specs.Laws.Booleans.{clash}
 use Rattle.grammar.specs.Bytes.{ascii}
 use Rattle.nodes.specs.Names.{named}
 use Rattle.nodes.specs.Attributes.{place}
 use Rattle.nodes.specs.Values.{value-there}
-use Rattle.nodes.specs.Found.{value-at-name}
 use Rattle.nodes.specs.Laws.Found.{value-found, value-missing}
 use Rattle.nodes.specs.Children.{firstChild, next}
 use Rattle.nodes.specs.declared.Kid.{Kid}

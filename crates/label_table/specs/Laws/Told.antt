@@ -1,8 +1,8 @@
 -- WHERE AN ELEMENT STANDS whose keys are in form, the table at its place is its table of labels.
-use mathlib.Core.Path.{_≡_, refl, sym, ap, _∙_}
+use mathlib.Core.Path.{_≡_, refl, ap}
 use mathlib.Core.List.{List, [], _∷_, _++_}
-use mathlib.Core.Bool.{Bool, true, false, _&&_, cond}
-use Prim.Native.Nat.{ℕ, zero, suc, _≤_, _<_}
+use mathlib.Core.Bool.{Bool, true, false, cond}
+use Prim.Native.Nat.{ℕ, _≤_}
 use native.Mathlib.Omega.{arith}
 use lib.IntN.{ℤ}
 use lib.ListN.{length, drop}
@@ -10,10 +10,10 @@ use Rattle.lists.specs.Lists.{all, those, twoOf, each}
 use Rattle.lists.specs.Laws.Booleans.{and-left, and-right}
 use Rattle.grammar.specs.Bytes.{ascii}
 use Rattle.grammar.specs.Document.{Element}
-use Rattle.grammar.specs.Look.{is, nameOf, attr, children, contentsOf, elements}
+use Rattle.grammar.specs.Look.{is, nameOf, attr, children}
 use Rattle.nodes.specs.Places.{Stands, the}
 use Rattle.nodes.specs.Laws.Found.{attr-law}
-use Rattle.numbers.specs.Numbers.{key, keyValue, sameKey}
+use Rattle.numbers.specs.Numbers.{key, sameKey}
 use Rattle.numbers.specs.Answers.{keyIn}
 use Rattle.inside.specs.Way.{nth}
 use Rattle.inside.specs.Walked.{nthPlace}

@@ -2,7 +2,7 @@
 use mathlib.Core.Path.{_≡_, refl, sym, _∙_}
 use mathlib.Core.Option.{Option, some}
 use mathlib.Core.Option
-use mathlib.Core.Bool.{Bool, true, false, _&&_, _||_, not, cond, false≢true, true≢false}
+use mathlib.Core.Bool.{Bool, true, false, _&&_, _||_, not, false≢true, true≢false}
 use Prim.Native.Nat.{ℕ}
 use native.Mathlib.Omega.{arith}
 

@@ -1,7 +1,7 @@
 -- THE WAY REACHES THE NAME OF THE DOCUMENT, where 6, 7 and 8 do not apply: nothing exactly where 18 applies,
 -- and else the element that the name is written in. The same is said of any child that a NamedMap has once.
-use mathlib.Core.Path.{_≡_, refl, sym, ap, _∙_}
-use mathlib.Core.List.{List, [], _∷_, _++_, append-nil}
+use mathlib.Core.Path.{_≡_, refl, ap, _∙_}
+use mathlib.Core.List.{List, [], _∷_, append-nil}
 use mathlib.Core.Option.{Option, some}
 use mathlib.Core.Option
 use mathlib.Core.Bool.{Bool, true, false, cond, not, _&&_}
@@ -17,8 +17,7 @@ use Rattle.lists.specs.Laws.Lists.{none-counted, count-append}
 use Rattle.lists.specs.Laws.Quantifiers.{allBelow-iff}
 use Rattle.lists.specs.Laws.Booleans.{both-ways}
 use Rattle.grammar.specs.Document.{Element}
-use Rattle.grammar.specs.Look.{is, nameOf, contentsOf, withinOf, elements, children, attr}
-use Rattle.numbers.specs.Numbers.{dimensionList}
+use Rattle.grammar.specs.Look.{is, nameOf, contentsOf, withinOf, elements, children}
 use Rattle.cifti.specs.Rows.{cifti, matrix}
 use Rattle.cifti.specs.Maps.{Map, mapOf, mapsOf, dimensionsOf, mapElements}
 use Rattle.cifti.specs.Conditions.{listedDimensions, dimensionsWrong}

@@ -3,8 +3,8 @@ use mathlib.Core.Path.{_≡_, refl, sym, _∙_, subst}
 use mathlib.Core.List.{List, [], _∷_, _++_}
 use mathlib.Core.Option.{Option, some}
 use mathlib.Core.Option
-use mathlib.Core.Bool.{Bool, true, false, _&&_, _||_, cond}
-use Prim.Native.Nat.{ℕ, _+_, _<_, _≤_}
+use mathlib.Core.Bool.{Bool, true, false, cond}
+use Prim.Native.Nat.{_+_}
 use Prim.Native.String.{String}
 use native.Mathlib.Omega.{arith}
 use lib.ListN.{length}
@@ -19,7 +19,7 @@ use Rattle.grammar.specs.Parser.{sameBytes}
 use Rattle.grammar.specs.Laws.Facts.{and-left, and-right}
 use Rattle.numbers.specs.Numbers.{whole, volumeDimensions, exponent, decimal, wholes}
 use Rattle.schema.specs.Schema.{anyValue, word, number, AttributeRow, required, numbers, ChildRow, child}
-use Rattle.schema.specs.Schema.{always, chosen, Case, _⇒_, branch, anyOrder, Times, once, kindOf, kindBy, kindChosen}
+use Rattle.schema.specs.Schema.{always, chosen, Case, branch, anyOrder, Times, once, kindOf, kindBy, kindChosen}
 use Rattle.schema.specs.Schema.{kindAmong, numbered, attributeNumbered}
 use Rattle.schema.specs.Schema.{isText, childShaped, standsSo, neededBelow, atLeastOnce}
 use Rattle.schema.specs.Schema.{atMostOnce}

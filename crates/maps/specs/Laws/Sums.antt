@@ -12,7 +12,6 @@ use Rattle.lists.specs.Lists.{all, total, each, those}
 use Rattle.grammar.specs.Bytes.{ascii, between}
 use Rattle.grammar.specs.Document.{Element}
 use Rattle.grammar.specs.Laws.Facts.{and-right, within}
-use Rattle.grammar.specs.Parser.{sameBytes}
 use Rattle.grammar.specs.Look.{Word, is, nameOf, attr, contentsOf, elements, children}
 use Rattle.numbers.specs.Numbers.{digits, whole, value}
 use Rattle.nodes.specs.Places.{Stands, the}

@@ -1,15 +1,13 @@
 -- A VOLUME IS NEEDED WITH ANY VOXEL MODEL: among the children of a good brain map, a VoxelIndicesIJK stands below one exactly where some
 -- BrainModel is of voxels.
 -- So the row of Volume, which goes by what stands below, says what document 01 says.
-use mathlib.Core.Path.{_≡_, refl, sym, ap, ap₂, _∙_}
+use mathlib.Core.Path.{_≡_, refl, sym, ap₂, _∙_}
 use mathlib.Core.List.{List, [], _∷_}
 use mathlib.Core.Option.{Option, some}
 use mathlib.Core.Option
-use mathlib.Core.Bool.{Bool, true, false, _&&_, _||_, cond}
-use Prim.Native.Nat.{ℕ, suc}
+use mathlib.Core.Bool.{Bool, true, false, _&&_, _||_}
 use Prim.Native.String.{String}
 use native.Mathlib.Omega.{arith}
-use lib.Dec.{eqb}
 use lib.ListN.{length}
 use borrow.Author.Tests.{eqb-true}
 use Rattle.lists.specs.Lists.{any}
@@ -20,7 +18,7 @@ use Rattle.grammar.specs.Parser.{sameBytes}
 use Rattle.grammar.specs.Look.{is, nameOf, attributesOf, contentsOf, has, elements}
 use Rattle.schema.specs.Schema.{AttributeRow, TextForm, leaf, kindOf, shaped, attributesShaped, below}
 use Rattle.schema.specs.Laws.Everywhere.{called, below-children}
-use Rattle.cifti.specs.Rows.{ElementKind, brainModels, volume, transform, vertexIndices, voxelIndices, rows}
+use Rattle.cifti.specs.Rows.{ElementKind, brainModels, volume, transform, rows}
 use Rattle.maps.specs.Laws.Good.{GoodAs, good-as, AllGood, none-left, one-good, shape-here, good-children, row-met}
 use Rattle.maps.specs.Good.{Good}
 use Rattle.maps.specs.Laws.Kinds.{not-both, brainRows, OnlyChild, good-model, good-volume}

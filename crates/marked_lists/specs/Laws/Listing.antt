@@ -1,5 +1,5 @@
 -- The turns of the loops over the numbers of a list, and what the list of a model is.
-use mathlib.Core.Path.{_≡_, refl, sym, ap, _∙_, subst}
+use mathlib.Core.Path.{_≡_, refl, sym, ap, _∙_}
 use mathlib.Core.List.{List, [], _∷_}
 use mathlib.Core.Bool.{Bool, true, false, not, _||_, _&&_}
 use Prim.Native.Nat.{ℕ, _+_, _/_, _%_, _^_, _<_, _≤_}
@@ -9,7 +9,7 @@ use lib.ListN.{length}
 use borrow.Author.Needs.{needs}
 use Rattle.lists.specs.Lists.{twoOf}
 use Rattle.grammar.specs.Bytes.{ascii}
-use Rattle.nodes.specs.Places.{Stands, the}
+use Rattle.nodes.specs.Places.{the}
 use Rattle.nodes.specs.Texts.{left}
 use Rattle.nodes.specs.declared.Found.{Found}
 use Rattle.nodes.specs.declared.Found.the-variants.{At, Nothing}
@@ -20,7 +20,7 @@ use Rattle.numbers.specs.declared.Next.the-variants.{Number, End, Bad}
 use Rattle.cifti.specs.Maps.{Voxel, voxel, Listed, vertices, voxels, modelOf, threes, vertexNumbers, voxelsOf, sameVoxel}
 use Rattle.cifti.specs.Conditions.{outside}
 use Rattle.maps.specs.Fields.{attributeWord, numberSeen}
-use Rattle.marks.specs.Marks.{Stay, Marked}
+use Rattle.marks.specs.Marks.{Marked}
 use Rattle.marks.specs.Apart.{Marking}
 use Rattle.marks.specs.Laws.Apart.{all-stay, marking-start, marking-not, marking-none, marking-apart, marking-one}
 use Rattle.models.specs.Kind.{typeAndStructure, typeNumber}
@@ -29,7 +29,7 @@ use Rattle.models.specs.Listings.{listedNumbers, StartOf, ModelKnown}
 use Rattle.models.specs.Laws.ListingSteps.{list-numbers}
 use Rattle.models.specs.Numbers.{valuesAt, InForm, NextVoxel}
 use Rattle.models.specs.Laws.Numbers.{number-passes, number-ends, voxel-passes, voxels-end}
-use Rattle.models.specs.Verdicts.{verdictBy, verticesVerdict, voxelsVerdict}
+use Rattle.models.specs.Verdicts.{verdictBy}
 use Rattle.models.specs.Laws.Listings.{judge-stands, judge-none, judge-form, judge-voxels, judge-vertices}
 use Rattle.models.specs.Laws.Verdicts.{Vertices, vertices-start, vertices-done, vertices-bad, vertices-less, vertices-on}
 use Rattle.models.specs.Laws.Verdicts.{Voxels, voxels-start, voxels-done, voxels-short, voxels-less, voxels-on}

@@ -1,11 +1,10 @@
 -- The walks side by side, as the code takes them. Assumes nothing.
 use mathlib.Core.Path.{_≡_, refl, sym, ap, _∙_, subst}
-use mathlib.Core.Bool.{Bool, true, false, cond, _&&_}
-use mathlib.Core.Logic.{_⊎_, ⊎-elim, inl, inr}
+use mathlib.Core.Bool.{Bool, true, false}
 use mathlib.Core.List.{List}
 use Prim.Native.Nat.{ℕ, _+_, _-_, _*_, _≤_, _<_}
 use native.Mathlib.Omega.{arith}
-use lib.Dec.{eqb, ltb}
+use lib.Dec.{eqb}
 use lib.ListN.{length, getD, set, take, drop, length-set}
 use borrow.Author.Tests.{lt-ltb, le-ltb}
 use Rattle.lists.specs.Lists.{count}
@@ -15,9 +14,9 @@ use Rattle.records.specs.Record.{carried}
 use Rattle.records.specs.Sheet.{countOf, widthOf, bare}
 use Rattle.records.specs.Laws.Sheet.{sheet-good, count-small}
 use Rattle.records.specs.Laws.Computed.{word-inside}
-use Rattle.comparison.specs.Compare.{recordsOf, wellFormed, countBelow, hasAt, hasRecord, sameAt, same}
+use Rattle.comparison.specs.Compare.{recordsOf, countBelow, hasAt, hasRecord, sameAt, same}
 use Rattle.comparison.specs.Matched.{matched}
-use Rattle.comparison.specs.Tagged.{tagged, placeIn}
+use Rattle.comparison.specs.Tagged.{placeIn}
 use Rattle.comparison.specs.Laws.Counts.{formed-most}
 use Rattle.comparison.specs.Laws.Held.{held-long, held-small, held-at}
 use Rattle.comparison.specs.Laws.Sums.{below-most, below-yes, below-no}

@@ -5,7 +5,6 @@ use mathlib.Core.Bool.{Bool, true, false, cond, _||_, _&&_}
 use Prim.Native.Nat.{ℕ, zero, suc, _+_, _≤_, _<_, min}
 use native.Mathlib.Omega.{arith}
 use native.Mathlib.Decide.{decLt}
-use lib.Dec.{eqb}
 use lib.ListN.{length, getD, set, length-set, List·getD-eq-default}
 use lib.Seq.{getD-set-same, getD-set-other}
 use borrow.Author.Needs.{needs}
@@ -30,7 +29,7 @@ use Rattle.models.specs.Laws.Brain.{noted-kind, noted-brain, noted-plain
 use Rattle.models.specs.Fine.{Fine}
 use Rattle.models.specs.Gathered.{Gathers}
 use Rattle.models.specs.Judged.{modelRows, mapRows, modelRefusal, mapRefusal, modelsHeld, no-models, HeldFor, HeldAll, Rules}
-use Rattle.models.specs.Judged.{Judges, JudgesIn, RulesIn, ListsTold, withRuling}
+use Rattle.models.specs.Judged.{JudgesIn, RulesIn, ListsTold, withRuling}
 use Rattle.models.specs.Judging.{Listable}
 use Rattle.models.specs.Laws.Fine.{ranges-more}
 use Rattle.models.specs.Verdicts.{listsRule}

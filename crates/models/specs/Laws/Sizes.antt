@@ -2,7 +2,7 @@
 use mathlib.Core.Path.{_≡_, refl, sym, ap, _∙_}
 use mathlib.Core.List.{List, [], _∷_, _++_}
 use mathlib.Core.Bool.{Bool, true, false, cond, false≢true}
-use Prim.Native.Nat.{ℕ, _<_}
+use Prim.Native.Nat.{ℕ}
 use native.Mathlib.Omega.{arith}
 use lib.ListN.{getD}
 use borrow.Author.Needs.{needs}
@@ -22,10 +22,9 @@ use Rattle.cifti.specs.Maps.{Voxel, voxel, sizesBy, sizesOf, mapOf}
 use Rattle.maps.specs.Laws.Good.{AllGood, none-left, one-good}
 use Rattle.maps.specs.Good.{Good}
 use Rattle.maps.specs.Laws.Kinds.{brainRows, brain-children, good-volume, volume-sizes}
-use Rattle.maps.specs.Sums.{isVolume, VolumeLeft}
+use Rattle.maps.specs.Sums.{isVolume}
 use Rattle.maps.specs.declared.survey.Seen.{Seen}
 use Rattle.maps.specs.Laws.Fields.{word-at, found-value, found-none}
-use Rattle.models.specs.Brain.{BrainAt}
 use Rattle.numbers.specs.Answers.{threeIn, lengthsOf}
 use Rattle.numbers.specs.declared.Lengths.{Lengths}
 use Rattle.numbers.specs.declared.Three.{Three}

@@ -1,16 +1,16 @@
 -- WHAT IS KNOWN OF FIELDS: a number written is read back in its order; bytes read are those of their number. Assumes nothing.
 use mathlib.Core.Path.{_≡_, refl, sym, ap, _∙_, subst}
-use mathlib.Core.List.{List, [], _∷_, _++_, reverse, reverseAux, reverse-reverse}
+use mathlib.Core.List.{List, [], _∷_, _++_, reverseAux, reverse-reverse}
 use mathlib.Core.Bool.{Bool, true, false, _&&_, cond}
 use Prim.Native.Nat.{ℕ, zero, suc, _+_, _-_, _*_, _%_, _^_, _<_, _≤_}
 use native.Mathlib.Omega.{arith}
 use native.Mathlib.Nat.{mod-lt}
 use lib.Dec.{eqb, leb, ltb}
-use lib.IntN.{ℤ, pos, negsuc}
-use lib.ListN.{length, getD, take, drop, length-reverse, length-drop}
+use lib.IntN.{pos, negsuc}
+use lib.ListN.{length, take, drop, length-reverse, length-drop}
 use lib.Pow.{pow-pos}
 use lib.Seq.{take-at, drop-append-add, length-take-le}
-use borrow.Author.Tests.{ltb-true, ltb-false, lt-ltb, ne-eqb}
+use borrow.Author.Tests.{ltb-false, lt-ltb, ne-eqb}
 use Rattle.records.specs.Bytes.{bytesOf, numberWritten, Below}
 use Rattle.records.specs.Laws.Bytes.{length-bytesOf, bytes-back, bytes-whole, number-back, take-below, drop-below}
 use Rattle.nifti.specs.Fields.{ordered, field, numberAt, signed, fieldIs, fieldAtLeast, natural}

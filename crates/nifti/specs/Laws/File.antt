@@ -1,20 +1,20 @@
 -- ONE LIST AND ONE FRONT FOR EVERY FILE, and there is one. Assumes nothing.
-use mathlib.Core.Path.{_≡_, refl, sym, ap, _∙_, subst}
-use mathlib.Core.List.{List, [], _∷_}
+use mathlib.Core.Path.{_≡_, refl, sym, ap, _∙_}
+use mathlib.Core.List.{List, []}
 use mathlib.Core.Option.{Option, some}
 use mathlib.Core.Option
 use mathlib.Core.Bool.{Bool, true, false, cond}
-use Prim.Native.Nat.{ℕ, _≤_, _<_}
+use Prim.Native.Nat.{ℕ}
 use native.Mathlib.Omega.{arith}
 use lib.Dec.{eqb, leb}
-use lib.IntN.{ℤ, pos, negsuc, pos-ne-negsuc}
-use lib.ListN.{length, take, drop}
+use lib.IntN.{ℤ, pos, negsuc}
+use lib.ListN.{length, take}
 use lib.Seq.{slice}
 use borrow.Author.Tests.{eqb-true, eqb-false, leb-true, le-leb, eq-eqb, ne-eqb}
 use Rattle.lists.specs.Laws.Booleans.{never-some}
 use Rattle.records.specs.Bytes.{Below}
 use Rattle.records.specs.Laws.Bytes.{take-below, drop-below}
-use Rattle.nifti.specs.Extensions.{Extension, ExtensionList}
+use Rattle.nifti.specs.Extensions.{Extension}
 use Rattle.nifti.specs.File.{orderOf, offset, extender, listStart, HasList, empty, listed, ListOf, list, unlisted, frontTo}
 use Rattle.nifti.specs.File.{Fronts, FrontPart, partOf}
 use Rattle.nifti.specs.Model.{cut, cutTo, listIn, frontOf}

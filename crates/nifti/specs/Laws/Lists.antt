@@ -3,14 +3,14 @@ use mathlib.Core.Path.{_≡_, refl, sym, ap, _∙_, subst}
 use mathlib.Core.List.{List, [], _∷_, _++_, append-assoc}
 use mathlib.Core.Option.{Option, some}
 use mathlib.Core.Option
-use mathlib.Core.Bool.{Bool, true, false, _&&_, not, cond}
-use Prim.Native.Nat.{ℕ, zero, suc, _+_, _-_, _*_, _%_, _^_, _≤_, _<_}
+use mathlib.Core.Bool.{Bool, true, false, cond}
+use Prim.Native.Nat.{ℕ, zero, suc, _+_, _-_, _%_, _^_, _≤_, _<_}
 use native.Mathlib.Omega.{arith}
 use lib.Dec.{eqb, leb, ltb}
-use lib.ListN.{length, getD, take, drop, length-append, length-drop, length-take, take-append-drop}
-use lib.Seq.{take-at, drop-at, take-add, drop-drop, length-take-le, take-append-seam}
+use lib.ListN.{length, take, drop, length-append, length-drop, take-append-drop}
+use lib.Seq.{drop-at, take-add, drop-drop, length-take-le, take-append-seam}
 use mathlib.Core.Logic.{_↔_}
-use borrow.Author.Tests.{ltb-true, leb-true, eqb-true, lt-ltb, le-leb, eq-eqb, ne-eqb, eqb-false}
+use borrow.Author.Tests.{ltb-true, leb-true, eqb-true, lt-ltb, le-leb, eq-eqb, ne-eqb}
 use Rattle.lists.specs.Laws.Booleans.{and-left, and-right, and-both, never-some}
 use Rattle.records.specs.Bytes.{Below}
 use Rattle.records.specs.Laws.Bytes.{drop-below}

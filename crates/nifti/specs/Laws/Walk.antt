@@ -1,19 +1,19 @@
 -- THE WALK OVER A LIST, step by step, and the body that it takes. Assumes nothing.
 use mathlib.Core.Path.{_≡_, refl, sym, ap, _∙_, subst}
-use mathlib.Core.List.{List, [], _∷_, _++_}
+use mathlib.Core.List.{List, [], _∷_}
 use mathlib.Core.Option.{Option, some}
 use mathlib.Core.Option
-use mathlib.Core.Bool.{Bool, true, false, _&&_, not, cond}
+use mathlib.Core.Bool.{Bool, true, false, _&&_, not}
 use Prim.Native.Nat.{ℕ, zero, suc, _+_, _-_, _%_, _≤_, _<_}
 use native.Mathlib.Omega.{arith}
-use lib.Dec.{eqb, leb, ltb}
+use lib.Dec.{eqb}
 use lib.ListN.{length, take, drop}
-use lib.Seq.{slice, take-take, drop-drop, length-slice, take-nil, drop-nil}
+use lib.Seq.{slice, take-take, drop-drop, length-slice}
 use borrow.Author.Tests.{eq-eqb, ne-eqb, le-leb, lt-leb, lt-ltb, le-ltb, not-true, not-false}
 use Rattle.lists.specs.Laws.Booleans.{and-no, refute}
 use Rattle.records.specs.Bytes.{numberWritten}
 use Rattle.nifti.specs.Fields.{ordered, numberAt}
-use Rattle.nifti.specs.Extensions.{Extension, sizeOf, Body, firstText}
+use Rattle.nifti.specs.Extensions.{Extension, sizeOf}
 use Rattle.nifti.specs.Model.{goodSize, extensionIn, oneMoreIf, cut, notListed, taken, takenBy}
 use Rattle.nifti.specs.Laws.Lists.{Fits, size-fits, cut-none, cut-bad, cut-good, size-is, body-length}
 use Rattle.nifti.specs.declared.Order.{Order}

@@ -10,18 +10,17 @@ use lib.ListN.{length, drop}
 use Rattle.lists.specs.Laws.Booleans.{clash, or-left, or-right}
 use Rattle.lists.specs.Laws.Lists.{all-append}
 use Rattle.lists.specs.Lists.{all}
-use Rattle.grammar.specs.Bytes.{ascii, blank, special, Each, no-byte, a-byte}
+use Rattle.grammar.specs.Bytes.{ascii, blank, special, Each}
 use Rattle.grammar.specs.Laws.Facts.{blank-in, no-return}
 use Rattle.grammar.specs.Laws.Tokens.{line-end-other}
 use Rattle.grammar.specs.Grammar
 use Rattle.grammar.specs.Grammar.{Reference}
 use Rattle.grammar.specs.Read.{Read, fail, got, bind, span}
-use Rattle.grammar.specs.Laws.Read.{Ok, good, ok-map, span-sound, Takes}
+use Rattle.grammar.specs.Laws.Read.{Ok, good, span-sound, Takes}
 use Rattle.grammar.specs.Parser.{Look, at-close, at-comment, at-data, at-element, at-text, look, comment-at, data-at, reference-at}
 use Rattle.grammar.specs.Laws.Sound.{comment-sound, data-sound, reference-sound}
-use Rattle.steps.specs.Laws.Step.{Tails, tails}
+use Rattle.steps.specs.Laws.Step.{tails}
 use Rattle.steps.specs.Leaves.{first-byte}
-use Rattle.steps.specs.Laws.Leaves.{span-tails}
 use Rattle.steps.specs.Laws.Feeds.{left-by, fed}
 use Rattle.nodes.specs.Places.{Stands, the, pick}
 use Rattle.nodes.specs.Laws.Places.{Tail, tail-of, tail-more, tail-read}

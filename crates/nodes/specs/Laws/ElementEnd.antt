@@ -1,7 +1,7 @@
 -- What is proved of ElementEnd.
 use mathlib.Core.Path.{_≡_}
 use mathlib.Core.List.{List}
-use Prim.Native.Nat.{ℕ, _≤_, _<_}
+use Prim.Native.Nat.{ℕ}
 use lib.ListN.{length, drop}
 use Rattle.nodes.specs.Children.{kid-then, kid-at, next}
 use Rattle.nodes.specs.ElementEnd.{Behind}

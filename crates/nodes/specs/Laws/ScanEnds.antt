@@ -6,10 +6,9 @@ use native.Mathlib.Omega.{arith}
 use mathlib.Core.Bool.{Bool, true, false, not, _&&_, _||_}
 use lib.Dec.{eqb}
 use borrow.Author.Tests.{eq-eqb, ne-eqb, not-true}
-use Rattle.lists.specs.Laws.Booleans.{or-elim, and-right, or-left, clash, not-so}
+use Rattle.lists.specs.Laws.Booleans.{or-left, clash, not-so}
 use Rattle.grammar.specs.Bytes.{SequenceUnless, none-more, and-more, parted}
 use Rattle.grammar.specs.Bytes.{blank, letter, nameStart, nameByte, quote, special, Each, no-byte, a-byte, Sequence, no-more, one-more}
-use Rattle.grammar.specs.Characters.{Character, utf8-1, utf8-2, utf8-3, utf8-4, continues, lead3, lead4}
 use Rattle.grammar.specs.Document.{Attribute}
 use Rattle.grammar.specs.Grammar
 use Rattle.grammar.specs.Grammar.{Name, Gap, gap, Equals, equals, Reference, TextCharacter, ValueCharacter, Value, value, WritesAttribute}

@@ -12,7 +12,7 @@ use Rattle.grammar.specs.Laws.Read.{Ok, good, ok-got}
 use Rattle.grammar.specs.Parser.{comment-at, data-at, Look, at-close, at-comment, at-data, at-element, at-text, look}
 use Rattle.grammar.specs.Laws.Sound.{comment-sound, data-sound}
 use Rattle.steps.specs.Step.{stepped, Went}
-use Rattle.steps.specs.Laws.Step.{at-end, arrives, refuses, fell, Tails, tails, went}
+use Rattle.steps.specs.Laws.Step.{arrives, refuses, fell, Tails, tails, went}
 use Rattle.steps.specs.declared.Step.{Step}
 use Rattle.steps.specs.declared.Step.the-variants.{To, No}
 use Rattle.nodes.specs.Laws.Places.{Tail, tail-of, tail-more}

@@ -9,7 +9,7 @@ use lib.ListN.{length, length-append}
 use Rattle.lists.specs.Laws.Booleans.{clash}
 use Rattle.grammar.specs.Bytes.{ascii, blank}
 use Rattle.grammar.specs.Document.{Attribute, Element, Contents}
-use Rattle.grammar.specs.Read.{Read, got, bind, mark, span, test}
+use Rattle.grammar.specs.Read.{got, bind, mark, span, test}
 use Rattle.grammar.specs.Laws.Read.{ok-got, mark-sound, span-sound}
 use Rattle.grammar.specs.Grammar.{Name}
 use Rattle.grammar.specs.Parser.{Look, at-close, at-comment, at-data, at-element, at-text, look, look-if, look₂, look-by, comment-at}

@@ -3,19 +3,18 @@ use mathlib.Core.Path.{_≡_, refl, ap, sym, _∙_}
 use mathlib.Core.List.{List, []}
 use Prim.Native.Nat.{ℕ, suc, _+_, _-_, _≤_, _<_}
 use native.Mathlib.Omega.{arith}
-use mathlib.Core.Bool.{Bool, true, false, not, _&&_}
+use mathlib.Core.Bool.{Bool, true, false}
 use borrow.Author.Needs.{needs}
-use borrow.Author.Tests.{ne-eqb, not-true, not-false}
+use borrow.Author.Tests.{ne-eqb}
 use lib.ListN.{length, drop, getD, length-drop}
 use Rattle.lists.specs.Laws.Booleans.{clash}
-use Rattle.grammar.specs.Bytes.{ascii, blank, begins}
+use Rattle.grammar.specs.Bytes.{ascii, begins}
 use Rattle.grammar.specs.Read.{Read, fail, got, mark, before}
 use Rattle.grammar.specs.Laws.Read.{Ok, good}
-use Rattle.grammar.specs.Parser.{reference-at, feed-at, line-end-at, comment-at, Look, at-close, at-comment, at-data, at-element, at-text}
+use Rattle.grammar.specs.Parser.{reference-at, feed-at, comment-at, Look, at-close, at-comment, at-data, at-element, at-text}
 use Rattle.grammar.specs.Parser.{look}
 use Rattle.grammar.specs.Laws.Tokens.{reference-other, line-end-other}
 use Rattle.steps.specs.Laws.Feeds.{fed, feed-got, return-read}
-use Rattle.lists.specs.Lists.{all}
 use Rattle.steps.specs.Step.{stepped, Went}
 use Rattle.steps.specs.Laws.Step.{at-byte, at-end, fell, went}
 use Rattle.steps.specs.Noted.{part}
@@ -30,7 +29,7 @@ use Rattle.steps.specs.declared.characters.Reference.the-variants as reference-
 use Rattle.nodes.specs.Scan.{tag-at, skip-at, scan}
 use Rattle.nodes.specs.Laws.Scanned.{tag-less, Less, scan-tails}
 use Rattle.nodes.specs.ScanSteps.{tagTold}
-use Rattle.nodes.specs.TextBytes.{Rest, outside, within, Move, char, past, referring, bare-char, step-by, step-in, step}
+use Rattle.nodes.specs.TextBytes.{Rest, outside, within, Move, past, referring, bare-char, step-by, step-in, step}
 use Rattle.nodes.specs.Texts.{inside, inside-by, place-of, as-text, text-step}
 use Rattle.nodes.specs.Laws.TextSteps.{rest-outside, rest-within}
 use Rattle.nodes.specs.Inside.{between-tags, within-by, up-to}

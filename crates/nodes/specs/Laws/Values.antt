@@ -11,7 +11,7 @@ use lib.ListN.{length, drop, getD, length-drop}
 use Rattle.lists.specs.Laws.Booleans.{clash}
 use Rattle.grammar.specs.Bytes.{ascii, blank}
 use Rattle.grammar.specs.Read.{Read, fail, got}
-use Rattle.grammar.specs.Parser.{reference-at, feed-at, line-end-at, sameBytes}
+use Rattle.grammar.specs.Parser.{reference-at, feed-at, sameBytes}
 use Rattle.grammar.specs.Laws.Tokens.{reference-other, line-end-other}
 use Rattle.steps.specs.Step.{stepped}
 use Rattle.steps.specs.Laws.Step.{at-byte, at-end}

@@ -1,7 +1,7 @@
 -- PLACES INSIDE CDATA, and CDATA between children, computed.
 use mathlib.Core.Path.{_≡_, refl}
 use mathlib.Core.List.{List}
-use mathlib.Core.Bool.{Bool, true, false}
+use mathlib.Core.Bool.{true, false}
 use Prim.Native.Nat.{ℕ}
 use Rattle.lists.specs.Lists.{all}
 use Rattle.grammar.specs.Bytes.{ascii}

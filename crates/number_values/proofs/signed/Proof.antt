@@ -1,5 +1,4 @@
 use Rattle.numbers.specs.Laws.Signed.{signed-fits, signed-minus, signed-plus}
-use native.Mathlib.Omega.{arith}
 use borrow.Author.Needs.{needs}
 use Rattle.number_values.proofs.signed.Statement.{statement}
 use Rattle.number_values.proofs.signed.Tie as tie

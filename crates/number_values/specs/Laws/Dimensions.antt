@@ -1,7 +1,7 @@
 -- A digit and a comma that stand plain in a value are one part of its list.
 use mathlib.Core.Path.{_≡_, refl, sym, ap, _∙_}
 use mathlib.Core.List.{List, [], _∷_}
-use mathlib.Core.Bool.{Bool, true, false, _&&_}
+use mathlib.Core.Bool.{true, _&&_}
 use Prim.Native.Nat.{ℕ, _+_, _-_, _≤_, _<_}
 use native.Mathlib.Omega.{arith}
 use borrow.Author.Needs.{needs}
@@ -12,9 +12,8 @@ use Rattle.lists.specs.Lists.{all}
 use Rattle.lists.specs.Laws.Booleans.{and-left, and-right}
 use Rattle.grammar.specs.Laws.Tokens.{high-no-blank}
 use Rattle.nodes.specs.Laws.Values.{decode-plain}
-use Rattle.nodes.specs.declared.Char.the-variants.{Byte}
 use Rattle.numbers.specs.Numbers.{digit, digits, number, value, parts, onFirst, comma}
-use Rattle.numbers.specs.Stream.{charAt, stream, leftIn}
+use Rattle.numbers.specs.Stream.{charAt, stream}
 use Rattle.numbers.specs.Parted.{numeral, Parted, part-comma}
 use Rattle.numbers.specs.Laws.Stream.{Moves, char-byte}
 use Rattle.numbers.specs.declared.Source.the-variants.{Value}

@@ -14,9 +14,7 @@ use Rattle.grammar.specs.Parser.{parse}
 use Rattle.grammar.specs.Laws.Theorems.{parse-iff}
 use Rattle.lists.specs.Laws.Booleans.{never-some}
 use Rattle.nodes.specs.Values.{value-there}
-use Rattle.nodes.specs.Places.{Stands, the}
 use Rattle.nodes.specs.Root.{root}
-use Rattle.nodes.specs.declared.Kid.the-variants.{Child}
 use Rattle.schema.specs.Schema.{everywhere, shaped, numbered, Row}
 use Rattle.cifti.specs.Rows.{ElementKind, cifti, rows, rowTable, elementKinds, elementNumber, at-number}
 use Rattle.cifti.specs.Maps.{kindWords, caseWord, wordsOfKinds}

@@ -1,7 +1,7 @@
 -- Digits that were read, and what is ahead of them: up to a blank, and up to a mark.
 use mathlib.Core.Path.{_≡_, refl, sym, ap, _∙_}
 use mathlib.Core.List.{List, [], _∷_, _++_, append-assoc, append-nil}
-use mathlib.Core.Bool.{Bool, true, false, _&&_, cond, not}
+use mathlib.Core.Bool.{Bool, true, false, not}
 use Prim.Native.Nat.{ℕ, _+_, _-_, _≤_, _<_}
 use native.Mathlib.Omega.{arith}
 use lib.ListN.{length}
@@ -10,9 +10,9 @@ use Rattle.lists.specs.Laws.Booleans.{clash}
 use Rattle.grammar.specs.Bytes.{blank}
 use Rattle.grammar.specs.Look.{Word}
 use Rattle.lists.specs.Lists.{all}
-use Rattle.numbers.specs.Numbers.{digit, digits, parts, onFirst, point, powerMark, mantissa, powerParts, power, inPower, scaled}
+use Rattle.numbers.specs.Numbers.{digit, digits, parts, onFirst, point, powerMark, mantissa, scaled}
 use Rattle.numbers.specs.Laws.Cuts.{uncut-join, Parts, parts-some, parts-end, parts-cut, parts-join}
-use Rattle.numbers.specs.Cuts.{Uncut, none, more}
+use Rattle.numbers.specs.Cuts.{Uncut}
 use Rattle.numbers.specs.Laws.Cuts.{digit-no-blank, digit-no-point, digit-no-mark, digits-uncut, digits-few, digits-stopped}
 use Rattle.numbers.specs.Stream.{stream, wordEnds}
 use Rattle.numbers.specs.Laws.Stream.{Ran}

@@ -1,17 +1,15 @@
 -- Colours: a decimal beside 0 and 1, in value, and what a program of 64 bits may ask instead.
 use mathlib.Core.Path.{_≡_, refl, sym, ap, _∙_}
-use mathlib.Core.Bool.{Bool, true, false, _&&_, cond, true≢false}
+use mathlib.Core.Bool.{Bool, true, false, _&&_, true≢false}
 use Prim.Native.Nat.{ℕ, zero, suc, _+_, _*_, _-_, _^_, _≤_, _<_}
 use native.Mathlib.Omega.{arith}
-use native.Mathlib.Nat.{pow-suc, mul-assoc}
-use lib.Dec.{eqb, leb, ltb}
+use lib.Dec.{leb}
 use lib.Signed.{ltZ}
-use lib.IntN.{ℤ, pos, negsuc, negℤ, natAbs, _*ℤ_}
+use lib.IntN.{ℤ, pos, negsuc, negℤ, natAbs}
 use mir.Syntax.{w64}
 use mir.Val.{SFits, ofZ, toZ}
 use mir.ValLaws.{toZ-ofZ}
 use borrow.Author.Tests.{le-leb, lt-leb, leb-true, leb-false, ltb-true, ltb-false}
-use borrow.Author.Needs.{needs}
 use Rattle.lists.specs.Laws.Booleans.{clash}
 use Rattle.grammar.specs.Look.{Word}
 use Rattle.numbers.specs.Numbers.{up, down, inValue, noMore, noLess, atMost, atLeast, decimal, decimalValue, colour}
@@ -20,7 +18,6 @@ use Rattle.numbers.specs.Laws.InValue.{ten, grows, not-less, as-it-is}
 use Rattle.numbers.specs.Answers.{placesIn, shade}
 use Rattle.numbers.specs.declared.Whole.the-variants as wholes
 use Rattle.numbers.specs.declared.Whole.{Whole}
-use Rattle.numbers.specs.declared.Decimal.{Decimal}
 
 -- BY THE AMOUNT AND THE POWER
 nothing-less : (m : ℕ) → 1 ≤ m → noLess 0 (negℤ (pos m)) ≡ false

@@ -1,35 +1,33 @@
 -- Decimals behind the point: what stands there, from the digits that are found.
 use mathlib.Core.Path.{_≡_, refl, sym, ap, _∙_}
 use mathlib.Core.List.{List, [], _∷_, _++_, append-assoc, append-nil}
-use mathlib.Core.Bool.{Bool, true, false, _&&_}
-use Prim.Native.Nat.{ℕ, _+_, _*_, _-_, _^_, _≤_, _<_}
+use mathlib.Core.Bool.{Bool, true, false}
+use Prim.Native.Nat.{ℕ, _+_, _-_, _^_, _≤_, _<_}
 use native.Mathlib.Omega.{arith}
 use borrow.Author.Needs.{needs}
 use borrow.Author.Tests.{le-leb}
-use lib.Dec.{eqb, leb}
 use lib.IntN.{ℤ}
 use lib.ListN.{length, drop}
-use Rattle.grammar.specs.Bytes.{blank}
 use Rattle.grammar.specs.Document.{together}
 use Rattle.grammar.specs.Look.{Word}
 use Rattle.lists.specs.Lists.{all}
-use Rattle.numbers.specs.Numbers.{digit, digits, number, value, parts, onFirst, point, powerMark, Sign, withSign, decimalParts}
-use Rattle.numbers.specs.Numbers.{mantissa, places, scaled}
-use Rattle.numbers.specs.Laws.Cuts.{uncut-join, Parts, parts-some, parts-end, parts-cut, parts-join}
+use Rattle.numbers.specs.Numbers.{digit, digits, number, value, parts, point, powerMark, Sign, withSign, decimalParts}
+use Rattle.numbers.specs.Numbers.{mantissa, places}
+use Rattle.numbers.specs.Laws.Cuts.{uncut-join, parts-some, parts-end, parts-cut}
 use Rattle.numbers.specs.Cuts.{Uncut, none, more}
 use Rattle.numbers.specs.Laws.Cuts.{digit-no-point, digit-no-mark, digits-uncut, digits-are, number-append, number-below, powers}
-use Rattle.numbers.specs.Stream.{charAt, stream, digitsAt}
+use Rattle.numbers.specs.Stream.{stream, digitsAt}
 use Rattle.numbers.specs.Laws.Stream.{Ran, digits-law}
-use Rattle.numbers.specs.Spelled.{Reading, reads, fails, Cut, pureDecimal, pureValue, pointed, DigitsInFront, Pointed, Mantissa}
+use Rattle.numbers.specs.Spelled.{fails, pureDecimal, pureValue, pointed, DigitsInFront, Pointed, Mantissa}
 use Rattle.numbers.specs.Spelled.{Powered}
 use Rattle.numbers.specs.Laws.SpelledSame.{onward}
 use Rattle.numbers.specs.Laws.Mantissa.{wrong-two, wrong-three}
-use Rattle.numbers.specs.Laws.Ahead.{uncut-point, uncut-mark, uncut-blank, first-part, other-part, cut, word, word-uncut, word-splits}
+use Rattle.numbers.specs.Laws.Ahead.{uncut-point, uncut-blank, first-part, other-part, cut, word, word-uncut, word-splits}
 use Rattle.numbers.specs.Laws.Ahead.{empty-read, before-mark, stop-mark, wrong-front}
 use Rattle.numbers.specs.declared.Source.{Source}
 use Rattle.numbers.specs.declared.Run.{Run}
 use Rattle.numbers.specs.declared.Spelling.{Spelling}
-use Rattle.numbers.specs.declared.Spelling.the-variants.{Reads, Fails}
+use Rattle.numbers.specs.declared.Spelling.the-variants.{Fails}
 
 -- a mantissa in two parts
 two-right : (u v : Word) → all digit u ≡ true → all digit v ≡ true → 1 ≤ length u → 1 ≤ length v → length u + length v ≤ 15

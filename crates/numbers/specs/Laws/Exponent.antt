@@ -1,12 +1,12 @@
 -- Exponents: the sign, then the digits.
 use mathlib.Core.Path.{_≡_, refl, sym, ap, _∙_}
 use mathlib.Core.List.{List, [], _∷_}
-use mathlib.Core.Bool.{Bool, true, false, _&&_, cond}
+use mathlib.Core.Bool.{true, false, cond}
 use Prim.Native.Nat.{ℕ, _+_, _^_, _≤_, _<_}
 use native.Mathlib.Omega.{arith}
 use borrow.Author.Needs.{needs}
-use borrow.Author.Tests.{eq-eqb, ne-eqb, le-leb}
-use lib.Dec.{eqb, leb}
+use borrow.Author.Tests.{ne-eqb, le-leb}
+use lib.Dec.{eqb}
 use lib.IntN.{ℤ}
 use lib.ListN.{length, getD}
 use Rattle.grammar.specs.Look.{Word}
@@ -14,13 +14,13 @@ use Rattle.lists.specs.Lists.{all}
 use Rattle.nodes.specs.Values.{value-there}
 use Rattle.nodes.specs.declared.Char.{Char}
 use Rattle.nodes.specs.declared.Char.the-variants.{Byte, End}
-use Rattle.numbers.specs.Numbers.{digits, value, Sign, plus, minus, unsigned, withSign, exponent, exponentValue}
+use Rattle.numbers.specs.Numbers.{digits, value, Sign, unsigned, withSign, exponent, exponentValue}
 use Rattle.numbers.specs.Stream.{charAt, stream}
-use Rattle.numbers.specs.Laws.Stream.{Moves, char-byte, char-end}
+use Rattle.numbers.specs.Laws.Stream.{char-byte, char-end}
 use Rattle.numbers.specs.Parted.{numeral, Parted}
 use Rattle.numbers.specs.Laws.Forms.{numeral-below}
 use Rattle.numbers.specs.Answers.{exponentFrom, exponentIn, signIf}
-use Rattle.numbers.specs.Laws.Values.{there, past, LastSays, says-comma, says-last, says-no, whole-last, whole-comma, whole-no}
+use Rattle.numbers.specs.Laws.Values.{there, past, says-comma, says-last, says-no, whole-last, whole-comma, whole-no}
 use Rattle.numbers.specs.declared.Source.{Source}
 use Rattle.numbers.specs.declared.Source.the-variants.{Value}
 use Rattle.numbers.specs.declared.Part.{Part}

@@ -1,18 +1,17 @@
 -- What the parts of a word say of its form.
 use mathlib.Core.Path.{_≡_, refl, sym, ap, _∙_}
-use mathlib.Core.List.{List, [], _∷_, _++_}
-use mathlib.Core.Bool.{Bool, true, false, _&&_, cond, and-false}
-use Prim.Native.Nat.{ℕ, zero, suc, _+_, _*_, _-_, _^_, _<_, _≤_}
+use mathlib.Core.List.{List, [], _∷_}
+use mathlib.Core.Bool.{Bool, true, false, _&&_, and-false}
+use Prim.Native.Nat.{ℕ, _-_, _^_, _<_, _≤_}
 use native.Mathlib.Omega.{arith}
-use lib.Dec.{eqb, leb}
 use lib.ListN.{length}
-use borrow.Author.Tests.{le-leb, leb-true}
+use borrow.Author.Tests.{le-leb}
 use Rattle.lists.specs.Laws.Booleans.{and-left, refute, clash}
 use Rattle.grammar.specs.Bytes.{between}
 use Rattle.grammar.specs.Look.{Word}
 use Rattle.lists.specs.Lists.{all}
 use Rattle.numbers.specs.Numbers.{digit, digits, value, parts, onFirst, comma}
-use Rattle.numbers.specs.Laws.Cuts.{Parts, parts-some, digit-no-comma, digits-split, value-below, powers}
+use Rattle.numbers.specs.Laws.Cuts.{parts-some, digit-no-comma, digits-split, value-below, powers}
 use Rattle.numbers.specs.Parted.{numeral}
 
 never-nothing : (p : ℕ → Bool) (w : Word) → parts p w ≡ [] → _≡_ {A = ℕ} 0 1

@@ -1,9 +1,9 @@
 -- A decimal beside 0 and beside 1, in value, with its power: what a program of 64 bits may ask instead.
 use mathlib.Core.Path.{_≡_, refl, sym, ap, _∙_}
-use mathlib.Core.Bool.{Bool, true, false, _&&_, cond, true≢false, and-false}
+use mathlib.Core.Bool.{Bool, true, false, true≢false, and-false}
 use Prim.Native.Nat.{ℕ, zero, suc, _+_, _*_, _-_, _^_, _≤_, _<_}
 use native.Mathlib.Omega.{arith}
-use native.Mathlib.Nat.{pow-suc, mul-assoc, mul-comm}
+use native.Mathlib.Nat.{pow-suc, mul-assoc}
 use lib.Dec.{eqb, leb, ltb, T}
 use lib.Signed.{ltZ, nonNeg}
 use lib.IntN.{ℤ, pos, negsuc, negℤ, natAbs, _-ℤ_, _*ℤ_, +ℤ-idl}
@@ -11,7 +11,6 @@ use mir.Syntax.{w64}
 use mir.Val.{Fits, SFits, ofZ, toZ}
 use mir.ValLaws.{toZ-ofZ}
 use borrow.Author.Tests.{ne-eqb, le-leb, lt-leb, leb-true, leb-false, ltb-true, ltb-false, le-ltb}
-use borrow.Author.Needs.{needs}
 use Rattle.lists.specs.Laws.Booleans.{clash}
 use Rattle.numbers.specs.Numbers.{up, down, inValue, isWhole}
 use Rattle.numbers.specs.Laws.Cuts.{powers}

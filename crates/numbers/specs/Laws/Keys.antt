@@ -1,7 +1,7 @@
 -- Keys: one and the same by value; the sign, then the digits.
 use mathlib.Core.Path.{_≡_, refl, sym, ap, _∙_}
 use mathlib.Core.List.{List, [], _∷_}
-use mathlib.Core.Bool.{Bool, true, false, _&&_, cond, false≢true, and-true}
+use mathlib.Core.Bool.{true, false, cond, false≢true, and-true}
 use Prim.Native.Nat.{ℕ, zero, suc, _+_, _^_, _≤_, _<_}
 use native.Mathlib.Omega.{arith}
 use lib.Dec.{eqb, leb, leb·suc-suc}
@@ -21,11 +21,11 @@ use Rattle.nodes.specs.declared.Char.{Char}
 use Rattle.nodes.specs.declared.Char.the-variants.{Byte, End}
 use Rattle.numbers.specs.Numbers.{digits, value, Sign, plus, minus, unsigned, withSign, keyValue, inKeys, key, sameKey}
 use Rattle.numbers.specs.Stream.{charAt, stream}
-use Rattle.numbers.specs.Laws.Stream.{Moves, char-byte, char-end}
+use Rattle.numbers.specs.Laws.Stream.{char-byte, char-end}
 use Rattle.numbers.specs.Parted.{numeral, Parted}
 use Rattle.numbers.specs.Laws.Forms.{numeral-below}
 use Rattle.numbers.specs.Answers.{keyFrom, keyIn, keyLimit, signIf}
-use Rattle.numbers.specs.Laws.Values.{there, past, LastSays, says-comma, says-last, says-no, whole-last, whole-comma, whole-no}
+use Rattle.numbers.specs.Laws.Values.{there, past, says-comma, says-last, says-no, whole-last, whole-comma, whole-no}
 use Rattle.numbers.specs.declared.Source.{Source}
 use Rattle.numbers.specs.declared.Source.the-variants.{Value}
 use Rattle.numbers.specs.declared.Part.{Part}

@@ -1,8 +1,8 @@
 -- A list of whole numbers in a text, number after number.
 use mathlib.Core.Path.{_≡_, refl, sym, ap, _∙_}
 use mathlib.Core.List.{List, [], _∷_, _++_, append-assoc, append-nil}
-use mathlib.Core.Bool.{Bool, true, false, _&&_, _||_, cond, not}
-use Prim.Native.Nat.{ℕ, zero, suc, _+_, _*_, _-_, _^_, _≤_, _<_}
+use mathlib.Core.Bool.{Bool, true, false}
+use Prim.Native.Nat.{ℕ, zero, suc, _+_, _-_, _≤_, _<_}
 use native.Mathlib.Omega.{arith}
 use lib.Dec.{eqb, leb}
 use borrow.Author.Tests.{eqb-true, eqb-false, leb-true, leb-false}
@@ -13,25 +13,22 @@ use Rattle.grammar.specs.Look.{Word}
 use Rattle.grammar.specs.Parser.{feed-at}
 use Rattle.steps.specs.Step.{stepped}
 use Rattle.steps.specs.Laws.Feeds.{fed, feed-got, feed-none, feed-there, feed-not}
-use Rattle.steps.specs.declared.Step.{Step}
 use Rattle.steps.specs.declared.Step.the-variants.{To}
-use Rattle.lists.specs.Lists.{all, those, each}
+use Rattle.lists.specs.Lists.{all}
 use Rattle.nodes.specs.Laws.Letters.{plain-letter, return-letter}
 use Rattle.nodes.specs.Laws.AheadElements.{blank-special}
 use Rattle.nodes.specs.declared.Char.{Char}
 use Rattle.nodes.specs.declared.Char.the-variants.{Byte}
 use Rattle.nodes.specs.declared.Char.the-variants as chars
-use Rattle.numbers.specs.Numbers.{digit, digits, number, value, parts, onFirst, filled, words}
-use Rattle.numbers.specs.Laws.Cuts.{uncut-snoc, Parts, parts-some, words-none, words-blank, words-end, words-cut}
+use Rattle.numbers.specs.Numbers.{digit, digits, number, value, words}
+use Rattle.numbers.specs.Laws.Cuts.{uncut-snoc, words-none, words-blank, words-end, words-cut}
 use Rattle.numbers.specs.Cuts.{Uncut, none, more}
-use Rattle.numbers.specs.Laws.Cuts.{FirstWord, first-word, digit-no-blank, digits-uncut, digits-are, digits-stopped}
-use Rattle.numbers.specs.Stream.{letterAt, charAt, stream, behind, leading, wordEnds, digitsAt}
-use Rattle.numbers.specs.Laws.Stream.{Moves, letter-byte, char-byte, char-end, behind-none, behind-one, Ran, digits-law, Blanked}
-use Rattle.numbers.specs.Laws.Stream.{blanked}
+use Rattle.numbers.specs.Laws.Cuts.{first-word, digit-no-blank, digits-uncut, digits-are, digits-stopped}
+use Rattle.numbers.specs.Stream.{charAt, stream, behind, leading, wordEnds, digitsAt}
+use Rattle.numbers.specs.Laws.Stream.{letter-byte, char-byte, char-end, behind-none, behind-one, Ran, digits-law}
 use Rattle.numbers.specs.Answers.{nextInWords, nextNumber}
 use Rattle.numbers.specs.declared.Source.the-variants.{Contents}
 use Rattle.numbers.specs.declared.Run.{Run}
-use Rattle.numbers.specs.declared.Next.{Next}
 use Rattle.numbers.specs.declared.Next.the-variants.{Number, End, Bad}
 
 -- Plain bytes

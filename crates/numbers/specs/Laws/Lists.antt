@@ -1,8 +1,8 @@
 -- Dimension lists: their entries, counted one by one.
 use mathlib.Core.Path.{_≡_, refl, sym, ap, _∙_}
 use mathlib.Core.List.{List, [], _∷_}
-use mathlib.Core.Bool.{Bool, true, false, _&&_, cond, and-false}
-use Prim.Native.Nat.{ℕ, zero, suc, _+_, _^_, _≤_, _<_}
+use mathlib.Core.Bool.{Bool, true, false, cond, and-false}
+use Prim.Native.Nat.{ℕ, _+_, _≤_, _<_}
 use native.Mathlib.Omega.{arith}
 use borrow.Author.Needs.{needs}
 use borrow.Author.Tests.{le-leb, lt-leb}
@@ -18,7 +18,7 @@ use Rattle.numbers.specs.Stream.{stream, leftIn}
 use Rattle.numbers.specs.Parted.{numeral, Parted}
 use Rattle.numbers.specs.Laws.Forms.{numeral-single}
 use Rattle.numbers.specs.Answers.{listedIn, betweenIn}
-use Rattle.numbers.specs.Laws.Values.{there, past, CommaSays, LastSays, NoSays, says-comma, says-last, says-no}
+use Rattle.numbers.specs.Laws.Values.{there, past, says-comma, says-last, says-no}
 use Rattle.numbers.specs.declared.Source.{Source}
 use Rattle.numbers.specs.declared.Source.the-variants.{Value}
 use Rattle.numbers.specs.declared.Part.{Part}

@@ -1,8 +1,8 @@
 -- The parts of a decimal: none has a blank, a mantissa has no mark, and what makes no mantissa.
-use mathlib.Core.Path.{_≡_, refl, sym, ap, _∙_}
+use mathlib.Core.Path.{_≡_, refl, sym, _∙_}
 use mathlib.Core.List.{List, [], _∷_, _++_}
-use mathlib.Core.Bool.{Bool, true, false, _&&_, _||_, cond}
-use Prim.Native.Nat.{ℕ, _+_, _-_, _≤_, _<_}
+use mathlib.Core.Bool.{Bool, true, false, _&&_}
+use Prim.Native.Nat.{ℕ, _+_, _-_, _≤_}
 use native.Mathlib.Omega.{arith}
 use lib.Dec.{eqb, leb}
 use lib.ListN.{length}
@@ -11,9 +11,8 @@ use Rattle.lists.specs.Laws.Booleans.{and-left, and-right, refute, clash}
 use Rattle.grammar.specs.Bytes.{blank}
 use Rattle.grammar.specs.Laws.Facts.{blank-in}
 use Rattle.grammar.specs.Look.{Word}
-use Rattle.lists.specs.Lists.{all}
-use Rattle.numbers.specs.Numbers.{digit, digits, parts, onFirst, point, powerMark, Signed, unsigned, decimalParts, mantissa}
-use Rattle.numbers.specs.Numbers.{powerParts, power, inPower, scaled, decimal}
+use Rattle.numbers.specs.Numbers.{digit, digits, parts, onFirst, point, powerMark, unsigned, decimalParts, mantissa}
+use Rattle.numbers.specs.Numbers.{powerParts, scaled, decimal}
 use Rattle.numbers.specs.Laws.Cuts.{uncut-at, parts-some, digit-no-blank, digit-no-mark, digits-uncut, digits-are}
 use Rattle.numbers.specs.Cuts.{Uncut, none, more}
 use Rattle.numbers.specs.Laws.Cuts.{digits-split}

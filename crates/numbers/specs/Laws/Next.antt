@@ -1,11 +1,11 @@
 -- The next number of a list: plain bytes first, whatever else then.
 use mathlib.Core.Path.{_≡_, refl, sym, ap, _∙_}
 use mathlib.Core.List.{List, [], _∷_, _++_}
-use mathlib.Core.Bool.{Bool, true, false, _&&_, _||_, cond, not, false≢true}
+use mathlib.Core.Bool.{Bool, true, false, cond, not}
 use Prim.Native.Nat.{ℕ, zero, suc, _+_, _*_, _-_, _^_, _≤_, _<_}
 use native.Mathlib.Omega.{arith}
 use borrow.Author.Needs.{needs}
-use borrow.Author.Tests.{eq-eqb, ne-eqb, eqb-false, not-true, not-false}
+use borrow.Author.Tests.{ne-eqb, not-false}
 use lib.Dec.{eqb}
 use lib.ListN.{length, getD}
 use Rattle.lists.specs.Laws.Booleans.{and-left, clash}
@@ -24,7 +24,7 @@ use Rattle.numbers.specs.Laws.Stream.{char-byte, char-end, run-suc, Ran,
 use Rattle.numbers.specs.Laws.Listed.{BlankAt, plain-blank, byte-passed}
 use Rattle.numbers.specs.Laws.Listed.{plain-char, next-over, next-end, next-number, next-bad}
 use Rattle.numbers.specs.Answers.{nextNumber}
-use Rattle.numbers.specs.Laws.Read.{digit-yes, digit-low, digit-high}
+use Rattle.numbers.specs.Laws.Read.{digit-yes, digit-low}
 use Rattle.numbers.specs.declared.Source.{Source}
 use Rattle.numbers.specs.declared.Source.the-variants.{Contents}
 use Rattle.numbers.specs.declared.Run.{Run}

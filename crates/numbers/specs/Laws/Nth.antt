@@ -2,22 +2,21 @@
 -- written from there on.
 use mathlib.Core.Path.{_≡_, refl, sym, ap, _∙_}
 use mathlib.Core.List.{List}
-use mathlib.Core.Bool.{Bool, true, false, cond}
-use Prim.Native.Nat.{ℕ, zero, suc, _+_, _≤_, _<_}
+use mathlib.Core.Bool.{Bool, true, false}
+use Prim.Native.Nat.{ℕ, zero, suc, _≤_, _<_}
 use native.Mathlib.Omega.{arith}
 use lib.ListN.{length, drop, getD}
 use Rattle.lists.specs.Laws.Booleans.{clash}
-use Rattle.grammar.specs.Bytes.{between}
 use Rattle.grammar.specs.Look.{Word, textOf}
 use Rattle.lists.specs.Lists.{all, each}
 use Rattle.nodes.specs.Places.{Stands, the}
 use Rattle.nodes.specs.Texts.{saysAt}
-use Rattle.nodes.specs.Texts.{inside, text-of}
+use Rattle.nodes.specs.Texts.{inside}
 use Rattle.nodes.specs.Laws.TextSteps.{text-law, text-some}
 use Rattle.nodes.specs.declared.Found.the-variants.{At}
-use Rattle.numbers.specs.Numbers.{digits, words, values, whole}
+use Rattle.numbers.specs.Numbers.{digits, words, values}
 use Rattle.numbers.specs.Answers.{nextNumber}
-use Rattle.numbers.specs.Laws.Walk.{Handed, Wrong, number-law, end-law, bad-law}
+use Rattle.numbers.specs.Laws.Walk.{number-law, end-law, bad-law}
 use Rattle.numbers.specs.declared.Next.{Next}
 use Rattle.numbers.specs.declared.Next.the-variants.{Number, End, Bad}
 

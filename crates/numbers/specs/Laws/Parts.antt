@@ -1,28 +1,25 @@
 -- A number among commas: what its reader finds, and what that says of the whole value.
-use mathlib.Core.Path.{_≡_, refl, sym, ap, _∙_}
-use mathlib.Core.List.{List, [], _∷_, _++_, append-assoc, append-nil}
-use mathlib.Core.Bool.{Bool, true, false, _&&_, cond, not, and-false}
-use Prim.Native.Nat.{ℕ, zero, suc, _+_, _*_, _-_, _^_, _≤_, _<_}
+use mathlib.Core.Path.{_≡_, refl, ap, _∙_}
+use mathlib.Core.List.{List, [], _∷_, _++_, append-nil}
+use mathlib.Core.Bool.{Bool, true, false, and-false}
+use Prim.Native.Nat.{ℕ, _+_, _-_, _^_, _≤_, _<_}
 use native.Mathlib.Omega.{arith}
 use borrow.Author.Needs.{needs}
 use borrow.Author.Tests.{eq-eqb, ne-eqb, le-leb, lt-leb}
-use lib.Dec.{eqb, leb}
-use lib.ListN.{length, drop, getD}
-use Rattle.grammar.specs.Bytes.{between}
+use lib.Dec.{leb}
+use lib.ListN.{length}
 use Rattle.grammar.specs.Look.{Word}
-use Rattle.lists.specs.Lists.{all}
 use Rattle.nodes.specs.declared.Char.{Char}
 use Rattle.nodes.specs.declared.Char.the-variants.{Byte, End}
-use Rattle.numbers.specs.Numbers.{digit, digits, number, value, parts, onFirst, comma}
-use Rattle.numbers.specs.Laws.Cuts.{digits-uncut, digit-no-comma, Parts, parts-some, parts-end, parts-cut, parts-join}
+use Rattle.numbers.specs.Numbers.{digits, value, parts, onFirst, comma}
+use Rattle.numbers.specs.Laws.Cuts.{digits-uncut, digit-no-comma, parts-some, parts-end, parts-cut, parts-join}
 use Rattle.numbers.specs.Cuts.{Uncut}
 use Rattle.numbers.specs.Laws.Cuts.{digits-are, digits-few, digits-stopped, powers}
 use Rattle.numbers.specs.Stream.{charAt, stream, digitsAt}
-use Rattle.numbers.specs.Laws.Stream.{Moves, char-byte, char-end, Ran, digits-law}
+use Rattle.numbers.specs.Laws.Stream.{char-byte, char-end, Ran, digits-law}
 use Rattle.numbers.specs.Parted.{numeral, Parted, part-comma, part-last, part-no}
 use Rattle.numbers.specs.declared.Source.{Source}
 use Rattle.numbers.specs.declared.Run.{Run}
-use Rattle.numbers.specs.declared.Part.{Part}
 use Rattle.numbers.specs.declared.Part.the-variants.{Comma, Last, No}
 
 pub from-zero : (most : ℕ) → most ≤ 15 → (most ≤ 15) × (0 < 10 ^ (15 - most))

@@ -1,28 +1,26 @@
 -- What stands behind a mantissa: the end of the word, or a mark and a power.
 use mathlib.Core.Path.{_≡_, refl, sym, ap, _∙_}
-use mathlib.Core.List.{List, [], _∷_, _++_, append-assoc, append-nil}
-use mathlib.Core.Bool.{Bool, true, false, _&&_, _||_, and-false}
-use Prim.Native.Nat.{ℕ, _+_, _-_, _≤_, _<_}
+use mathlib.Core.List.{List, [], _∷_, _++_, append-nil}
+use mathlib.Core.Bool.{Bool, true, false, _||_}
+use Prim.Native.Nat.{ℕ, _+_, _-_, _≤_}
 use native.Mathlib.Omega.{arith}
 use lib.Dec.{eqb}
 use lib.IntN.{ℤ, pos, _-ℤ_}
-use lib.ListN.{length}
 use borrow.Author.Needs.{needs}
 use Rattle.lists.specs.Laws.Booleans.{clash}
 use Rattle.grammar.specs.Bytes.{blank}
-use Rattle.grammar.specs.Document.{together}
 use Rattle.grammar.specs.Look.{Word}
 use Rattle.lists.specs.Lists.{all}
 use Rattle.nodes.specs.declared.Char.{Char}
 use Rattle.nodes.specs.declared.Char.the-variants.{Byte, End}
-use Rattle.numbers.specs.Numbers.{digit, digits, value, parts, onFirst, point, powerMark, Sign, minus, unsigned, withSign, mantissa}
-use Rattle.numbers.specs.Numbers.{places, powerParts, writtenPower, power, inPower, scaled, scaledValue}
+use Rattle.numbers.specs.Numbers.{digit, digits, value, parts, onFirst, powerMark, Sign, minus, unsigned, withSign, mantissa}
+use Rattle.numbers.specs.Numbers.{places, powerParts, writtenPower, power, scaled, scaledValue}
 use Rattle.numbers.specs.Laws.Cuts.{parts-some, parts-end, parts-cut, parts-join, digit-no-mark}
-use Rattle.numbers.specs.Cuts.{Uncut, none, more}
+use Rattle.numbers.specs.Cuts.{none, more}
 use Rattle.numbers.specs.Laws.Forms.{parts-one, parts-two}
 use Rattle.numbers.specs.Stream.{charAt, stream, wordEnds}
 use Rattle.numbers.specs.Laws.Stream.{char-byte, char-end}
-use Rattle.numbers.specs.Spelled.{Reading, reads, fails, Cut, pureDecimal, pureValue, Mantissa, Powered, powerDigits}
+use Rattle.numbers.specs.Spelled.{reads, fails, pureDecimal, pureValue, Mantissa, Powered, powerDigits}
 use Rattle.numbers.specs.Laws.SpelledSame.{onward, cut-word}
 use Rattle.numbers.specs.Spelled.{powerValue, Raised, SignLeads}
 use Rattle.numbers.specs.Laws.Mantissa.{mantissa-no-mark}

@@ -1,10 +1,9 @@
 -- POWERS OF TEN: what was a decimal before them is one, with the same digits and the negative of its places; and what a.bEx is read as.
 use mathlib.Core.Path.{_≡_, refl, sym, ap, _∙_}
 use mathlib.Core.List.{List, [], _∷_, _++_, append-assoc, append-nil}
-use mathlib.Core.Bool.{Bool, true, false, _&&_, cond}
-use Prim.Native.Nat.{ℕ, _+_, _≤_, _<_}
+use mathlib.Core.Bool.{Bool, true}
+use Prim.Native.Nat.{ℕ, _+_, _≤_}
 use native.Mathlib.Omega.{arith}
-use lib.Dec.{eqb, leb}
 use lib.IntN.{ℤ, pos, negℤ, _-ℤ_}
 use lib.ListN.{length, drop}
 use borrow.Author.Tests.{ne-eqb}
@@ -12,17 +11,16 @@ use Rattle.lists.specs.Laws.Booleans.{and-left, and-right, clash}
 use Rattle.grammar.specs.Document.{together}
 use Rattle.grammar.specs.Look.{Word}
 use Rattle.lists.specs.Lists.{all}
-use Rattle.numbers.specs.Numbers.{digit, digits, number, value, parts, point, powerMark, Sign, plus, minus, Signed, unsigned}
+use Rattle.numbers.specs.Numbers.{digit, digits, value, parts, point, powerMark, Sign, plus, unsigned}
 use Rattle.numbers.specs.Numbers.{withSign}
 use Rattle.numbers.specs.Numbers.{decimalParts, mantissa, places, powerParts, writtenPower, power, scaled, scaledValue, decimal}
 use Rattle.numbers.specs.Numbers.{decimalValue}
 use Rattle.numbers.specs.Laws.Cuts.{uncut-join, parts-end, parts-cut, digit-in, digit-no-point, digit-no-mark}
-use Rattle.numbers.specs.Cuts.{Uncut, none, more}
+use Rattle.numbers.specs.Cuts.{Uncut, more}
 use Rattle.numbers.specs.Laws.Cuts.{digits-uncut, digits-split}
 use Rattle.numbers.specs.Laws.Mantissa.{mantissa-no-mark, power-no-mark}
 use Rattle.numbers.specs.Laws.Integers.{less-nothing}
 use Rattle.numbers.specs.Laws.Powered.{alone, same-decimal}
-use Rattle.numbers.specs.declared.Decimal.{Decimal}
 
 -- what a decimal was before: its digits and how many of them stand behind the point
 abbrev pub decimalBefore : Word → Bool

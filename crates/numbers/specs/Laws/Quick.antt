@@ -9,7 +9,7 @@ use borrow.Author.Tests.{eqb-true, eq-eqb, ne-eqb, not-false}
 use lib.Dec.{eqb}
 use lib.ListN.{length, getD}
 use Rattle.grammar.specs.Bytes.{blank}
-use Rattle.numbers.specs.Stream.{Few, Plain, EightLeft, runOf}
+use Rattle.numbers.specs.Stream.{Few, EightLeft, runOf}
 use Rattle.numbers.specs.Quick.{spaceOrFeed, FromZero, SixAhead, Six, Quick}
 use Rattle.numbers.specs.Answers.{nextNumber}
 use Rattle.numbers.specs.Laws.Cuts.{powers}

@@ -1,7 +1,7 @@
 -- The digits of a power: what their reader finds.
 use mathlib.Core.Path.{_≡_, refl, sym, ap, _∙_}
-use mathlib.Core.List.{List, [], _∷_, _++_}
-use mathlib.Core.Bool.{Bool, true, false, _&&_, not}
+use mathlib.Core.List.{List, []}
+use mathlib.Core.Bool.{Bool, true, false, not}
 use Prim.Native.Nat.{ℕ, _+_, _-_, _^_, _≤_, _<_}
 use native.Mathlib.Omega.{arith}
 use lib.IntN.{ℤ, pos, _-ℤ_}
@@ -9,23 +9,20 @@ use lib.ListN.{length}
 use borrow.Author.Needs.{needs}
 use borrow.Author.Tests.{not-false}
 use Rattle.grammar.specs.Bytes.{blank}
-use Rattle.grammar.specs.Look.{Word}
-use Rattle.lists.specs.Lists.{all}
-use Rattle.numbers.specs.Numbers.{digit, digits, number, value, Sign, withSign, inPower}
+use Rattle.numbers.specs.Numbers.{digits, value, Sign, withSign, inPower}
 use Rattle.numbers.specs.Laws.Cuts.{digits-are, number-below, powers}
 use Rattle.numbers.specs.Cuts.{Uncut}
 use Rattle.numbers.specs.Stream.{stream, wordEnds, digitsAt}
 use Rattle.numbers.specs.Laws.Stream.{Ran, digits-law}
-use Rattle.numbers.specs.Spelled.{Reading, reads, fails, Cut, powerDigits, powerValue, Raised}
+use Rattle.numbers.specs.Spelled.{reads, fails, powerDigits, powerValue, Raised}
 use Rattle.numbers.specs.Laws.Ahead.{uncut-blank, cut, word, word-uncut, word-splits, word-empty, word-on}
 use Rattle.numbers.specs.Laws.Integers.{power-is, power-no}
-use Rattle.numbers.specs.Answers.{signIf, powerIn}
+use Rattle.numbers.specs.Answers.{powerIn}
 use Rattle.numbers.specs.declared.Source.{Source}
 use Rattle.numbers.specs.declared.Run.{Run}
 use Rattle.numbers.specs.declared.Exponent.{Exponent}
 use Rattle.numbers.specs.declared.Exponent.the-variants as exponents
 use Rattle.numbers.specs.declared.Decimal.{Decimal}
-use Rattle.numbers.specs.declared.Spelling.{Spelling}
 use Rattle.numbers.specs.declared.Spelling.the-variants.{Reads, Fails}
 
 pub two : (2 ≤ 15) × (0 < 10 ^ (15 - 2))

@@ -1,25 +1,23 @@
 -- Decimals: the sign in front, and the whole value of an attribute.
 use mathlib.Core.Path.{_≡_, refl, sym, ap, _∙_}
-use mathlib.Core.List.{List, [], _∷_, _++_, append-assoc, append-nil}
-use mathlib.Core.Bool.{Bool, true, false, _&&_, _||_, cond, not}
-use Prim.Native.Nat.{ℕ, suc, _+_, _≤_, _<_}
+use mathlib.Core.List.{List, [], _∷_, _++_, append-nil}
+use mathlib.Core.Bool.{Bool, true, false}
+use Prim.Native.Nat.{ℕ, suc, _+_, _≤_}
 use native.Mathlib.Omega.{arith}
 use mathlib.Core.Logic.{_⊎_, inl, inr, ⊎-elim}
 use borrow.Author.Needs.{needs}
 use borrow.Author.Tests.{ne-eqb}
-use lib.Dec.{eqb}
 use lib.ListN.{length, getD}
 use Rattle.lists.specs.Laws.Booleans.{clash}
 use Rattle.grammar.specs.Bytes.{blank}
-use Rattle.grammar.specs.Document.{together}
 use Rattle.grammar.specs.Look.{Word}
 use Rattle.lists.specs.Lists.{all}
 use Rattle.nodes.specs.Values.{value-there}
 use Rattle.nodes.specs.declared.Char.{Char}
 use Rattle.nodes.specs.declared.Char.the-variants.{Byte, End}
-use Rattle.numbers.specs.Numbers.{digits, value, parts, powerMark, Sign, plus, minus, Signed, unsigned, decimalParts, mantissa}
-use Rattle.numbers.specs.Numbers.{scaled, scaledValue, decimal, decimalValue}
-use Rattle.numbers.specs.Cuts.{Uncut, none, more}
+use Rattle.numbers.specs.Numbers.{digits, parts, powerMark, plus, unsigned, decimalParts, mantissa}
+use Rattle.numbers.specs.Numbers.{scaled, decimal, decimalValue}
+use Rattle.numbers.specs.Cuts.{none, more}
 use Rattle.numbers.specs.Stream.{charAt, stream, wordEnds}
 use Rattle.numbers.specs.Laws.Stream.{char-byte, char-end}
 use Rattle.numbers.specs.Spelled.{Reading, reads, fails, Spelled, pureDecimal, pureValue, Pure, SignLeads}

@@ -1,37 +1,35 @@
 -- Decimals without their sign: digits with or without a point, and what stands behind them.
 use mathlib.Core.Path.{_≡_, refl, sym, ap, _∙_}
 use mathlib.Core.List.{List, [], _∷_, _++_, append-assoc, append-nil}
-use mathlib.Core.Bool.{Bool, true, false, _&&_}
+use mathlib.Core.Bool.{false}
 use Prim.Native.Nat.{ℕ, _+_, _-_, _^_, _≤_, _<_}
 use native.Mathlib.Omega.{arith}
 use borrow.Author.Needs.{needs}
 use borrow.Author.Tests.{ne-eqb}
-use lib.Dec.{eqb}
 use lib.IntN.{ℤ}
 use lib.ListN.{length, drop}
 use Rattle.lists.specs.Laws.Booleans.{clash}
 use Rattle.grammar.specs.Bytes.{blank}
 use Rattle.grammar.specs.Document.{together}
 use Rattle.grammar.specs.Look.{Word}
-use Rattle.lists.specs.Lists.{all}
 use Rattle.nodes.specs.declared.Char.{Char}
 use Rattle.nodes.specs.declared.Char.the-variants.{Byte, End}
-use Rattle.numbers.specs.Numbers.{digit, digits, number, value, parts, point, powerMark, Sign, withSign, decimalParts, mantissa}
-use Rattle.numbers.specs.Numbers.{places, scaled}
+use Rattle.numbers.specs.Numbers.{number, value, parts, point, Sign, withSign, decimalParts, mantissa}
+use Rattle.numbers.specs.Numbers.{places}
 use Rattle.numbers.specs.Laws.Cuts.{uncut-join, parts-end, digits-are, number-below, powers}
 use Rattle.numbers.specs.Cuts.{Uncut, none, more}
 use Rattle.numbers.specs.Stream.{charAt, stream, digitsAt}
 use Rattle.numbers.specs.Laws.Stream.{char-byte, char-end, Ran, digits-law}
-use Rattle.numbers.specs.Spelled.{Reading, reads, fails, Cut, pureDecimal, pureValue, Pure, pointed, DigitsInFront, Pointed}
+use Rattle.numbers.specs.Spelled.{fails, pureDecimal, pureValue, Pure, pointed, DigitsInFront, Pointed}
 use Rattle.numbers.specs.Laws.SpelledSame.{onward}
-use Rattle.numbers.specs.Spelled.{Mantissa, Powered}
+use Rattle.numbers.specs.Spelled.{Powered}
 use Rattle.numbers.specs.Laws.Mantissa.{wrong-one}
 use Rattle.numbers.specs.Laws.Ahead.{uncut-point, uncut-blank, first-part, other-part, cut, word, word-uncut, word-splits, empty-read}
 use Rattle.numbers.specs.Laws.Ahead.{before-mark, stop-mark, wrong-front}
 use Rattle.numbers.specs.declared.Source.{Source}
 use Rattle.numbers.specs.declared.Run.{Run}
 use Rattle.numbers.specs.declared.Spelling.{Spelling}
-use Rattle.numbers.specs.declared.Spelling.the-variants.{Reads, Fails}
+use Rattle.numbers.specs.declared.Spelling.the-variants.{Fails}
 
 below-same : {v n k m : ℕ} → v ≡ n → k ≡ m → n < 10 ^ m → v < 10 ^ k
 below-same p q h = rw (p, q) h

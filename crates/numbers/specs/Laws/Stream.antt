@@ -1,17 +1,15 @@
 -- What stands at a place is the first of what is ahead; what a run of digits, or of blanks, takes from it.
 use mathlib.Core.Path.{_≡_, refl, sym, ap, _∙_}
 use mathlib.Core.List.{List, [], _∷_, _++_}
-use mathlib.Core.Bool.{Bool, true, false, _&&_, cond, not}
-use Prim.Native.Nat.{ℕ, zero, suc, _+_, _*_, _-_, _^_, _≤_, _<_}
+use mathlib.Core.Bool.{Bool, true, false, cond}
+use Prim.Native.Nat.{ℕ, zero, suc, _+_, _*_, _-_, _≤_, _<_}
 use native.Mathlib.Omega.{arith}
-use native.Mathlib.Numerals.{add-one}
 use lib.ListN.{length}
 use Rattle.lists.specs.Laws.Booleans.{clash}
 use Rattle.grammar.specs.Bytes.{blank}
 use Rattle.grammar.specs.Look.{Word}
 use Rattle.lists.specs.Lists.{all}
-use Rattle.nodes.specs.Values.{tells, decoded-at}
-use Rattle.nodes.specs.Laws.NextBytes.{Decodes, decoded-byte, decoded-end}
+use Rattle.nodes.specs.Laws.NextBytes.{decoded-byte, decoded-end}
 use Rattle.nodes.specs.Texts.{saysAt, left, text-step}
 use Rattle.nodes.specs.Laws.TextSteps.{Steps, text-letter, text-skip, text-stop}
 use Rattle.nodes.specs.declared.Char.{Char}
@@ -20,7 +18,7 @@ use Rattle.nodes.specs.declared.Text.{Text}
 use Rattle.nodes.specs.declared.Text.the-variants.{Stop, Skip, Letter}
 use Rattle.numbers.specs.Numbers.{digit, number, words}
 use Rattle.numbers.specs.Laws.Cuts.{words-blank}
-use Rattle.numbers.specs.Stream.{letterBy, letterWithin, letterAt, charAt, stream, leftIn, behindBy, behind, leading, wordEnds}
+use Rattle.numbers.specs.Stream.{letterBy, letterWithin, letterAt, charAt, stream, leftIn, behindBy, behind, leading}
 use Rattle.numbers.specs.Stream.{digitsBy, digitsAt}
 use Rattle.numbers.specs.declared.Source.{Source}
 use Rattle.numbers.specs.declared.Source.the-variants.{Value, Contents}

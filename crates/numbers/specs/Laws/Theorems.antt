@@ -2,21 +2,21 @@
 -- else; and there is one only.
 use mathlib.Core.Path.{_≡_, refl, sym, ap, _∙_}
 use mathlib.Core.Logic.{_↔_}
-use mathlib.Core.List.{List, [], _∷_, _++_, append-nil}
-use mathlib.Core.Bool.{Bool, true, false, _&&_, cond}
-use Prim.Native.Nat.{ℕ, zero, suc, _+_, _*_, _-_, _^_, _≤_}
+use mathlib.Core.List.{[], _∷_, _++_, append-nil}
+use mathlib.Core.Bool.{Bool, true, false, cond}
+use Prim.Native.Nat.{ℕ, _+_, _*_, _-_, _^_}
 use native.Mathlib.Nat.{pow-suc, mul-assoc, mul-comm, add-mul}
 use native.Mathlib.Omega.{arith}
-use lib.IntN.{ℤ, pos}
-use lib.ListN.{length, drop}
+use lib.IntN.{ℤ}
+use lib.ListN.{length}
 use Rattle.grammar.specs.Document.{together}
 use Rattle.grammar.specs.Look.{Word}
 use Rattle.lists.specs.Lists.{all, count}
 use Rattle.grammar.specs.Bytes.{between}
-use Rattle.numbers.specs.Numbers.{digit, digits, number, value, parts, point, whole, volumeDimensions, dimensionList, commaValues}
-use Rattle.numbers.specs.Numbers.{exponent, exponentValue, Sign, plus, minus, unsigned, withSign, decimal, decimalValue}
+use Rattle.numbers.specs.Numbers.{digit, number, value, parts, point, whole, volumeDimensions, dimensionList, commaValues}
+use Rattle.numbers.specs.Numbers.{exponent, exponentValue, decimal, decimalValue}
 use Rattle.numbers.specs.Laws.Cuts.{parts-end, parts-cut, digits-uncut, digit-no-point, number-append}
-use Rattle.numbers.specs.Answers.{wholeIn, listedIn, betweenIn, lengthsOf, threeIn, exponentIn, decimalIn, nextNumber}
+use Rattle.numbers.specs.Answers.{wholeIn, betweenIn, lengthsOf, threeIn, exponentIn, decimalIn}
 use Rattle.numbers.specs.declared.Lengths.{Lengths}
 use Rattle.numbers.specs.declared.Decimal.{Decimal}
 use Rattle.numbers.specs.declared.Whole.the-variants as wholes

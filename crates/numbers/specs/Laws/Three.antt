@@ -1,25 +1,23 @@
 -- Three lengths, from the parts that their readers find.
 use mathlib.Core.Path.{_≡_, refl, sym, ap, _∙_}
 use mathlib.Core.List.{List, [], _∷_}
-use mathlib.Core.Bool.{Bool, true, false, _&&_, cond, and-false}
+use mathlib.Core.Bool.{true, false, cond, and-false}
 use Prim.Native.Nat.{ℕ, _+_, _≤_}
-use native.Mathlib.Omega.{arith}
 use borrow.Author.Needs.{needs}
 use lib.ListN.{length, getD}
 use Rattle.grammar.specs.Look.{Word}
-use Rattle.lists.specs.Lists.{all, each}
+use Rattle.lists.specs.Lists.{each}
 use Rattle.nodes.specs.Values.{value-there}
 use Rattle.numbers.specs.Numbers.{value, parts, comma, whole, three, volumeDimensions, commaValues}
-use Rattle.numbers.specs.Laws.Cuts.{Parts, parts-some}
+use Rattle.numbers.specs.Laws.Cuts.{parts-some}
 use Rattle.numbers.specs.Stream.{stream}
-use Rattle.numbers.specs.Parted.{numeral, Parted}
+use Rattle.numbers.specs.Parted.{Parted}
 use Rattle.numbers.specs.Answers.{lengthsOf, threeIn}
-use Rattle.numbers.specs.Laws.Values.{there, past, CommaSays, LastSays, NoSays, says-comma, says-last, says-no, is-numeral}
+use Rattle.numbers.specs.Laws.Values.{there, past, CommaSays, says-comma, says-last, says-no, is-numeral}
 use Rattle.numbers.specs.declared.Source.{Source}
 use Rattle.numbers.specs.declared.Source.the-variants.{Value}
 use Rattle.numbers.specs.declared.Part.{Part}
 use Rattle.numbers.specs.declared.Part.the-variants.{Comma, Last, No}
-use Rattle.numbers.specs.declared.Lengths.{Lengths}
 use Rattle.numbers.specs.declared.Three.{Three}
 use Rattle.numbers.specs.declared.Three.the-variants as threes
 

@@ -1,31 +1,24 @@
 -- Values of attributes: whole numbers, three lengths, dimension lists, exponents.
 use mathlib.Core.Path.{_≡_, refl, sym, ap, _∙_}
-use mathlib.Core.List.{List, [], _∷_, _++_}
-use mathlib.Core.Bool.{Bool, true, false, _&&_, cond, and-false}
-use Prim.Native.Nat.{ℕ, zero, suc, _+_, _*_, _-_, _^_, _≤_, _<_}
+use mathlib.Core.List.{List, [], _∷_}
+use mathlib.Core.Bool.{true, false}
+use Prim.Native.Nat.{ℕ, _+_, _-_, _≤_, _<_}
 use native.Mathlib.Omega.{arith}
 use borrow.Author.Needs.{needs}
-use borrow.Author.Tests.{eq-eqb, ne-eqb, le-leb, lt-leb}
-use lib.Dec.{eqb, leb}
-use lib.ListN.{length, drop, getD, drop-of-length-le}
+use lib.ListN.{length, getD, drop-of-length-le}
 use Rattle.lists.specs.Laws.Booleans.{clash}
-use Rattle.grammar.specs.Bytes.{between}
 use Rattle.grammar.specs.Look.{Word}
-use Rattle.lists.specs.Lists.{all, each, count}
-use Rattle.nodes.specs.Values.{value-there, tells}
+use Rattle.lists.specs.Lists.{all}
+use Rattle.nodes.specs.Values.{value-there}
 use Rattle.nodes.specs.Laws.NextBytes.{value-begins, tells-none}
-use Rattle.nodes.specs.declared.Char.{Char}
-use Rattle.nodes.specs.declared.Char.the-variants.{Byte, End}
-use Rattle.numbers.specs.Numbers.{digits, value, parts, comma, whole, three, volumeDimensions, dimensionList, commaValues, Sign}
-use Rattle.numbers.specs.Numbers.{plus, minus, unsigned, withSign, exponent, exponentValue}
-use Rattle.numbers.specs.Laws.Cuts.{Parts, parts-some}
-use Rattle.numbers.specs.Stream.{charAt, stream, leftIn}
-use Rattle.numbers.specs.Laws.Stream.{Moves, char-byte, char-end}
+use Rattle.numbers.specs.Numbers.{digits, value, parts, comma, whole}
+use Rattle.numbers.specs.Laws.Cuts.{parts-some}
+use Rattle.numbers.specs.Stream.{stream, leftIn}
 use Rattle.numbers.specs.Parted.{numeral, Parted, part-comma, part-last, part-no}
-use Rattle.numbers.specs.Laws.Forms.{parts-one, numeral-two, numeral-first, numeral-below, numeral-single}
-use Rattle.numbers.specs.Answers.{wholeIn, listedIn, betweenIn, lengthsOf, threeIn, exponentFrom, exponentIn, signIf}
+use Rattle.numbers.specs.Laws.Forms.{parts-one, numeral-two, numeral-first}
+use Rattle.numbers.specs.Answers.{wholeIn}
 use Rattle.numbers.specs.declared.Source.{Source}
-use Rattle.numbers.specs.declared.Source.the-variants.{Value, Contents}
+use Rattle.numbers.specs.declared.Source.the-variants.{Value}
 use Rattle.numbers.specs.declared.Part.{Part}
 use Rattle.numbers.specs.declared.Part.the-variants.{Comma, Last, No}
 use Rattle.numbers.specs.declared.Whole.{Whole}

@@ -1,23 +1,23 @@
 -- WALKING A LIST: what each answer of `next_number` says of the words that are ahead, and that the n-th number handed out is the n-th of
 -- the list.
 use mathlib.Core.Path.{_≡_, refl, sym, ap, _∙_}
-use mathlib.Core.List.{List, [], _∷_, _++_}
-use mathlib.Core.Bool.{Bool, true, false, _&&_, cond}
+use mathlib.Core.List.{List, [], _∷_}
+use mathlib.Core.Bool.{Bool, true, false, cond}
 use Prim.Native.Nat.{ℕ, zero, suc, _+_, _-_, _^_, _≤_, _<_}
 use native.Mathlib.Omega.{arith}
-use lib.ListN.{length, drop, getD}
+use lib.ListN.{length, drop}
 use Rattle.lists.specs.Laws.Booleans.{clash}
 use Rattle.grammar.specs.Bytes.{blank}
 use Rattle.grammar.specs.Look.{Word}
-use Rattle.lists.specs.Lists.{all, those, each}
+use Rattle.lists.specs.Lists.{those}
 use Rattle.nodes.specs.Texts.{saysAt, left}
 use Rattle.nodes.specs.declared.Char.{Char}
 use Rattle.nodes.specs.declared.Char.the-variants.{Byte}
 use Rattle.nodes.specs.declared.Char.the-variants as chars
-use Rattle.numbers.specs.Numbers.{digits, value, parts, onFirst, filled, words, values}
-use Rattle.numbers.specs.Laws.Cuts.{Parts, parts-some, words-none, words-blank, digits-split, value-below, powers}
+use Rattle.numbers.specs.Numbers.{digits, value, parts, onFirst, filled, words}
+use Rattle.numbers.specs.Laws.Cuts.{parts-some, words-none, words-blank, digits-split, value-below, powers}
 use Rattle.numbers.specs.Stream.{charAt, stream, leftIn, behind, leading}
-use Rattle.numbers.specs.Laws.Stream.{Moves, char-byte, char-end, behind-none, behind-one}
+use Rattle.numbers.specs.Laws.Stream.{char-byte, char-end, behind-none, behind-one}
 use Rattle.numbers.specs.Answers.{nextInWords, nextNumber}
 use Rattle.numbers.specs.declared.Source.{Source}
 use Rattle.numbers.specs.declared.Source.the-variants.{Contents}

@@ -1,19 +1,17 @@
 -- The limits from both sides, computed.
 use mathlib.Core.Path.{_≡_, refl}
 use mathlib.Core.List.{List, [], _∷_}
-use mathlib.Core.Bool.{Bool, true, false, _&&_, not}
-use Prim.Native.Nat.{ℕ}
+use mathlib.Core.Bool.{Bool, true, false, not}
 use Prim.Native.String.{String}
-use lib.IntN.{ℤ, pos, negsuc}
-use Rattle.grammar.specs.Bytes.{ascii, blank}
+use lib.IntN.{pos, negsuc}
+use Rattle.grammar.specs.Bytes.{ascii}
 use Rattle.grammar.specs.Look.{Word}
-use Rattle.lists.specs.Lists.{lists, all, those, each}
-use Rattle.numbers.specs.Numbers.{numbers, digit, digits, number, value, onFirst, parts, comma, point, filled, words, whole, three}
-use Rattle.numbers.specs.Numbers.{volumeDimensions, dimensionList, commaValues, unsigned, withSign, exponent, exponentValue}
-use Rattle.numbers.specs.Numbers.{powerMark, decimalParts, mantissa, places, powerParts, writtenPower, power, inPower, scaled}
-use Rattle.numbers.specs.Numbers.{scaledValue}
-use Rattle.numbers.specs.Numbers.{decimal, decimalValue, up, down, inValue, isWhole, noMore, equalTo, atMost, wholes, values, lastRow}
-use Rattle.numbers.specs.Numbers.{sixteen, keyValue, inKeys, key, keyList, listedKeys, sameKey, noLess, atLeast, colour}
+use Rattle.lists.specs.Lists.{lists, all}
+use Rattle.numbers.specs.Numbers.{numbers, whole}
+use Rattle.numbers.specs.Numbers.{volumeDimensions, dimensionList, exponent, exponentValue}
+use Rattle.numbers.specs.Numbers.{power}
+use Rattle.numbers.specs.Numbers.{decimal, decimalValue, equalTo, atMost, wholes, values}
+use Rattle.numbers.specs.Numbers.{sixteen, keyValue, key, keyList, listedKeys, sameKey, colour}
 
 -- every text of the list passes, or none does
 abbrev Every : (Word → Bool) → List String → Type 0

@@ -1,10 +1,9 @@
 -- THE WHOLE: conditions 1 to 9, then 10 to 14, 24 and 25, then the table and the answer.
 use mathlib.Core.Path.{_≡_, refl, sym, ap, _∙_}
-use mathlib.Core.List.{List, [], _∷_, _++_}
-use mathlib.Core.Option.{Option, some}
+use mathlib.Core.List.{List, [], _++_}
+use mathlib.Core.Option.{some}
 use mathlib.Core.Bool.{cond}
-use Prim.Native.Nat.{ℕ, zero, suc, _+_, _≤_, _<_}
-use native.Mathlib.Omega.{arith}
+use Prim.Native.Nat.{ℕ, zero, suc, _+_}
 use lib.Dec.{eqb, ltb}
 use lib.ListN.{length, replicate}
 use borrow.Author.Needs.{needs}
@@ -15,7 +14,7 @@ use Rattle.lists.specs.Refusals.{positive}
 use Rattle.lists.specs.Laws.Refusals.{first-append, given-none, row-fails, rows-past}
 use Rattle.grammar.specs.Document.{Element}
 use Rattle.grammar.specs.Parser.{parse}
-use Rattle.cifti.specs.Maps.{Map, mapsOf, lengthOf, brainMaps}
+use Rattle.cifti.specs.Maps.{mapsOf, lengthOf, brainMaps}
 use Rattle.cifti.specs.Conditions as C
 use Rattle.cifti.specs.Conditions.{conditionsOfHeader, conditionsOfTable, conditionsOfLabels, refusal, ofMaps, roomShort}
 use Rattle.cifti.specs.Answer.{acceptedWith, refusedWith, answerBy, recordsBy, stretches, filledWith, Reads}

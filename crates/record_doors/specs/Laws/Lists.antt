@@ -3,7 +3,6 @@ use mathlib.Core.Path.{_≡_, refl, sym, ap, _∙_}
 use mathlib.Core.Bool.{Bool, true, false, cond}
 use mathlib.Core.List.{List, [], _∷_}
 use Prim.Native.Nat.{ℕ}
-use lib.ListN.{length}
 use Rattle.records.specs.Outcome.{unless}
 use Rattle.records.specs.Fill.{wrote}
 use Rattle.records.specs.declared.outcome.Outcome.{Outcome}

@@ -1,20 +1,20 @@
 -- FOUR NUMBERS AFTER FOUR, as loops meet them. Assumes nothing.
 use mathlib.Core.Path.{_≡_, refl, sym, ap, _∙_, subst}
-use mathlib.Core.Bool.{Bool, true, false, cond, not, _&&_, _||_}
+use mathlib.Core.Bool.{Bool, true, cond, not, _&&_, _||_}
 use mathlib.Core.List.{List, [], _∷_, _++_, append-assoc}
 use mathlib.Core.Logic.{⊎-elim}
-use Prim.Native.Nat.{ℕ, zero, suc, _+_, _-_, _*_, _/_, _%_, _<_, _≤_}
+use Prim.Native.Nat.{ℕ, _+_, _-_, _*_, _/_, _%_, _<_, _≤_}
 use native.Mathlib.Omega.{arith}
 use native.Mathlib.Numerals.{add-one}
 use lib.Dec.{eqb, leb, ltb}
-use lib.ListN.{length, getD, set, length-set}
+use lib.ListN.{length, getD}
 use borrow.Author.Tests.{le-leb, lt-leb, eq-eqb, ne-eqb}
-use Rattle.lists.specs.Lists.{any, allBelow, eachIn, each, table, countUp}
+use Rattle.lists.specs.Lists.{any, allBelow, eachIn, table, countUp}
 use Rattle.lists.specs.Laws.Booleans.{and-right, and-both, both-ways}
 use Rattle.lists.specs.Laws.Quantifiers.{allBelow-iff}
 use Rattle.lists.specs.Laws.Tables.{up-one, up-done, up-all, size-of-table}
-use Rattle.records.specs.Fill.{wrote, wrote-none, wrote-one, wrote-on, length-wrote}
-use Rattle.records.specs.Outcome.{unless, outcome}
+use Rattle.records.specs.Fill.{wrote, wrote-none, wrote-on, length-wrote}
+use Rattle.records.specs.Outcome.{unless}
 use Rattle.lists.specs.Laws.Numbers.{eq?}
 use Rattle.records.specs.declared.counters.Index.{Index}
 use Rattle.shortlist.specs.Runs.{runs, kindOf}

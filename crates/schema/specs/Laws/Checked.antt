@@ -1,7 +1,7 @@
 -- The turns of the check: no document, or a root and what the walk says of it.
 use mathlib.Core.Path.{_≡_, refl, ap, sym, _∙_}
 use mathlib.Core.List.{List}
-use mathlib.Core.Option.{Option, some}
+use mathlib.Core.Option.{Option}
 use mathlib.Core.Option
 use mathlib.Core.Bool.{Bool, true, false}
 use Prim.Native.Nat.{ℕ, _<_}
@@ -9,12 +9,11 @@ use native.Mathlib.Omega.{arith}
 use borrow.Author.Needs.{needs}
 use Rattle.grammar.specs.Document.{Element}
 use Rattle.grammar.specs.Grammar.{Writes}
-use Rattle.grammar.specs.Parser.{parse}
 use Rattle.grammar.specs.Laws.Theorems.{parse-iff}
 use Rattle.steps.specs.WellFormed.{WellFormed}
 use Rattle.nodes.specs.Places.{Stands, the}
 use Rattle.nodes.specs.Root.{root}
-use Rattle.nodes.specs.Laws.Root.{Rooted, root-law}
+use Rattle.nodes.specs.Laws.Root.{root-law}
 use Rattle.nodes.specs.declared.Kid.{Kid}
 use Rattle.nodes.specs.declared.Kid.the-variants.{Child, Done}
 use Rattle.schema.specs.Faults.{faultOf}
@@ -22,7 +21,7 @@ use Rattle.schema.specs.Asked.{Known}
 use Rattle.schema.specs.Walked.{Walks}
 use Rattle.schema.specs.declared.Walked.{Walked}
 use Rattle.schema.specs.declared.Checked.{Checked}
-use Rattle.schema.specs.Checked.{ChecksDocument, Checks, ChecksRoot, DocumentKnown}
+use Rattle.schema.specs.Checked.{Checks, ChecksRoot, DocumentKnown}
 
 module _ {text : List ℕ} {kid : Kid} (e : kid ≡ root text) where
   root-at : {r : ℕ} → kid ≡ Child r → (d : Element) → Writes d text → Stands text r × (the text r ≡ d)

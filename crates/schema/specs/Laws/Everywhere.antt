@@ -1,7 +1,7 @@
 -- What is proved of Walk.
 use mathlib.Core.Path.{_≡_, refl, ap, _∙_}
 use mathlib.Core.List.{[]}
-use mathlib.Core.Bool.{Bool, true, false, _&&_, _||_}
+use mathlib.Core.Bool.{Bool, true, false, _||_}
 use Prim.Native.String.{String}
 use Rattle.lists.specs.Lists.{any}
 use Rattle.grammar.specs.Document.{Element, element, Contents, nothing, child as inside, run}

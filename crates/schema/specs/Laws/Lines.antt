@@ -1,13 +1,13 @@
 -- The turns of the functions on the lines of children.
 use mathlib.Core.Path.{_≡_, refl, ap, sym, _∙_}
-use mathlib.Core.List.{List, [], _∷_}
+use mathlib.Core.List.{List, []}
 use mathlib.Core.Option.{Option, some}
 use mathlib.Core.Option
 use mathlib.Core.Bool.{Bool, true, false, not, cond}
 use Prim.Native.Nat.{ℕ, zero, suc, _+_, _-_, _<_, _≤_}
 use Prim.Native.String.{String}
 use native.Mathlib.Omega.{arith}
-use lib.Dec.{eqb, leb, ltb}
+use lib.Dec.{leb, ltb}
 use lib.ListN.{length, drop}
 use lib.Seq.{drop-drop}
 use borrow.Author.Tests.{ltb-true, ltb-false, lt-ltb, le-ltb, le-leb, lt-leb}
@@ -36,9 +36,9 @@ use Rattle.nodes.specs.declared.Found.the-variants.{At, Nothing}
 use Rattle.nodes.specs.Laws.Names.{part-is}
 use Rattle.schema.specs.Words.{numberIn}
 use Rattle.schema.specs.Table.{wordAt, entryWord, lineCell, choiceCell, caseCell, caseAt, casesOf, choiceBy, lineAt, linesOfKind}
-use Rattle.schema.specs.Table.{linesFrom, linesTo, orderAt, kindCell, whichAt, whichBy}
-use Rattle.schema.specs.Lines.{KindFor, kindOrNone, elseBy, inTurn, lineName, linePlace, kindNext}
-use Rattle.schema.specs.Asked.{Known, Timed, TurnAsked, Lined}
+use Rattle.schema.specs.Table.{orderAt, kindCell, whichAt, whichBy}
+use Rattle.schema.specs.Lines.{KindFor, kindOrNone, elseBy, inTurn, linePlace, kindNext}
+use Rattle.schema.specs.Asked.{Known, TurnAsked, Lined}
 use Rattle.schema.specs.Laws.Asked.{known-small}
 use Rattle.schema.specs.Laws.Searches.{less-suc}
 use Rattle.schema.specs.Laws.Attributes.{found-none, found-some}

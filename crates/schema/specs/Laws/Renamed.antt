@@ -1,14 +1,14 @@
 -- Rows over other names of kinds say the same.
-use mathlib.Core.Path.{_≡_, refl, ap, ap₂, sym, _∙_}
+use mathlib.Core.Path.{_≡_, refl, ap, ap₂, _∙_}
 use mathlib.Core.List.{List, [], _∷_}
 use mathlib.Core.Option.{Option, some}
 use mathlib.Core.Option
 use mathlib.Core.Bool.{Bool, _&&_, cond, true, false}
 use Prim.Native.Nat.{ℕ, suc}
-use Rattle.lists.specs.Lists.{all, each, isSome, ifThere}
+use Rattle.lists.specs.Lists.{each, isSome, ifThere}
 use Rattle.lists.specs.Laws.Lists.{all-same, all-each, each-each, each-same}
 use Rattle.grammar.specs.Document.{Attribute, Element, element, Contents, nothing, child as inside, run}
-use Rattle.grammar.specs.Look.{Word, is, nameOf, attributesOf, valueIn, elements, characters}
+use Rattle.grammar.specs.Look.{Word, is, nameOf, attributesOf, valueIn, elements}
 use Rattle.schema.specs.Schema.{Case, _⇒_, Which, always, chosen, chosenElse, ChildRow, child, Order, anyOrder, inOrder, Row}
 use Rattle.schema.specs.Schema.{branch, leaf, kindAmong, kindChosen, orElse, kindBy, kindOf, childRows, everywhere, everywhereIn}
 use Rattle.schema.specs.Schema.{childShaped, rowPlace, inOrderOf, orderly, childrenShaped, shaped, numbered}

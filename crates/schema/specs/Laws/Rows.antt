@@ -2,11 +2,11 @@
 use mathlib.Core.Path.{_≡_, refl, ap, sym, _∙_}
 use mathlib.Core.List.{List, [], _∷_}
 use mathlib.Core.Bool.{Bool, true, false, _&&_}
-use Prim.Native.Nat.{ℕ, zero, suc, _-_, _<_}
+use Prim.Native.Nat.{ℕ, zero, suc, _-_}
 use native.Mathlib.Omega.{arith}
 use lib.Dec.{eqb}
 use borrow.Author.Tests.{ne-eqb}
-use lib.ListN.{getD, length}
+use lib.ListN.{length}
 use Rattle.lists.specs.Lists.{all, any, countUp, isSome}
 use Rattle.grammar.specs.Bytes.{blank}
 use Rattle.grammar.specs.Document.{Attribute, Element, Contents}
@@ -15,8 +15,7 @@ use Rattle.schema.specs.Schema.{AttributeRow, ChildRow, childRows, Order
 use Rattle.schema.specs.Schema.{attributeShaped}
 use Rattle.schema.specs.Schema.{attributeNumbered, childrenShaped, orderly, inOrderOf, kindOf, shaped, numbered, everywhere}
 use Rattle.schema.specs.Walk.{atChild, walk-step}
-use Rattle.schema.specs.Table.{textAt, orderAt, orderBy, rowBy, rowsOf, attributesOfKind, lineAt, linesOfKind, linesFrom, linesTo}
-use Rattle.schema.specs.Table.{textFormAt}
+use Rattle.schema.specs.Table.{textAt, orderAt, orderBy, rowBy, rowsOf, attributesOfKind, linesOfKind, linesFrom, linesTo}
 use Rattle.schema.specs.Faults.{fault, sooner, faultOf}
 use Rattle.schema.specs.Parts.{namedOnly, attributesFault, textShaped, textNumbered, textFault, ownFault, timesRight, orderRight}
 use Rattle.schema.specs.Parts.{frameRight, kidShaped, kidsFault}

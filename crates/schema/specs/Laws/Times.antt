@@ -1,9 +1,9 @@
 -- How often the lines are met.
 use mathlib.Core.Path.{_≡_, refl, ap, sym, _∙_}
-use mathlib.Core.List.{List, [], _∷_}
+use mathlib.Core.List.{List, []}
 use mathlib.Core.Option.{Option}
-use mathlib.Core.Bool.{Bool, true, false, _&&_, _||_, cond, not}
-use Prim.Native.Nat.{ℕ, zero, suc, _+_, _-_, _<_, _≤_}
+use mathlib.Core.Bool.{Bool, true, false, _||_, cond, not}
+use Prim.Native.Nat.{ℕ, _+_, _-_, _<_, _≤_}
 use native.Mathlib.Omega.{arith}
 use lib.Dec.{eqb, leb, ltb}
 use lib.ListN.{getD, set, length, length-set}
@@ -18,8 +18,8 @@ use Rattle.grammar.specs.Look.{Word, is, nameOf}
 use Rattle.nodes.specs.Places.{Stands, the}
 use Rattle.schema.specs.Table.{wordAt, entryWord, lineCell, watched, watchedWord}
 use Rattle.schema.specs.Lines.{KindFor, lineName, linePlace, kindNext}
-use Rattle.schema.specs.Tallied.{standsBy, lineStands, timesBy, hereOne, watchedName, OneMore, Counts, Meets}
-use Rattle.schema.specs.Asked.{Timed, Here, Lined, CanCount, Counting, Tallying}
+use Rattle.schema.specs.Tallied.{standsBy, lineStands, timesBy, hereOne, watchedName, Counts, Meets}
+use Rattle.schema.specs.Asked.{Timed, Here, Lined, Counting, Tallying}
 use Rattle.schema.specs.declared.Tally.{Tally}
 use Rattle.schema.specs.Laws.Lines.{place-before, place-found, lined-place}
 

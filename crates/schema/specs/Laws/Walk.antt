@@ -8,7 +8,7 @@ use Prim.Native.Nat.{ℕ, zero, suc, _+_, _-_, _<_, _≤_}
 use native.Mathlib.Omega.{arith}
 use lib.Dec.{eqb, leb}
 use borrow.Author.Tests.{ne-eqb, leb-true}
-use lib.ListN.{getD, set, length, drop}
+use lib.ListN.{getD, length, drop}
 use borrow.Author.Needs.{needs}
 use Rattle.lists.specs.Lists.{all, any, count}
 use Rattle.lists.specs.Laws.Booleans.{and-true, and-false, or-false, never-some}
@@ -37,11 +37,11 @@ use Rattle.nodes.specs.declared.ahead.Ahead.the-variants as ahead-is
 use Rattle.grammar.specs.Read.{Read}
 use Rattle.grammar.specs.Bytes.{blank}
 use Rattle.schema.specs.Table.{kindCell, linesOfKind, linesFrom, linesTo, textAt, orderAt, watchedWord}
-use Rattle.schema.specs.Lines.{inTurn, orderFrom, kindNext}
-use Rattle.schema.specs.Tallied.{timesBy, holding, OneMore, Meets}
+use Rattle.schema.specs.Lines.{inTurn, kindNext}
+use Rattle.schema.specs.Tallied.{timesBy, holding, Meets}
 use Rattle.schema.specs.Faults.{fault, sooner, faultOf}
 use Rattle.schema.specs.Parts.{ownFault, textShaped, timesRight, orderRight, frameRight, kidsFault}
-use Rattle.schema.specs.Asked.{Known, Timed, CanCount, Tallying}
+use Rattle.schema.specs.Asked.{Known, Timed, Tallying}
 use Rattle.schema.specs.Walked.{Owns, Walks, refusedWalk, finishedWalk}
 use Rattle.schema.specs.declared.Tally.{Tally}
 use Rattle.schema.specs.declared.Walked.{Walked}

@@ -7,7 +7,7 @@ use mathlib.Core.Option
 use Prim.Native.Nat.{ℕ}
 use Prim.Native.String.{String}
 use Rattle.lists.specs.Lists.{lists}
-use Rattle.grammar.specs.Bytes.{_⊹_, ascii}
+use Rattle.grammar.specs.Bytes.{ascii}
 use Rattle.grammar.specs.Document.{Element}
 use Rattle.grammar.specs.Parser.{parse, computing}
 use Rattle.grammar.specs.Look.{looks}
@@ -16,7 +16,7 @@ use Rattle.numbers.specs.Numbers.{whole}
 use Rattle.schema.specs.Words.{numberIn}
 use Rattle.schema.specs.Schema.{schema, anyValue, word, number, required, optional, anyText, atMostOnce, anyTimes, atLeastOnce}
 use Rattle.schema.specs.Schema.{neededBelow}
-use Rattle.schema.specs.Schema.{_⇒_, always, chosenElse, child, anyOrder, inOrder, Row, branch, leaf}
+use Rattle.schema.specs.Schema.{_⇒_, always, chosenElse, child, anyOrder, inOrder, branch, leaf}
 use Rattle.schema.specs.Letters.{lettering}
 use Rattle.schema.specs.Table.{tableWords, rowsOf, formAt, wordsAt}
 use Rattle.schema.specs.Faults.{fault, faultOf}

@@ -2,20 +2,20 @@
 use mathlib.Core.Path.{_≡_, refl, sym, ap, _∙_, subst}
 use mathlib.Core.List.{List, [], _∷_}
 use mathlib.Core.Bool.{Bool, true, false, cond, not, _&&_, _||_}
-use Prim.Native.Nat.{ℕ, _+_, _%_, _<_, _≤_}
+use Prim.Native.Nat.{ℕ, _+_, _%_, _≤_}
 use native.Mathlib.Omega.{arith}
 use lib.Dec.{eqb, leb, ltb}
 use lib.ListN.{length, take, drop}
 use borrow.Author.Tests.{ltb-false, le-ltb, lt-ltb}
 use Rattle.lists.specs.Lists.{any, twoOf}
 use Rattle.lists.specs.Refusals.{_when_, first}
-use Rattle.lists.specs.Laws.Booleans.{or-left, or-right, both-ways, or-true, or-false}
-use Rattle.records.specs.Outcome.{unless, ends, applies, passes, gives-first}
+use Rattle.lists.specs.Laws.Booleans.{or-right}
+use Rattle.records.specs.Outcome.{ends, applies, passes, gives-first}
 use Rattle.records.specs.Find.{FirstPlace}
-use Rattle.shortlist.specs.Runs.{mostStructure, kindOf, kindIn, structureKind, ofOneKind}
+use Rattle.shortlist.specs.Runs.{mostStructure, kindOf, kindIn, ofOneKind}
 use Rattle.shortlist.specs.Asking.{empty, noStructure, pastEnd, runsOnFrom, badList, holdsIndex, ofKind, theModel, noModel}
 use Rattle.shortlist.specs.Asking.{recordsInRange, isRecord, ownStretch, toldNumber, toldVoxels, toldStructure, tellRefusal, Tells}
-use Rattle.shortlist.specs.Asking.{soughtNumber, soughtIndex, seekRefusal, StandsAt, Seeks}
+use Rattle.shortlist.specs.Asking.{seekRefusal, Seeks}
 use Rattle.shortlist.specs.Search.{begun, nextOf, folded, toldOf, ownRecords, listOutside, Finding}
 use Rattle.shortlist.specs.Laws.Runs.{kind-parts, kind-below}
 use Rattle.shortlist.specs.Laws.Search.{bad-is, past-seen, tells-one, tells-none, asked, from-seen, size-seen, the-has-not}

@@ -1,16 +1,16 @@
 -- LIST-FINDS: with a list that was made of the records, the index of a record is the place that `find` gives, for any number.
 -- Assumes nothing.
-use mathlib.Core.Path.{_≡_, refl, sym, ap, _∙_, subst}
+use mathlib.Core.Path.{_≡_, refl, sym, ap, _∙_}
 use mathlib.Core.List.{List, [], _∷_}
 use mathlib.Core.Bool.{Bool, true, false, cond, not, _&&_, _||_}
 use mathlib.Core.Logic.{⊎-elim}
 use Prim.Native.Nat.{ℕ, _+_, _-_, _<_, _≤_}
 use native.Mathlib.Omega.{arith}
 use lib.Dec.{eqb, leb, ltb}
-use lib.ListN.{length, getD, take, drop, length-drop}
+use lib.ListN.{length, getD, drop, length-drop}
 use lib.Seq.{length-take-le, getD-take, getD-drop}
 use borrow.Author.Tests.{eqb-true, eq-eqb, ltb-true, ltb-false, leb-true}
-use Rattle.lists.specs.Lists.{all, any, twoOf}
+use Rattle.lists.specs.Lists.{any, twoOf}
 use Rattle.lists.specs.Laws.Quantifiers.{any-iff, all-iff}
 use Rattle.lists.specs.Refusals.{_when_, first}
 use Rattle.lists.specs.Laws.Booleans.{or-left, or-right, or-first, or-second, or-neither, and-both, and-left, and-right, both-ways}

@@ -10,7 +10,7 @@ use lib.ListN.{length, getD, set, drop}
 use lib.Seq.{drop-cons, set-at, append-snoc}
 use borrow.Author.Tests.{lt-ltb, le-ltb, ne-eqb, le-leb, lt-leb, ltb-true, ltb-false}
 use Rattle.lists.specs.Lists.{all, table, countUp}
-use Rattle.lists.specs.Refusals.{Refusal, _when_, first, NoneApplies, positive, passed}
+use Rattle.lists.specs.Refusals.{_when_, first, NoneApplies, positive}
 use Rattle.lists.specs.Laws.Booleans.{or-elim, or-left, or-right, and-no, and-both}
 use Rattle.lists.specs.Laws.Refusals.{given-none, row-fails, rows-behind}
 use Rattle.lists.specs.Laws.Tables.{size-of-table}

@@ -1,13 +1,13 @@
 -- RUNS AS A LOOP MEETS THEM: a run from where it begins to where it ends, and then the runs behind it. Assumes nothing.
 use mathlib.Core.Path.{_≡_, refl, sym, ap, _∙_}
 use mathlib.Core.List.{List, [], _∷_, _++_}
-use mathlib.Core.Bool.{Bool, true, false, cond, _&&_}
+use mathlib.Core.Bool.{Bool, true, false, cond}
 use Prim.Native.Nat.{ℕ, zero, suc, _+_, _-_, _%_, _<_, _≤_}
 use native.Mathlib.Omega.{arith}
 use native.Mathlib.Decide.{decLt}
 use native.Mathlib.Nat.{mod-lt}
-use lib.Dec.{eqb, leb}
-use lib.ListN.{length, getD, set, drop}
+use lib.Dec.{leb}
+use lib.ListN.{length, getD, drop}
 use lib.Pow.{pow-pos}
 use lib.Seq.{drop-cons}
 use borrow.Author.Tests.{le-leb, lt-leb, leb-true, leb-false, eq-eqb, ne-eqb}

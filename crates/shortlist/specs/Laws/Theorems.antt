@@ -2,20 +2,20 @@
 -- it finds each record where `find` does. Assumes nothing.
 use mathlib.Core.Path.{_≡_, refl, sym, ap, _∙_, subst}
 use mathlib.Core.List.{List, [], _∷_}
-use mathlib.Core.Bool.{Bool, true, false, cond, not, _&&_, _||_}
+use mathlib.Core.Bool.{Bool, true, false, cond, not, _||_}
 use Prim.Native.Nat.{ℕ, zero, suc, _+_, _%_, _<_, _≤_}
 use native.Mathlib.Omega.{arith}
 use lib.Dec.{eqb, leb, ltb}
-use lib.ListN.{length, getD, take, drop, length-drop}
+use lib.ListN.{length, getD}
 use borrow.Author.Tests.{eqb-true, eq-eqb, ne-eqb, le-leb, lt-ltb, le-ltb, leb-true, not-false}
-use Rattle.lists.specs.Lists.{all, any, total, twoOf, those}
-use Rattle.lists.specs.Refusals.{_when_, first, NoneApplies, positive}
+use Rattle.lists.specs.Lists.{all, any, total}
+use Rattle.lists.specs.Refusals.{_when_, first, positive}
 use Rattle.lists.specs.Laws.Booleans.{or-neither, or-second, and-both, and-left, and-no}
 use Rattle.lists.specs.Laws.Refusals.{given-none, row-fails, rows-behind}
 use Rattle.records.specs.Record.{isVoxel, structureOf, legalRecord}
 use Rattle.records.specs.Outcome.{ends, applies, passes, gives-first}
 use Rattle.records.specs.Sheet.{goodCount}
-use Rattle.shortlist.specs.Runs.{mostStructure, structureKind, kindOf, kindIn, ofOneKind, alone, longer, runsOn, runsFrom, runs}
+use Rattle.shortlist.specs.Runs.{mostStructure, kindOf, kindIn, alone, longer, runsOn, runsFrom, runs}
 use Rattle.shortlist.specs.Runs.{comesBack}
 use Rattle.shortlist.specs.Making.{listRefusal}
 use Rattle.shortlist.specs.Asking.{empty, noStructure, pastEnd, runsOnFrom, badList, holdsIndex, theModel}

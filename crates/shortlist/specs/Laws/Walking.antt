@@ -10,15 +10,15 @@ use lib.Dec.{eqb, leb}
 use lib.ListN.{length, getD, set, drop, replicate, length-set}
 use lib.Seq.{drop-cons, getD-set-same, getD-set-other}
 use borrow.Author.Tests.{eq-eqb, eqb-true, not-true, not-false}
-use Rattle.lists.specs.Lists.{all, twoOf, table, countUp}
+use Rattle.lists.specs.Lists.{all, table, countUp}
 use Rattle.lists.specs.Refusals.{_when_, first}
 use Rattle.lists.specs.Laws.Booleans.{and-left, and-right, and-both, both-ways}
 use Rattle.lists.specs.Laws.Quantifiers.{all-iff}
 use Rattle.lists.specs.Laws.Tables.{table-below}
-use Rattle.records.specs.Outcome.{Gives, ends, applies, passes, gives-first}
+use Rattle.records.specs.Outcome.{ends, applies, passes, gives-first}
 use Rattle.records.specs.Record.{legalRecord}
 use Rattle.lists.specs.Laws.Numbers.{eq?}
-use Rattle.shortlist.specs.Runs.{kindOf, kindIn, ofOneKind, alone, longer, runsOn, runsFrom, runs, comesBack}
+use Rattle.shortlist.specs.Runs.{kindOf, kindIn, alone, longer, runsOn, runsFrom, runs, comesBack}
 use Rattle.shortlist.specs.Made.{modelAt, refusedBy, withRun, MadeSized, RunEnd, RunsOf}
 use Rattle.shortlist.specs.Laws.Named.{again, again-new, again-old, again-done, again-first, flagged, flag-adds, flags-empty}
 use Rattle.shortlist.specs.Laws.Named.{flags, flags-more, flags-left, flags-none, flags-most}

@@ -5,7 +5,7 @@ use mathlib.Core.List.{List, [], _∷_, map}
 use Prim.Native.Nat.{ℕ}
 use Rattle.lists.specs.Lists.{lists}
 use Rattle.lists.specs.Refusals.{refusals}
-use Rattle.records.specs.Record.{Location, onSurface, inVolume, recordOf, recordWords}
+use Rattle.records.specs.Record.{onSurface, inVolume, recordOf, recordWords}
 use Rattle.records.specs.Sheet.{goodCount}
 use Rattle.shortlist.specs.Runs.{runs, runWords}
 use Rattle.shortlist.specs.Making.{listRefusal}

@@ -1,7 +1,7 @@
 -- TWO READINGS ALIKE: of a text, and of the same text with its line ends translated. Both fail, or both have read, and what the second
 -- leaves is what the first leaves, translated.
 use mathlib.Core.Path.{_≡_}
-use mathlib.Core.List.{List, [], _∷_}
+use mathlib.Core.List.{List, []}
 use mathlib.Core.Bool.{Bool, true, false}
 use Prim.Native.Nat.{ℕ, zero, suc, _<_}
 use native.Mathlib.Omega.{arith}

@@ -7,7 +7,7 @@ use mathlib.Core.Bool.{Bool, true, false, not, _&&_, _||_}
 use lib.Dec.{eqb, leb, ltb}
 use borrow.Author.Needs.{needs}
 use borrow.Author.Tests.{eqb-true, ltb-true, ne-eqb, not-false, not-true}
-use lib.ListN.{length, take, drop, getD, take-append-drop}
+use lib.ListN.{length, drop, getD, take-append-drop}
 use lib.Seq.{take-add, drop-drop}
 use Rattle.lists.specs.Lists.{all}
 use Rattle.lists.specs.Laws.Lists.{all-append}

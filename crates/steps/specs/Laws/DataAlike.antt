@@ -10,7 +10,6 @@ use Rattle.lists.specs.Lists.{all}
 use Rattle.grammar.specs.Bytes.{ascii, blank, begins, skipped}
 use Rattle.grammar.specs.Characters.{lead1}
 use Rattle.grammar.specs.Read.{fail, got, bind, byte, mark, test, alt}
-use Rattle.grammar.specs.Laws.Read.{Ok}
 use Rattle.grammar.specs.Parser.{width, width-by, rest-by, rest-at, literal-at, line-end-at, data-byte, data-character-at, data-at}
 use Rattle.grammar.specs.Parser.{skipped-at, doctype-at}
 use Rattle.grammar.specs.Laws.Tokens.{line-end-other}

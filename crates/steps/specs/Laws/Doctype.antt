@@ -6,14 +6,13 @@ use native.Mathlib.Omega.{arith}
 use borrow.Author.Needs.{needs}
 use mathlib.Core.Bool.{Bool, true, false, not}
 use borrow.Author.Tests.{eq-eqb, ne-eqb, not-true, not-false}
-use lib.Dec.{eqb}
 use lib.ListN.{length, drop, getD}
 use Rattle.grammar.specs.Bytes.{ascii, begins, skipped}
-use Rattle.grammar.specs.Read.{Read, fail, got, bind, byte, mark}
+use Rattle.grammar.specs.Read.{fail, got, bind, byte, mark}
 use Rattle.grammar.specs.Laws.Read.{mark-complete}
 use Rattle.grammar.specs.Parser.{literal-at, skipped-at, doctype-at, doctype-if, prologue-at}
 use Rattle.steps.specs.Step.{stepped}
-use Rattle.steps.specs.Laws.Step.{at-byte, at-end, arrives, refuses, fell, went}
+use Rattle.steps.specs.Laws.Step.{at-byte, at-end, arrives, refuses}
 use Rattle.steps.specs.Laws.Until.{Going, going-start, going-stops, going-fails, going-stuck, going-goes, moved, stepped-value}
 use Rattle.steps.specs.Until.{until}
 use Rattle.steps.specs.Laws.Parsing.{stuck, follows}

@@ -1,22 +1,20 @@
 -- The whole text, step by step.
-use mathlib.Core.Path.{_≡_, refl, ap, sym, _∙_, subst}
-use mathlib.Core.List.{List, [], _∷_, _++_}
-use mathlib.Core.Option.{Option, some}
+use mathlib.Core.Path.{_≡_, refl, sym, _∙_}
+use mathlib.Core.List.{List, []}
+use mathlib.Core.Option.{Option}
 use mathlib.Core.Option
-use Prim.Native.Nat.{ℕ, suc, _+_, _-_, _≤_, _<_}
+use Prim.Native.Nat.{ℕ, _-_, _≤_, _<_}
 use native.Mathlib.Omega.{arith}
 use borrow.Author.Needs.{needs}
 use mathlib.Core.Bool.{Bool, true, false}
 use lib.Dec.{eqb}
-use lib.ListN.{length, drop, length-drop}
+use lib.ListN.{length, drop}
 use borrow.Author.Tests.{eqb-true, eqb-false}
 use Rattle.lists.specs.Laws.Booleans.{clash}
 use Rattle.grammar.specs.Document.{Element}
-use Rattle.grammar.specs.Grammar.{Writes}
-use Rattle.grammar.specs.Read.{Read, fail, got, Reader, bind, all-of}
-use Rattle.grammar.specs.Laws.Read.{all-of-sound}
-use Rattle.grammar.specs.Parser.{declaration-at, no-aside, aside-at, element-at, contents-at, document-at, end-at, answer, parse}
-use Rattle.grammar.specs.Laws.Sound.{declaration-sound, aside-sound, prologue-sound}
+use Rattle.grammar.specs.Read.{Read, fail, got, Reader, bind}
+use Rattle.grammar.specs.Parser.{declaration-at, element-at, document-at, end-at, answer, parse}
+use Rattle.grammar.specs.Laws.Sound.{declaration-sound, prologue-sound}
 use Rattle.grammar.specs.Laws.SoundElements.{parse-sound}
 use Rattle.grammar.specs.Laws.Complete.{parse-complete}
 use Rattle.grammar.specs.Unfuelled.{contents}

@@ -12,7 +12,6 @@ use Rattle.grammar.specs.Document.{Attribute, Element, element, Contents, nothi
 use Rattle.grammar.specs.Erased.{node, Nodes, none, inner, characters, erased, erasedAll, erasedIn, documentOf}
 use Rattle.grammar.specs.Read.{Read, got, Reader, bind, all-of, seen, test}
 use Rattle.grammar.specs.Laws.Read.{test-sound, mark-sound, span-sound}
-use Rattle.grammar.specs.Laws.Read.{all-of-sound}
 use Rattle.grammar.specs.Parser.{Look, at-close, at-comment, at-data, at-element, at-text, look}
 use Rattle.grammar.specs.Parser.{empty-at, full-at, element-at, contents-by, declaration-at, prologue-at, aside-at, no-aside, end-at}
 use Rattle.grammar.specs.Parser.{document-at, answer, parse}

@@ -1,23 +1,22 @@
 -- Elements and contents, step by step.
 use mathlib.Core.Path.{_≡_, refl, ap, sym, _∙_, subst}
 use mathlib.Core.List.{List, [], _∷_, _++_, append-assoc}
-use Prim.Native.Nat.{ℕ, zero, suc, _+_, _-_, _≤_, _<_}
+use Prim.Native.Nat.{ℕ, suc, _+_, _-_, _≤_, _<_}
 use native.Mathlib.Omega.{arith}
 use borrow.Author.Needs.{needs}
-use mathlib.Core.Bool.{Bool, true, false}
-use lib.ListN.{length, drop, getD, length-append, length-drop}
+use lib.ListN.{length, drop, length-drop}
 use Rattle.lists.specs.Laws.Booleans.{clash}
 use Rattle.grammar.specs.Bytes.{ascii, blank}
-use Rattle.grammar.specs.Document.{Attribute, Element, element, Contents, nothing, child}
+use Rattle.grammar.specs.Document.{Attribute, element, child}
 use Rattle.grammar.specs.Read.{Read, fail, got, Reader, bind, alt, mark, span, seen, before}
-use Rattle.grammar.specs.Laws.Read.{mark-complete, mark-other, mark-sound, Ok}
+use Rattle.grammar.specs.Laws.Read.{mark-other, mark-sound, Ok}
 use Rattle.grammar.specs.Laws.Read.{failed, good, ok-got, ok-map, bind-ok}
 use Rattle.grammar.specs.Parser.{Look, at-close, at-comment, at-data, at-element, at-text, look, name-at, attributes-at, empty-at, full-at}
 use Rattle.grammar.specs.Parser.{element-at}
 use Rattle.grammar.specs.Laws.SoundElements.{contents-sound}
 use Rattle.grammar.specs.Unfuelled.{contents}
-use Rattle.steps.specs.Step.{stepped, Went}
-use Rattle.steps.specs.Laws.Step.{Tails, tails, went, went-on, arrives, refuses, fell, at-byte, at-end}
+use Rattle.steps.specs.Step.{stepped}
+use Rattle.steps.specs.Laws.Step.{Tails, tails, went, went-on, at-byte}
 use Rattle.steps.specs.Laws.Leaves.{mark-tails}
 use Rattle.steps.specs.Keys.{Head, head, head-at}
 use Rattle.steps.specs.Laws.Keys.{head-tails}
@@ -27,7 +26,7 @@ use Rattle.steps.specs.declared.Step.the-variants.{To, No}
 use Rattle.steps.specs.Laws.Row as Row
 use Rattle.steps.specs.Row.{Piece, pieces-at}
 use Rattle.steps.specs.Laws.Row.{rest-of, element-split, element-tails, element-eats, pieces-tails, pieces-eat-on}
-use Rattle.steps.specs.Laws.Row.{children-by, after, contents-split}
+use Rattle.steps.specs.Laws.Row.{children-by, contents-split}
 use Rattle.steps.specs.Tags.{ended, opened, close-at, closing-at}
 use Rattle.steps.specs.Pieces.{halted, stoppedBy}
 use Rattle.steps.specs.declared.tags.Opened.{Opened}

@@ -12,7 +12,7 @@ use lib.ListN.{length, drop, getD}
 use Rattle.grammar.specs.Bytes.{ascii, begins, parted}
 use Rattle.grammar.specs.Grammar
 use Rattle.grammar.specs.Grammar.{LineEnd}
-use Rattle.grammar.specs.Read.{Read, got, bind, mark, test}
+use Rattle.grammar.specs.Read.{got, bind, mark, test}
 use Rattle.grammar.specs.Parser.{standsFor, feed-if, feed-at, line-end-at}
 use Rattle.steps.specs.Step.{stepped}
 use Rattle.steps.specs.Laws.Step.{at-byte, at-end, arrives}

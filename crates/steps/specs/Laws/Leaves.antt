@@ -2,7 +2,7 @@
 use mathlib.Core.Path.{_≡_, refl}
 use mathlib.Core.List.{List, [], _∷_}
 use Prim.Native.Nat.{ℕ, _-_, _<_}
-use mathlib.Core.Bool.{Bool, true, false, _&&_}
+use mathlib.Core.Bool.{Bool, true, false}
 use lib.ListN.{length}
 use Rattle.grammar.specs.Read.{fail, bind, mark, span}
 use Rattle.grammar.specs.Laws.Read.{Ok, ok-map, mark-sound, span-sound, byte-complete, byte-other}

@@ -1,15 +1,12 @@
 -- One reader after another, at positions of a text.
-use mathlib.Core.Path.{_≡_, refl, ap, sym, _∙_}
-use mathlib.Core.List.{List, [], _∷_, _++_}
-use Prim.Native.Nat.{ℕ, _+_, _-_, _≤_, _<_}
-use mathlib.Core.Bool.{Bool, true, false, _&&_}
-use lib.Dec.{eqb}
-use lib.ListN.{length, drop, length-drop}
-use Rattle.grammar.specs.Bytes.{begins}
-use Rattle.grammar.specs.Read.{Read, fail, got, Reader, bind, mark, test}
-use Rattle.grammar.specs.Laws.Read.{Ok, failed, good}
-use Rattle.steps.specs.Step.{stepped, Went}
-use Rattle.steps.specs.Laws.Step.{Tails, went, arrives, refuses, fell, at-byte, at-end}
+use mathlib.Core.Path.{_≡_, ap, sym, _∙_}
+use mathlib.Core.List.{List, []}
+use Prim.Native.Nat.{ℕ}
+use lib.ListN.{length, drop}
+use Rattle.grammar.specs.Read.{Read, got, Reader, bind}
+use Rattle.grammar.specs.Laws.Read.{Ok}
+use Rattle.steps.specs.Step.{stepped}
+use Rattle.steps.specs.Laws.Step.{Tails, went, refuses, fell}
 use Rattle.steps.specs.declared.Step.{Step}
 use Rattle.steps.specs.declared.Step.the-variants.{To, No}
 

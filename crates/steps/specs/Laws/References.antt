@@ -1,7 +1,7 @@
 -- References, at a position of the text: one law for each way through the code.
 use mathlib.Core.Path.{_≡_, refl, sym, _∙_}
 use mathlib.Core.List.{List}
-use Prim.Native.Nat.{ℕ, _-_, _<_}
+use Prim.Native.Nat.{ℕ, _-_}
 use lib.ListN.{length, drop}
 use Rattle.lists.specs.Laws.Booleans.{clash}
 use Rattle.grammar.specs.Bytes.{ascii}

@@ -1,29 +1,25 @@
 -- The readers of tags, step by step.
 use mathlib.Core.Path.{_≡_, refl, ap, sym, _∙_, subst}
-use mathlib.Core.List.{List, [], _∷_, _++_}
+use mathlib.Core.List.{List, [], _++_}
 use Prim.Native.Nat.{ℕ, _+_, _-_, _≤_, _<_}
 use native.Mathlib.Omega.{arith}
 use borrow.Author.Needs.{needs}
-use lib.ListN.{length, drop, take, getD, length-append, length-drop}
+use lib.ListN.{length, drop, take, length-append, length-drop}
 use lib.Seq.{take-append-seam}
-use borrow.Author.Tests.{ne-eqb}
 use Rattle.grammar.specs.Bytes.{ascii, blank}
-use Rattle.grammar.specs.Document.{Attribute}
-use Rattle.grammar.specs.Read.{Read, fail, got, Reader, bind, mark, span, byte}
-use Rattle.grammar.specs.Laws.Read.{mark-complete, mark-other, Ok, ok-got}
+use Rattle.grammar.specs.Read.{Read, bind, mark, span, byte}
+use Rattle.grammar.specs.Laws.Read.{Ok, ok-got}
 use Rattle.grammar.specs.Grammar.{Name}
-use Rattle.grammar.specs.Parser.{name-at, attributes-at}
-use Rattle.grammar.specs.Laws.Sound.{attributes-sound, name-sound}
+use Rattle.grammar.specs.Parser.{name-at}
+use Rattle.grammar.specs.Laws.Sound.{name-sound}
 use Rattle.steps.specs.Step.{stepped, Went}
-use Rattle.steps.specs.Laws.Step.{tails, went, arrives, refuses, fell, at-byte, at-end}
+use Rattle.steps.specs.Laws.Step.{went, refuses, fell, at-end}
 use Rattle.steps.specs.Laws.Leaves.{span-tails, mark-tails, name-tails}
-use Rattle.steps.specs.Laws.Until.{stepped-value}
 use Rattle.steps.specs.declared.Step.{Step}
 use Rattle.steps.specs.declared.Step.the-variants.{To, No}
 use Rattle.steps.specs.Keys.{head-at}
 use Rattle.steps.specs.Laws.Keys.{head-tails}
 use Rattle.steps.specs.Tags.{ended, opened, close-at, closing-at}
-use Rattle.steps.specs.declared.tags.Opened.{Opened}
 use Rattle.steps.specs.declared.tags.Opened.the-variants.{Full, Empty, Bad}
 use Rattle.steps.specs.Laws.Parsing.{stuck, follows}
 

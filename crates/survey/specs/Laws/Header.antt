@@ -1,8 +1,7 @@
 -- The first of 1 to 9 that applies, by what was opened and surveyed.
-use mathlib.Core.Path.{_≡_, refl, sym, ap, _∙_}
+use mathlib.Core.Path.{_≡_, sym, ap, _∙_}
 use mathlib.Core.List.{List, [], _∷_}
-use mathlib.Core.Option.{Option, some}
-use mathlib.Core.Bool.{Bool, true, false, cond, true≢false}
+use mathlib.Core.Bool.{Bool, true, false, true≢false}
 use Prim.Native.Nat.{ℕ, _≤_, _<_}
 use native.Mathlib.Omega.{arith}
 use native.Mathlib.Decide.{decLt}
@@ -10,10 +9,7 @@ use lib.ListN.{length}
 use borrow.Author.Needs.{needs}
 use borrow.Author.Tests.{le-ltb}
 use Rattle.lists.specs.Lists.{there}
-use Rattle.grammar.specs.Document.{Element}
-use Rattle.grammar.specs.Parser.{parse}
 use Rattle.nodes.specs.Places.{the}
-use Rattle.cifti.specs.Maps.{mapsOf}
 use Rattle.cifti.specs.Conditions as C
 use Rattle.cifti.specs.Conditions.{_when_, dimensionsWrong, lengthWrong, ofMaps, textTooLong}
 use Rattle.maps.specs.Survey.{MatrixAt, MapsAre}

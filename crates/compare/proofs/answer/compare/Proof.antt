@@ -2,7 +2,6 @@
 use mathlib.Core.Path.{sym, ap, _∙_, subst}
 use Prim.Native.Nat.{ℕ}
 use lib.ListN.{replicate}
-use native.Mathlib.Omega.{arith}
 use borrow.Author.Needs.{needs}
 use Rattle.compare.specs.Refused.{Begun}
 use Rattle.compare.specs.Laws.Rows.{front-refused, begun, behind-front}

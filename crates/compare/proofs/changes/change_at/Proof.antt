@@ -1,5 +1,4 @@
 -- `changes::change_at` meets its contract. Assumes nothing.
-use native.Mathlib.Omega.{arith}
 use borrow.Author.Needs.{needs}
 use Rattle.compare.specs.Laws.Change.{says-same, says-moved, says-first, says-none, says-both, says-second}
 use Rattle.compare.proofs.changes.change_at.Statement.{statement}

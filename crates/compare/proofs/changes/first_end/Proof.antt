@@ -1,6 +1,5 @@
 -- `changes::first_end` meets its contract. Assumes nothing.
 use native.Mathlib.Omega.{arith}
-use borrow.Author.Needs.{needs}
 use Rattle.compare.specs.Laws.Change.{end-short, end-past, end-there}
 use Rattle.compare.proofs.changes.first_end.Statement.{statement}
 use Rattle.compare.proofs.changes.first_end.Tie as tie

@@ -1,5 +1,4 @@
 -- `changes::stands` meets its contract. Assumes nothing.
-use native.Mathlib.Omega.{arith}
 use borrow.Author.Needs.{needs}
 use Rattle.compare.specs.Laws.Change.{found-has}
 use Rattle.compare.proofs.changes.stands.Statement.{statement}

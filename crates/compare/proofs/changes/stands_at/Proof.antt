@@ -1,5 +1,4 @@
 -- `changes::stands_at` meets its contract. Assumes nothing.
-use native.Mathlib.Omega.{arith}
 use borrow.Author.Needs.{needs}
 use Rattle.compare.specs.Laws.Change.{at-inside, at-outside}
 use Rattle.compare.proofs.changes.stands_at.Statement.{statement}

@@ -1,5 +1,4 @@
 -- `compare::counting::counted` meets its contract. Assumes nothing.
-use native.Mathlib.Omega.{arith}
 use borrow.Author.Needs.{needs}
 use Rattle.comparison.specs.Laws.Accepted.{fine}
 use Rattle.compare.specs.Laws.Answer.{laid-beside, laid-walkable, laid-fits, repeat-is, same-few, both-few, both-fits, compared-is}

@@ -1,5 +1,4 @@
 -- `compare::counting::twice_beyond` meets its contract. Assumes nothing.
-use native.Mathlib.Omega.{arith}
 use borrow.Author.Needs.{needs}
 use Rattle.compare.specs.Laws.Answer.{none-beyond, some-beyond}
 use Rattle.compare.proofs.counting.twice_beyond.Statement.{statement}

@@ -1,4 +1,3 @@
-use native.Mathlib.Omega.{arith}
 use borrow.Author.Needs.{needs}
 use Rattle.compare.specs.Laws.Held.{twice-told}
 use Rattle.compare.proofs.refusal.location_twice.Statement.{statement}

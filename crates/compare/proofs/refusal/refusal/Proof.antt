@@ -1,7 +1,6 @@
 -- `compare::refusal::refusal` meets its contract. Assumes nothing.
 use mathlib.Core.Path.{sym, subst}
 use Prim.Native.Nat.{ℕ}
-use native.Mathlib.Omega.{arith}
 use borrow.Author.Needs.{needs}
 use Rattle.compare.specs.Laws.Rows.{front-refused, fits-second, second-twice, none-refused}
 use Rattle.compare.specs.Refused.{SheetFits}

@@ -1,4 +1,3 @@
-use native.Mathlib.Omega.{arith}
 use borrow.Author.Needs.{needs}
 use Rattle.compare.specs.Laws.Rows.{judged-room, judged-number}
 use Rattle.compare.proofs.refusal.sheet_refusal.Statement.{statement}

@@ -1,5 +1,4 @@
 -- `compare::refusal::sheets_refusal` meets its contract. Assumes nothing.
-use native.Mathlib.Omega.{arith}
 use borrow.Author.Needs.{needs}
 use Rattle.compare.specs.Laws.Rows.{first-refused, second-refused}
 use Rattle.compare.proofs.refusal.sheets_refusal.Statement.{statement}

@@ -1,5 +1,5 @@
 -- `dzwonolin::label_files::dz_gifti_keys` meets its contract: what `gifti_keys` promises, and what `tell_one` wrote.
-use mathlib.Core.Path.{_≡_, refl}
+use mathlib.Core.Path.{_≡_}
 use mathlib.Core.List.{[], _∷_}
 use Rattle.gifti.specs.Keys.{KeysOf}
 use Rattle.flat.specs.Flat.{laidOver}

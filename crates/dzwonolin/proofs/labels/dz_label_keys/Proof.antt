@@ -1,5 +1,5 @@
 -- `dzwonolin::labels::dz_label_keys` meets its contract: what `label_keys` promises, and what `tell_one` wrote.
-use mathlib.Core.Path.{_≡_, refl}
+use mathlib.Core.Path.{_≡_}
 use mathlib.Core.List.{[], _∷_}
 use Rattle.cifti.specs.Labels.{Keys}
 use Rattle.flat.specs.Flat.{laidOver}

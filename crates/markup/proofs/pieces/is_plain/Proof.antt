@@ -2,7 +2,6 @@ use mathlib.Core.Path.{refl}
 use Rattle.grammar.specs.Bytes.{blank, special}
 use Rattle.grammar.specs.Characters.{lead1}
 use Rattle.steps.specs.Pieces.{plain}
-use native.Mathlib.Omega.{arith}
 use Rattle.markup.proofs.pieces.is_plain.Statement.{statement}
 use Rattle.markup.proofs.pieces.is_plain.Tie as tie
 

@@ -1,6 +1,4 @@
 -- `matching::level::same_at` meets its contract. Assumes nothing.
-use native.Mathlib.Omega.{arith}
-use borrow.Author.Needs.{needs}
 use Rattle.matching.specs.Laws.Side.{within-first, within-second, same-there, same-past}
 use Rattle.matching.proofs.level.same_at.Statement.{statement}
 use Rattle.matching.proofs.level.same_at.Tie as tie

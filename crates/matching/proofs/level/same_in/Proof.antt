@@ -1,7 +1,6 @@
 -- `matching::level::same_in` meets its contract. Assumes nothing.
 use Prim.Native.Nat.{_-_}
 use native.Mathlib.Omega.{arith}
-use borrow.Author.Needs.{needs}
 use Rattle.matching.specs.Laws.Side.{Level, level-start, level-few, level-yes, level-no, level-end}
 use Rattle.matching.proofs.level.same_in.Statement.{statement}
 use Rattle.matching.proofs.level.same_in.Tie as tie

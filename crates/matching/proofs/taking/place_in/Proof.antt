@@ -1,5 +1,4 @@
 -- `matching::taking::place_in` meets its contract. Assumes nothing.
-use native.Mathlib.Omega.{arith}
 use borrow.Author.Needs.{needs}
 use Rattle.matching.specs.Laws.Side.{place-turned, place-straight}
 use Rattle.matching.proofs.taking.place_in.Statement.{statement}

@@ -1,5 +1,4 @@
 -- `matching::taking::record_in` meets its contract. Assumes nothing.
-use native.Mathlib.Omega.{arith}
 use borrow.Author.Needs.{needs}
 use Rattle.matching.specs.Laws.Side.{first-byte, word-in, record-is}
 use Rattle.matching.proofs.taking.record_in.Statement.{statement}

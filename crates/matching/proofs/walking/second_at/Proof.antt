@@ -3,8 +3,6 @@ use mathlib.Core.Path.{ap, _∙_}
 use Prim.Native.Nat.{ℕ}
 use lib.ListN.{getD}
 use Rattle.comparison.specs.Compare.{recordsOf}
-use native.Mathlib.Omega.{arith}
-use borrow.Author.Needs.{needs}
 use Rattle.matching.specs.Laws.Side.{turned-within}
 use Rattle.matching.proofs.walking.second_at.Statement.{statement}
 use Rattle.matching.proofs.walking.second_at.Tie as tie

@@ -3,7 +3,6 @@
 use Prim.Native.Nat.{_+_, _-_}
 use lib.ListN.{length}
 use native.Mathlib.Omega.{arith}
-use borrow.Author.Needs.{needs}
 use Rattle.matching.specs.Laws.Side.{few-first, few-second, within-first, turning-second, as-first, as-second}
 use Rattle.matching.specs.Laws.Side.{Going, going-start, going-first, going-second, going-few, going-on, going-room}
 use Rattle.matching.specs.Laws.Side.{going-pair, going-one, going-two, going-end}

@@ -1,7 +1,6 @@
 use Rattle.numbers.specs.Laws.Read.{running}
 use Rattle.numbers.specs.Read.{Running}
 use Prim.Native.Nat.{_-_}
-use lib.ListN.{length}
 use Rattle.number_lists.proofs.chars.digits.Statement.{statement}
 use Rattle.number_lists.proofs.chars.digits.Tie as tie
 

@@ -1,6 +1,5 @@
 use Rattle.numbers.specs.Laws.Sixteen.{checking, Checking}
 use Prim.Native.Nat.{_-_}
-use lib.ListN.{length}
 use Rattle.number_values.proofs.decimals.sixteen_ok.Statement.{statement}
 use Rattle.number_values.proofs.decimals.sixteen_ok.Tie as tie
 

@@ -1,6 +1,5 @@
 -- `record_doors::asking::sought_index` meets its contract. Assumes nothing.
 use Rattle.record_doors.specs.Laws.Numbers.{sought-indices}
-use native.Mathlib.Omega.{arith}
 use borrow.Author.Needs.{needs}
 use Rattle.record_doors.proofs.asking.sought_index.Statement.{statement}
 use Rattle.record_doors.proofs.asking.sought_index.Tie as tie

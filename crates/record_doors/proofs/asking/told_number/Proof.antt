@@ -1,6 +1,5 @@
 -- `record_doors::asking::told_number` meets its contract. Assumes nothing.
 use Rattle.record_doors.specs.Laws.Numbers.{told-numbers}
-use native.Mathlib.Omega.{arith}
 use borrow.Author.Needs.{needs}
 use Rattle.record_doors.proofs.asking.told_number.Statement.{statement}
 use Rattle.record_doors.proofs.asking.told_number.Tie as tie

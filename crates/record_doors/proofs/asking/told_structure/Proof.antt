@@ -1,6 +1,5 @@
 -- `record_doors::asking::told_structure` meets its contract. Assumes nothing.
 use Rattle.record_doors.specs.Laws.Numbers.{told-structures}
-use native.Mathlib.Omega.{arith}
 use borrow.Author.Needs.{needs}
 use Rattle.record_doors.proofs.asking.told_structure.Statement.{statement}
 use Rattle.record_doors.proofs.asking.told_structure.Tie as tie

@@ -1,6 +1,5 @@
 -- `record_doors::making::list_numbers` meets its contract. Assumes nothing.
 use Rattle.record_doors.specs.Laws.Numbers.{lists-numbers}
-use native.Mathlib.Omega.{arith}
 use borrow.Author.Needs.{needs}
 use Rattle.record_doors.proofs.making.list_numbers.Statement.{statement}
 use Rattle.record_doors.proofs.making.list_numbers.Tie as tie

@@ -3,7 +3,7 @@ use mathlib.Core.Path.{_≡_, sym, ap, _∙_}
 use Prim.Native.Nat.{ℕ, _/_, _%_, _^_}
 use borrow.Author.Tests.{eq-eqb, ne-eqb}
 use native.Mathlib.Nat.{div-one}
-use Rattle.records.specs.Width.{five, seven}
+use Rattle.records.specs.Width.{five}
 use Rattle.records.specs.Fields.{bits, partsOf}
 use Rattle.records.specs.Record.{Location, onSurface, inVolume, recordOf, wrapped, widened, locationIn, isVoxelIn, structureIn, payloadIn}
 use Rattle.records.specs.Record.{iIn, jIn, kIn}

@@ -31,7 +31,7 @@ use denote.Plain.{uint-makes, nothing-lawful}
 use denote.Builtin.{u64, usize, unit}
 use denote.Ref.{RefT}
 use denote.Signature.{plain}
-use denote.Slice.{sliceVal, ShrSlice, MutSlice, Room, finally, slice-vals, shr-slice-tells, shr-slice-lawful, shr-slice-copy}
+use denote.Slice.{sliceVal, ShrSlice, MutSlice, finally, slice-vals, shr-slice-tells, shr-slice-lawful, shr-slice-copy}
 use denote.Slice.{mut-slice-tells}
 use denote.Steps.{owned, peeks, heard, nothing, only}
 use denote.Enum.Laws as EL

@@ -1,5 +1,4 @@
 -- `shortlisting::runs::made_of` meets its contract. Assumes nothing.
-use native.Mathlib.Omega.{arith}
 use Rattle.shortlist.specs.Laws.Made.{making}
 use borrow.Author.Needs.{needs}
 use Rattle.shortlisting.proofs.runs.made_of.Statement.{statement}

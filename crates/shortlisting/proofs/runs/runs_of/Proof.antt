@@ -2,7 +2,6 @@
 use native.Mathlib.Omega.{arith}
 use Prim.Native.Nat.{_-_}
 use lib.ListN.{length}
-use borrow.Author.Needs.{needs}
 use Rattle.shortlist.specs.Laws.Walking.{Walked, walking}
 use Rattle.shortlisting.proofs.runs.runs_of.Statement.{statement}
 use Rattle.shortlisting.proofs.runs.runs_of.Tie as tie

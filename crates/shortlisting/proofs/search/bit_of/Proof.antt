@@ -1,5 +1,4 @@
 -- `shortlisting::search::bit_of` meets its contract. Assumes nothing.
-use native.Mathlib.Omega.{arith}
 use Rattle.lists.specs.Laws.Bits.{one-shifted}
 use borrow.Author.Needs.{needs}
 use Rattle.shortlisting.proofs.search.bit_of.Statement.{statement}

@@ -1,5 +1,4 @@
 -- `shortlisting::search::holds` meets its contract. Assumes nothing.
-use native.Mathlib.Omega.{arith}
 use Rattle.shortlist.specs.Laws.Entry.{entering}
 use Rattle.shortlisting.proofs.search.holds.Statement.{statement}
 use Rattle.shortlisting.proofs.search.holds.Tie as tie

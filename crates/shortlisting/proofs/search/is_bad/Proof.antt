@@ -1,5 +1,4 @@
 -- `shortlisting::search::is_bad` meets its contract. Assumes nothing.
-use native.Mathlib.Omega.{arith}
 use Rattle.shortlist.specs.Laws.Entry.{judging}
 use borrow.Author.Needs.{needs}
 use Rattle.shortlisting.proofs.search.is_bad.Statement.{statement}

@@ -1,5 +1,4 @@
 -- `shortlisting::search::is_named` meets its contract. Assumes nothing.
-use native.Mathlib.Omega.{arith}
 use Rattle.shortlist.specs.Laws.Bits.{bit-test}
 use borrow.Author.Needs.{needs}
 use Rattle.shortlisting.proofs.search.is_named.Statement.{statement}

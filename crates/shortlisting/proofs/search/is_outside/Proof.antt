@@ -1,5 +1,4 @@
 -- `shortlisting::search::is_outside` meets its contract. Assumes nothing.
-use native.Mathlib.Omega.{arith}
 use Rattle.shortlist.specs.Laws.Entry.{telling}
 use borrow.Author.Needs.{needs}
 use Rattle.shortlisting.proofs.search.is_outside.Statement.{statement}

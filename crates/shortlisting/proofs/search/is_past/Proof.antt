@@ -1,5 +1,4 @@
 -- `shortlisting::search::is_past` meets its contract. Assumes nothing.
-use native.Mathlib.Omega.{arith}
 use Rattle.shortlist.specs.Laws.Entry.{reaching}
 use Rattle.shortlisting.proofs.search.is_past.Statement.{statement}
 use Rattle.shortlisting.proofs.search.is_past.Tie as tie

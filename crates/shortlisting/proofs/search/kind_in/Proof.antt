@@ -1,5 +1,4 @@
 -- `shortlisting::search::kind_in` meets its contract. Assumes nothing.
-use native.Mathlib.Omega.{arith}
 use Rattle.shortlist.specs.Laws.Entry.{entering}
 use borrow.Author.Needs.{needs}
 use Rattle.shortlisting.proofs.search.kind_in.Statement.{statement}

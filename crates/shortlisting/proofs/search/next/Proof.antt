@@ -1,5 +1,4 @@
 -- `shortlisting::search::next` meets its contract. Assumes nothing.
-use native.Mathlib.Omega.{arith}
 use Rattle.shortlist.specs.Laws.Entry.{stepping}
 use borrow.Author.Needs.{needs}
 use Rattle.shortlisting.proofs.search.next.Statement.{statement}

@@ -1,5 +1,4 @@
 -- `shortlisting::search::told` meets its contract. Assumes nothing.
-use native.Mathlib.Omega.{arith}
 use Rattle.shortlist.specs.Laws.Entry.{telling}
 use Rattle.shortlisting.proofs.search.told.Statement.{statement}
 use Rattle.shortlisting.proofs.search.told.Tie as tie

@@ -1,5 +1,4 @@
 -- `shortlisting::search::with_entry` meets its contract. Assumes nothing.
-use native.Mathlib.Omega.{arith}
 use Rattle.shortlist.specs.Laws.Entry.{naming, taken-is}
 use borrow.Author.Needs.{needs}
 use Rattle.shortlisting.proofs.search.with_entry.Statement.{statement}
