@@ -7,7 +7,7 @@ use mathlib.Core.Bool.{Bool, cond}
 use Prim.Native.Nat.{ℕ, zero, suc, _+_, _/_, _%_, _^_, _<_, _≤_}
 use lib.Dec.{eqb}
 use lib.ListN.{length, getD}
-use Rattle.lists.specs.Lists.{table, allBelow}
+use Rattle.lists.specs.Lists.{tabulated, allBelow}
 use Rattle.grammar.specs.Look.{Word}
 use Rattle.nodes.specs.Texts.{saysAt, left}
 use Rattle.nodes.specs.declared.Char.{Char}
@@ -19,7 +19,7 @@ use Rattle.base64_reader.specs.declared.Group.the-variants.{Bytes, End, 
 
 -- the value of each byte, as it is lent
 unfoldable pub valuesLent : List ℕ
-valuesLent = table 256 worth
+valuesLent = tabulated 256 worth
 
 -- what is ahead of a place, without its blanks
 unfoldable pub lettersAt : List ℕ → ℕ → Word

@@ -8,7 +8,7 @@ use Prim.Native.Nat.{ℕ, zero, suc, _+_, _-_}
 use lib.Dec.{eqb}
 use lib.IntN.{pos}
 use lib.ListN.{length, getD, drop, replicate}
-use Rattle.lists.specs.Lists.{any, each, eachIn, table}
+use Rattle.lists.specs.Lists.{any, each, eachIn, tabulated}
 use Rattle.grammar.specs.Document.{Element}
 use Rattle.numbers.specs.Numbers.{noDecimal}
 use Rattle.records.specs.Record.{recordOf}
@@ -29,7 +29,7 @@ recordAt [] n = 0
 recordAt (m ∷ l) n = cond (covers n m) (getD (each recordOf (locations m)) (n - m .offset) 0) (recordAt l n)
 
 unfoldable pub stretch : Map → List ℕ
-stretch m = table (lengthOf m) (recordAt (m .models))
+stretch m = tabulated (lengthOf m) (recordAt (m .models))
 
 unfoldable pub stretches : List Map → List ℕ
 stretches l = eachIn stretch (brainMaps l)

@@ -18,7 +18,7 @@ use Rattle.numbers.specs.declared.Decimal.{Decimal}
 use Rattle.records.specs.Record.{Location, onSurface, inVolume}
 use Rattle.schema.specs.Schema.{Case, _⇒_}
 use Rattle.cifti.specs.LabelTable.{tableKeys}
-use Rattle.cifti.specs.Rows.{ElementKind, words, brainModels, series, scalars, labels}
+use Rattle.cifti.specs.Rows.{ElementKind, textLeaf, brainModels, series, scalars, labels}
 use Rattle.cifti.specs.Words.{structures, units, numberIn}
 use Rattle.cifti.specs.declared.answer.Kind.{Kind}
 use Rattle.cifti.specs.declared.answer.Kind.the-variants.{None, Brain, Series, Scalars, Labels}
@@ -127,7 +127,7 @@ kindPlace k = placeOf (kindNumber k)
 
 -- the kind of element that a map of the kind is
 unfoldable pub rowFor : Kind → ElementKind
-rowFor None = words
+rowFor None = textLeaf
 rowFor Brain = brainModels
 rowFor Series = series
 rowFor Scalars = scalars

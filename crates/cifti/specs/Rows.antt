@@ -8,9 +8,9 @@ use Rattle.schema.specs.Schema.{anyValue, word, number, AttributeRow, required,
 use Rattle.schema.specs.Schema.{neededBelow, Case, _⇒_, always, chosen, child, anyOrder, Row, branch, leaf}
 use Rattle.cifti.specs.Words.{structures, units, mostLength, mostVoxel}
 
--- the kinds of elements; `words` are those with any text, and nothing else: Name, Value, MapName
+-- the kinds of elements; `textLeaf` are those with any text, and nothing else: Name, Value, MapName
 pub data ElementKind : Type 0 where
-  cifti matrix metaData md words : ElementKind
+  cifti matrix metaData md textLeaf : ElementKind
   brainModels series scalars namedMap : ElementKind
   volume transform surface voxels vertexIndices voxelIndices : ElementKind
   labels labelledMap labelTable label : ElementKind
@@ -18,7 +18,7 @@ pub data ElementKind : Type 0 where
 -- all of them, each at its number
 unfoldable pub elementKinds : List ElementKind
 elementKinds =
-    cifti ∷ matrix ∷ metaData ∷ md ∷ words
+    cifti ∷ matrix ∷ metaData ∷ md ∷ textLeaf
     ∷ brainModels ∷ series ∷ scalars ∷ namedMap
     ∷ volume ∷ transform ∷ surface ∷ voxels ∷ vertexIndices ∷ voxelIndices
     ∷ labels ∷ labelledMap ∷ labelTable ∷ label
@@ -29,7 +29,7 @@ elementNumber cifti = 0
 elementNumber matrix = 1
 elementNumber metaData = 2
 elementNumber md = 3
-elementNumber words = 4
+elementNumber textLeaf = 4
 elementNumber brainModels = 5
 elementNumber series = 6
 elementNumber scalars = 7
@@ -51,7 +51,7 @@ at-number cifti = refl
 at-number matrix = refl
 at-number metaData = refl
 at-number md = refl
-at-number words = refl
+at-number textLeaf = refl
 at-number brainModels = refl
 at-number series = refl
 at-number scalars = refl
@@ -126,8 +126,8 @@ rows matrix = branch [] anyOrder
 rows metaData = branch [] anyOrder
     (child "MD" anyTimes (always md) ∷ [])
 rows md = branch [] anyOrder
-    (child "Name" once (always words) ∷ child "Value" once (always words) ∷ [])
-rows words = leaf [] anyText
+    (child "Name" once (always textLeaf) ∷ child "Value" once (always textLeaf) ∷ [])
+rows textLeaf = leaf [] anyText
 -- Volume is needed with any voxel model: such a model has a VoxelIndicesIJK, and nothing else has (`needed-with-voxels` of maps)
 rows brainModels = branch mapAttributes anyOrder
     (child "BrainModel" atLeastOnce (chosen "ModelType" modelTypes)
@@ -137,7 +137,7 @@ rows series = branch (mapAttributes ++ seriesAttributes) anyOrder []
 rows scalars = branch mapAttributes anyOrder
     (child "NamedMap" anyTimes (always namedMap) ∷ [])
 rows namedMap = branch [] anyOrder
-    (child "MapName" once (always words) ∷ child "MetaData" atMostOnce (always metaData) ∷ [])
+    (child "MapName" once (always textLeaf) ∷ child "MetaData" atMostOnce (always metaData) ∷ [])
 rows volume = branch
     (required "VolumeDimensions" (number (volumeDimensions mostLength mostLength mostLength)) ∷ []) anyOrder
     (child "TransformationMatrixVoxelIndicesIJKtoXYZ" once (always transform) ∷ [])
@@ -153,7 +153,7 @@ rows voxelIndices = leaf [] (numbers (wholes mostVoxel))
 rows labels = branch mapAttributes anyOrder
     (child "NamedMap" anyTimes (always labelledMap) ∷ [])
 rows labelledMap = branch [] anyOrder
-    (child "MapName" once (always words)
+    (child "MapName" once (always textLeaf)
     ∷ child "LabelTable" once (always labelTable)
     ∷ child "MetaData" atMostOnce (always metaData)
     ∷ [])

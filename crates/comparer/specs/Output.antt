@@ -5,7 +5,7 @@ use mathlib.Core.Bool.{cond}
 use Prim.Native.Nat.{ℕ, zero, suc, _+_, _-_}
 use lib.Dec.{ltb}
 use lib.ListN.{length, getD, take, drop}
-use Rattle.lists.specs.Lists.{table, eachIn}
+use Rattle.lists.specs.Lists.{tabulated, eachIn}
 use Rattle.grammar.specs.Bytes.{ascii}
 use Rattle.records.specs.Sheet.{countOf}
 use Rattle.comparison.specs.Compare.{recordsOf, compareRefusal}
@@ -32,7 +32,7 @@ lineAt a b n =
     (changeBytes (changeAt a b n) (n - length a) (getD b (n - length a) 0))
 
 unfoldable pub outputBytes : (a b : List ℕ) → List ℕ
-outputBytes a b = eachIn (lineAt a b) (table (length a + length b) (λ n. n))
+outputBytes a b = eachIn (lineAt a b) (tabulated (length a + length b) (λ n. n))
 
 -- a refusal, or the lines
 unfoldable pub refusalBytes : (number : ℕ) → List ℕ

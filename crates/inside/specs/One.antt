@@ -9,7 +9,7 @@ use Rattle.nodes.specs.Inside.{between-tags}
 use Rattle.nodes.specs.declared.Found.the-variants.{At}
 use Rattle.nodes.specs.declared.scan.Tag.{Tag}
 use Rattle.nodes.specs.declared.scan.Tag.the-variants.{Open, Bare, No}
-use Rattle.inside.specs.Way.{Step}
+use Rattle.inside.specs.Way.{WayStep}
 use Rattle.inside.specs.Walked.{wayAt}
 
 -- behind the start tag, or the only tag, of the element at a place; any bytes
@@ -23,7 +23,7 @@ tagEnd text k = behindTag (tagTold (length text) (tag-at (drop k text)))
 
 -- the place of the way, by places: the walk finds an element there, its start tag ends where the part starts, and the part is
 -- within it
-pub record Met (way : List Step) (part text : List ℕ) (start : ℕ) : Type 0 where
+pub record Met (way : List WayStep) (part text : List ℕ) (start : ℕ) : Type 0 where
   pub at : ℕ
   pub finds : wayAt way text ≡ At at
   pub starts : start ≡ tagEnd text at

@@ -12,7 +12,7 @@ use Rattle.nodes.specs.declared.Kid.{Kid}
 use Rattle.nodes.specs.declared.Kid.the-variants.{Child, Done}
 use Rattle.nodes.specs.declared.Found.{Found}
 use Rattle.nodes.specs.declared.Found.the-variants.{At, Nothing}
-use Rattle.inside.specs.Way.{Step, step}
+use Rattle.inside.specs.Way.{WayStep, step}
 
 -- the places of the children from a cursor on, one behind the other
 unfoldable pub placesWithin : ℕ → List ℕ → Kid → List ℕ
@@ -38,14 +38,14 @@ unfoldable pub thence : (ℕ → Found) → Found → Found
 thence f Nothing = Nothing
 thence f (At k) = f k
 
-unfoldable pub walked : List Step → List ℕ → ℕ → Found
+unfoldable pub walked : List WayStep → List ℕ → ℕ → Found
 walked [] text at = At at
 walked (step p n ∷ way) text at = thence (walked way text) (childAt (λ k. p (the text k)) n text at)
 
-unfoldable pub walkedFrom : List Step → List ℕ → Kid → Found
+unfoldable pub walkedFrom : List WayStep → List ℕ → Kid → Found
 walkedFrom way text Done = Nothing
 walkedFrom way text (Child r) = walked way text r
 
 -- from the root
-unfoldable pub wayAt : List Step → List ℕ → Found
+unfoldable pub wayAt : List WayStep → List ℕ → Found
 wayAt way text = walkedFrom way text (root text)

@@ -1,5 +1,5 @@
 -- WAYS TO AN ELEMENT: a way is a list of steps, and a step goes to the n-th, from 0, of the children that pass a test.
--- `reached` says what a way leads to in a document; `Place` says where that stands in a text, by the grammar.
+-- `reached` says what a way leads to in a document; `WayPlace` says where that stands in a text, by the grammar.
 use mathlib.Core.Path.{_≡_}
 use mathlib.Core.List.{List, [], _∷_}
 use mathlib.Core.Option.{Option, some}
@@ -13,8 +13,8 @@ use Rattle.grammar.specs.Document.{Attribute, Element, Contents}
 use Rattle.grammar.specs.Grammar.{Name, Attributes, WritesElement, WritesContents, Declaration, Aside, Prologue}
 use Rattle.grammar.specs.Look.{contentsOf, withinOf, elements}
 
-pub data Step : Type 0 where
-  step : (test : Element → Bool) (n : ℕ) → Step
+pub data WayStep : Type 0 where
+  step : (test : Element → Bool) (n : ℕ) → WayStep
 
 -- ---- In a document.
 
@@ -30,7 +30,7 @@ onward f Option.none = Option.none
 onward f (some a) = f a
 
 -- what a way leads to from an element
-unfoldable pub reached : List Step → Element → Option Element
+unfoldable pub reached : List WayStep → Element → Option Element
 reached [] e = some e
 reached (step p n ∷ way) e = onward (reached way) (nth n (those p (elements (contentsOf e))))
 
@@ -45,9 +45,9 @@ pub data OnlyTag : List ℕ → Type 0 where
 
 -- `w` writes an element; the way leads from it to the element `x`, which `s` writes, and `before` stands before that in `w`:
 -- a start tag, contents in which n children pass the test, and then, in the child behind them, which passes, what stands before `x` there
-pub data Leads : List Step → ℕ → Element → (w before : List ℕ) → Element → (s : List ℕ) → Type 0 where
+pub data Leads : List WayStep → ℕ → Element → (w before : List ℕ) → Element → (s : List ℕ) → Type 0 where
   here : {d : ℕ} {e : Element} {w : List ℕ} → WritesElement d e w → Leads [] d e w [] e w
-  down : {p : Element → Bool} {way : List Step} {d : ℕ} {e y x : Element} {tag a v before s : List ℕ} {c : Contents} (rest : List ℕ)
+  down : {p : Element → Bool} {way : List WayStep} {d : ℕ} {e y x : Element} {tag a v before s : List ℕ} {c : Contents} (rest : List ℕ)
       → WritesElement (suc d) e (tag ⊹ a ⊹ v ⊹ rest) → StartTag tag → WritesContents d c a → p y ≡ true → Leads way d y v before x s
       → Leads (step p (count p (elements c)) ∷ way) (suc d) e (tag ⊹ a ⊹ v ⊹ rest) (tag ⊹ a ⊹ before) x s
 
@@ -58,10 +58,10 @@ pub data Tagged (part : List ℕ) : (tag s : List ℕ) → Type 0 where
 
 -- THE PLACE that the way leads to from the root: `part` is what stands between the tags there,
 -- and it starts behind the start tag, or the only tag
-pub data Place (way : List Step) (part : List ℕ) : List ℕ → ℕ → Type 0 where
+pub data WayPlace (way : List WayStep) (part : List ℕ) : List ℕ → ℕ → Type 0 where
   place : {p u w v before tag s : List ℕ} {cs : List (List ℕ)} {e x : Element}
       → Declaration p → Prologue u → Leads way 16 e w before x s → Sequence Aside cs v → withinOf x ≡ part → Tagged part tag s
-      → Place way part (p ⊹ u ⊹ w ⊹ v) (length (p ⊹ u ⊹ before ⊹ tag))
+      → WayPlace way part (p ⊹ u ⊹ w ⊹ v) (length (p ⊹ u ⊹ before ⊹ tag))
 
 unfoldable pub ways : Unit {0}
 unfolding nth onward reached

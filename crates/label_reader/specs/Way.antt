@@ -8,17 +8,17 @@ use Rattle.grammar.specs.Document.{Element}
 use Rattle.grammar.specs.Look.{is, nameOf}
 use Rattle.numbers.specs.Numbers.{sameKey}
 use Rattle.cifti.specs.LabelTable.{labelKey}
-use Rattle.inside.specs.Way.{Step, step}
+use Rattle.inside.specs.Way.{WayStep, step}
 use Rattle.map_names.specs.Way.{wayInMap}
 
-unfoldable pub tableWay : (dimension index : ℕ) → List Step
+unfoldable pub tableWay : (dimension index : ℕ) → List WayStep
 tableWay d i = wayInMap "LabelTable" d i
 
 unfoldable pub labelOf : (key : ℤ) → Element → Bool
 labelOf k e = is "Label" (nameOf e) && sameKey k (labelKey e)
 
-unfoldable pub toLabel : (key : ℤ) → List Step
+unfoldable pub toLabel : (key : ℤ) → List WayStep
 toLabel k = step (labelOf k) 0 ∷ []
 
-unfoldable pub labelWay : (dimension index : ℕ) (key : ℤ) → List Step
+unfoldable pub labelWay : (dimension index : ℕ) (key : ℤ) → List WayStep
 labelWay d i k = tableWay d i ++ toLabel k

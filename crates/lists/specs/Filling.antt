@@ -9,7 +9,7 @@ use native.Mathlib.Omega.{arith}
 use lib.ListN.{length, getD, take, drop, length-append, length-drop, List·getD-append}
 use lib.Seq.{ext-getD, getD-append-add, getD-take, getD-drop, length-take-le}
 use Rattle.lists.specs.Laws.Booleans.{both-ways}
-use Rattle.lists.specs.Lists.{table, count}
+use Rattle.lists.specs.Lists.{tabulated, count}
 use Rattle.lists.specs.Laws.Tables.{size-of-table, entry-of-table}
 use Rattle.lists.specs.Ranges.{holds, holds-is, holds-yes, OnceBelow}
 
@@ -150,31 +150,31 @@ module _ {A : Type 0} (offset size : A → ℕ) (f : A → List ℕ) where
 
     -- THE LAW: all written one after the other are the table by index
     pub filled-law : (l : List A) (s : List ℕ) → Fitting whole l → start + whole ≤ length s → OnceBelow offset size l whole
-        → filled start l s ≡ wrote start (table whole (entryAt l)) s
+        → filled start l s ≡ wrote start (tabulated whole (entryAt l)) s
     filled-law l s fit h once =
-        ext-getD 0 (filled start l s) (wrote start (table whole (entryAt l)) s) long
+        ext-getD 0 (filled start l s) (wrote start (tabulated whole (entryAt l)) s) long
         (λ p u. place p (decLt p start) (decLt p (start + whole)))
       where
-        tl : length (table whole (entryAt l)) ≡ whole
+        tl : length (tabulated whole (entryAt l)) ≡ whole
         tl = size-of-table (entryAt l) whole
 
-        fits : start + length (table whole (entryAt l)) ≤ length s
+        fits : start + length (tabulated whole (entryAt l)) ≤ length s
         fits = omega (arith, tl)
 
-        long : length (filled start l s) ≡ length (wrote start (table whole (entryAt l)) s)
-        long = filled-length l s fit h ∙ sym (wrote-length start (table whole (entryAt l)) s fits)
+        long : length (filled start l s) ≡ length (wrote start (tabulated whole (entryAt l)) s)
+        long = filled-length l s fit h ∙ sym (wrote-length start (tabulated whole (entryAt l)) s fits)
 
         place : (p : ℕ) → Dec (p < start) → Dec (p < start + whole)
-            → getD (filled start l s) p 0 ≡ getD (wrote start (table whole (entryAt l)) s) p 0
-        place p (yes x) y = filled-low l s fit h p x ∙ sym (wrote-before start (table whole (entryAt l)) s fits p x)
+            → getD (filled start l s) p 0 ≡ getD (wrote start (tabulated whole (entryAt l)) s) p 0
+        place p (yes x) y = filled-low l s fit h p x ∙ sym (wrote-before start (tabulated whole (entryAt l)) s fits p x)
         place p (no x) (no y) =
-            filled-out l s fit h p x (omega arith) ∙ sym (wrote-past start (table whole (entryAt l)) s fits p (omega (arith, tl)))
+            filled-out l s fit h p x (omega arith) ∙ sym (wrote-past start (tabulated whole (entryAt l)) s fits p (omega (arith, tl)))
         place p (no x) (yes y) =
             let n : ℕ = p - start in
             let e : p ≡ start + n = omega arith in
-            let small : n < length (table whole (entryAt l)) = omega (arith, tl) in
+            let small : n < length (tabulated whole (entryAt l)) = omega (arith, tl) in
             ap (λ i. getD (filled start l s) i 0) e
             ∙ filled-one l s fit h n (once n (omega arith))
             ∙ sym (entry-of-table (entryAt l) 0 whole n (omega arith))
-            ∙ sym (wrote-in start (table whole (entryAt l)) s fits n small)
-            ∙ ap (λ i. getD (wrote start (table whole (entryAt l)) s) i 0) (sym e)
+            ∙ sym (wrote-in start (tabulated whole (entryAt l)) s fits n small)
+            ∙ ap (λ i. getD (wrote start (tabulated whole (entryAt l)) s) i 0) (sym e)

@@ -10,7 +10,7 @@ use Rattle.grammar.specs.Document.{Element}
 use Rattle.grammar.specs.Look.{is, nameOf, attr}
 use Rattle.numbers.specs.Numbers.{dimensionList}
 use Rattle.cifti.specs.Maps.{dimensionsOf}
-use Rattle.inside.specs.Way.{Step, step}
+use Rattle.inside.specs.Way.{WayStep, step}
 
 unfoldable pub ofName : String → Element → Bool
 ofName s e = is s (nameOf e)
@@ -22,17 +22,17 @@ listsDimension d e = dimensionList (attr "AppliesToMatrixDimension" e) && any (e
 unfoldable pub mapThatLists : (dimension : ℕ) → Element → Bool
 mapThatLists d e = is "MatrixIndicesMap" (nameOf e) && listsDimension d e
 
-unfoldable pub mapWay : (dimension : ℕ) → List Step
+unfoldable pub mapWay : (dimension : ℕ) → List WayStep
 mapWay d = step (ofName "Matrix") 0 ∷ step (mapThatLists d) 0 ∷ []
 
 -- the first child of a name, in the NamedMap of the index
-unfoldable pub inMap : (name : String) (index : ℕ) → List Step
+unfoldable pub inMap : (name : String) (index : ℕ) → List WayStep
 inMap s i = step (ofName "NamedMap") i ∷ step (ofName s) 0 ∷ []
 
-unfoldable pub wayInMap : (name : String) (dimension index : ℕ) → List Step
+unfoldable pub wayInMap : (name : String) (dimension index : ℕ) → List WayStep
 wayInMap s d i = step (ofName "Matrix") 0 ∷ step (mapThatLists d) 0 ∷ inMap s i
 
-unfoldable pub nameWay : (dimension index : ℕ) → List Step
+unfoldable pub nameWay : (dimension index : ℕ) → List WayStep
 nameWay d i = wayInMap "MapName" d i
 
 unfoldable pub nameWays : Unit {0}

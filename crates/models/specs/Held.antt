@@ -2,7 +2,7 @@
 use mathlib.Core.List.{List}
 use Prim.Native.Nat.{ℕ, _<_}
 use lib.ListN.{getD}
-use Rattle.lists.specs.Lists.{table, count}
+use Rattle.lists.specs.Lists.{tabulated, count}
 use Rattle.lists.specs.Ranges.{holds}
 use Rattle.nodes.specs.Places.{the}
 use Rattle.cifti.specs.Maps.{Model, modelOf}
@@ -24,4 +24,4 @@ unfoldable pub heldModel : List ℕ → Models → ℕ → Model
 heldModel text m i = modelOf (the text (getD (m .at) i 0))
 
 unfoldable pub modelsAt : List ℕ → Models → List Model
-modelsAt text m = table (m .count) (heldModel text m)
+modelsAt text m = tabulated (m .count) (heldModel text m)

@@ -6,7 +6,7 @@ use mathlib.Core.Bool.{cond}
 use Prim.Native.Nat.{ℕ, _<_, _≤_}
 use lib.Dec.{ltb}
 use lib.ListN.{getD}
-use Rattle.lists.specs.Lists.{table}
+use Rattle.lists.specs.Lists.{tabulated}
 use Rattle.lists.specs.Ranges.{Range}
 use Rattle.models.specs.Gathered.{Sized}
 use Rattle.models.specs.declared.gather.Models.{Models}
@@ -18,7 +18,7 @@ unfoldable pub rangeOf : Models → ℕ → Range
 rangeOf m i = ranging (getD (m .offset) i 0) (getD (m .length) i 0)
 
 unfoldable pub rangesOf : Models → List Range
-rangesOf m = table (m .count) (rangeOf m)
+rangesOf m = tabulated (m .count) (rangeOf m)
 
 -- each length is one that condition 7 lets pass
 pub record Ranged (m : Models) : Type 0 where

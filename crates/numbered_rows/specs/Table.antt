@@ -1,5 +1,5 @@
--- The one table, CIFTI's kinds and behind them GIFTI's, as numbers and letters, as the code lays them out; `Table` of schema says how such a
--- table is read, and `Laws/Agree` and `Laws/Arrays` that it is that of the papers.
+-- The one table, CIFTI's kinds and behind them GIFTI's, as numbers and letters, as the code lays them out; `Table` of schema says how such
+-- a table is read, and `Laws/Agree` and `Laws/Arrays` that it is that of the papers.
 use mathlib.Core.List.{List, [], _∷_, _++_}
 use Prim.Native.Nat.{ℕ, _+_}
 use Prim.Native.String.{String}

@@ -5,7 +5,7 @@ use mathlib.Core.List.{List, [], _∷_}
 use Prim.Native.Nat.{ℕ, _+_, _*_, _/_, _%_}
 use lib.Dec.{eqb, leb}
 use lib.ListN.{length, getD}
-use Rattle.lists.specs.Lists.{allBelow, eachIn, table}
+use Rattle.lists.specs.Lists.{allBelow, eachIn, tabulated}
 use Rattle.records.specs.Fill.{wrote}
 use Rattle.records.specs.Outcome.{unless, outcome}
 use Rattle.records.specs.declared.outcome.Outcome.{Outcome}
@@ -35,7 +35,7 @@ modelIn l i = record {
 }
 
 unfoldable pub modelsIn : List ℕ → List Model
-modelsIn l = table (length l / 4) (modelIn l)
+modelsIn l = tabulated (length l / 4) (modelIn l)
 
 -- whole models, and no type above 1
 unfoldable pub goodNumbers : List ℕ → Bool

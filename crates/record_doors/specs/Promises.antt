@@ -5,12 +5,12 @@ use mathlib.Core.List.{List, [], _∷_}
 use Prim.Native.Nat.{ℕ}
 use Rattle.records.specs.Find.{Finds}
 use Rattle.records.specs.Sheet.{Packs, Unpacks}
-use Rattle.records.specs.declared.search.Found.{Found}
+use Rattle.records.specs.declared.search.RecordFound.{RecordFound}
 use Rattle.records.specs.declared.outcome.Outcome.{Outcome}
 use Rattle.flat.specs.Flat.{laidOver}
 
 pub record FindsFlat (records : List ℕ) (x : ℕ) (slice : List ℕ) (number : ℕ) (sliceAfter : List ℕ) : Type 0 where
-  pub answer : Found
+  pub answer : RecordFound
   pub finds : Finds records x answer
   pub numbered : number ≡ answer .number
   pub flat : sliceAfter ≡ laidOver (answer .place .0 ∷ []) slice

@@ -7,7 +7,7 @@ ghost use mathlib.Core.Path.{_≡_};
 ghost use mathlib.Core.Bool.{cond};
 ghost use Prim.Native.Nat.{_*_, _≤_, _<_};
 ghost use lib.ListN.{length};
-ghost use Rattle.lists.specs.Lists.{table};
+ghost use Rattle.lists.specs.Lists.{tabulated};
 ghost use Rattle.records.specs.Fill.{wrote};
 ghost use Rattle.shortlist.specs.Made.{modelAt};
 ghost use Rattle.record_doors.specs.Numbers.{four, numbersOf, ListsNumbers};
@@ -39,7 +39,7 @@ fn row_of(made: Made, i: usize) -> [u64; 4]
 // The runs, four numbers each.
 fn put_models(list: &mut [u64], made: Made)
     requires { ⌜ (4 * made .count ≤ length (now list)) × (made .count ≤ 64) ⌝ }
-    ensures { λ _. ⌜ now (list .exit) ≡ wrote 0 (numbersOf (table (made .count) (modelAt made))) (now (list .entry)) ⌝ }
+    ensures { λ _. ⌜ now (list .exit) ≡ wrote 0 (numbersOf (tabulated (made .count) (modelAt made))) (now (list .entry)) ⌝ }
 {
     let mut i = 0;
     while i < made.count {

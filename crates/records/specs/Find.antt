@@ -7,7 +7,7 @@ use lib.Dec.{eqb}
 use lib.ListN.{length, getD}
 use Rattle.lists.specs.Lists.{any}
 use Rattle.lists.specs.Refusals.{_when_, first}
-use Rattle.records.specs.declared.search.Found.{Found}
+use Rattle.records.specs.declared.search.RecordFound.{RecordFound}
 
 -- the number stands at no place below n
 abbrev pub AbsentBelow : ℕ → List ℕ → ℕ → Type 0
@@ -24,7 +24,7 @@ unfoldable pub findRefusal : List ℕ → ℕ → ℕ
 findRefusal rs x = first (19 when not (any (eqb x) rs) ∷ [])
 
 -- what `find` promises
-pub record Finds (rs : List ℕ) (x : ℕ) (answer : Found) : Type 0 where
+pub record Finds (rs : List ℕ) (x : ℕ) (answer : RecordFound) : Type 0 where
   pub numbered : answer .number ≡ findRefusal rs x
   pub found : answer .number ≡ 0 → FirstPlace rs x (answer .place .0)
   pub refused : (answer .number ≡ 0 → ⊥) → answer .place .0 ≡ 0

@@ -13,4 +13,4 @@ pub use counters::Index;
 pub use counters::Place;
 pub use counters::Vertex;
 pub use outcome::Outcome;
-pub use search::Found;
+pub use search::RecordFound;

@@ -5,7 +5,7 @@ use mathlib.Core.List.{List, [], _∷_}
 use Prim.Native.Nat.{ℕ, zero, suc, _+_, _%_, _≤_, _<_}
 use lib.Dec.{eqb, leb}
 use lib.ListN.{getD, set, length, replicate}
-use Rattle.lists.specs.Lists.{all, table}
+use Rattle.lists.specs.Lists.{all, tabulated}
 use Rattle.lists.specs.Refusals.{_when_, first}
 use Rattle.records.specs.Record.{legalRecord}
 use Rattle.shortlist.specs.Runs.{kindOf, runs, comesBack}
@@ -57,14 +57,14 @@ pub record RunEnd (rs : List ℕ) (from kind to : ℕ) : Type 0 where
 -- the runs of the records, or the refusal 16 or 26 and none
 pub record RunsOf (rs : List ℕ) (made : Made) : Type 0 where
   pub numbered : made .number ≡ first (16 when not (all legalRecord rs) ∷ 26 when comesBack rs ∷ [])
-  pub holding : made .number ≡ 0 → table (made .count) (modelAt made) ≡ runs rs
+  pub holding : made .number ≡ 0 → tabulated (made .count) (modelAt made) ≡ runs rs
   pub none : (made .number ≡ 0 → ⊥) → made .count ≡ 0
   pub few : made .count ≤ 64
 
 -- the runs of the records in so many places, or the refusal and none
 pub record MadeOf (rs : List ℕ) (room : ℕ) (made : Made) : Type 0 where
   pub numbered : made .number ≡ listRefusal rs room
-  pub holding : made .number ≡ 0 → table (made .count) (modelAt made) ≡ runs rs
+  pub holding : made .number ≡ 0 → tabulated (made .count) (modelAt made) ≡ runs rs
   pub none : (made .number ≡ 0 → ⊥) → made .count ≡ 0
   pub few : made .count ≤ 64
   pub fit : made .count ≤ room

@@ -10,7 +10,7 @@ use native.Mathlib.Omega.{arith}
 use lib.Dec.{eqb}
 use lib.ListN.{length, getD, List·getD-append}
 use lib.Seq.{getD-append-add}
-use Rattle.lists.specs.Lists.{any, total, eachIn, those, countUp, table}
+use Rattle.lists.specs.Lists.{any, total, eachIn, those, countUp, tabulated}
 use Rattle.cifti.specs.Maps.{Map, brainMaps, lengthOf, isBrain, isSeries}
 use Rattle.cifti.specs.Answer.{recordAt, stretch, stretches, noSeries, asSeries, described, reach, dimensionAt}
 use Rattle.cifti.specs.declared.answer.Kind.{Kind}
@@ -92,11 +92,11 @@ up-at f i (suc n) zero u = ap f (omega arith)
 up-at f i (suc n) (suc j) u = let e : suc i + j ≡ i + suc j = omega arith in up-at f (suc i) n j (le-of-suc-le-suc u) ∙ ap f e
 
 pub stretch-length : (m : Map) → length (stretch m) ≡ lengthOf m
-unfolding stretch table
+unfolding stretch tabulated
 stretch-length m = up-length (recordAt (m .models)) 0 (lengthOf m)
 
 pub stretch-at : (m : Map) (n : ℕ) → n < lengthOf m → getD (stretch m) n 0 ≡ recordAt (m .models) n
-unfolding stretch table
+unfolding stretch tabulated
 stretch-at m n u = let e : 0 + n ≡ n = omega arith in up-at (recordAt (m .models)) 0 (lengthOf m) n u ∙ ap (recordAt (m .models)) e
 
 -- the stretch of a brain map stands where the answer says, among all stretches

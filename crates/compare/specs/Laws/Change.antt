@@ -13,7 +13,7 @@ use Rattle.records.specs.Find.{Finds, findRefusal}
 use Rattle.records.specs.Width.{widthSaid}
 use Rattle.records.specs.Sheet.{countOf}
 use Rattle.records.specs.Laws.Computed.{count-three}
-use Rattle.records.specs.declared.search.Found.{Found}
+use Rattle.records.specs.declared.search.RecordFound.{RecordFound}
 use Rattle.comparison.specs.Compare.{hasRecord, hasAt, sameAt}
 use Rattle.compare.specs.declared.changes.Change.the-variants.{Same, Moved, First, Second}
 use Rattle.compare.specs.Change.{ofFirst, ofSecond, changeAt, endSaid, firstEnd}
@@ -26,7 +26,7 @@ pub at-outside : (l : List ℕ) (i x : ℕ) → length l ≤ i → false ≡ has
 unfolding hasAt
 at-outside l i x h = rw (le-ltb i (length l) h) refl
 
-pub found-has : (l : List ℕ) (x : ℕ) (f : Found) → Finds l x f → eqb (f .number) 0 ≡ hasRecord l x
+pub found-has : (l : List ℕ) (x : ℕ) (f : RecordFound) → Finds l x f → eqb (f .number) 0 ≡ hasRecord l x
 unfolding findRefusal hasRecord first
 found-has l x f h = ap (λ (n : ℕ). eqb n 0) (h .numbered) ∙ go (any (eqb x) l)
   where

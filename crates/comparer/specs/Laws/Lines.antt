@@ -9,7 +9,7 @@ use borrow.Author.Tests.{ne-eqb, le-leb}
 use lib.Dec.{eqb, ltb}
 use native.Mathlib.Numerals.{add-one}
 use lib.ListN.{length, getD, length-append}
-use Rattle.lists.specs.Lists.{count, countUp, table, eachIn}
+use Rattle.lists.specs.Lists.{count, countUp, tabulated, eachIn}
 use Rattle.lists.specs.Laws.Lists.{count-append}
 use Rattle.grammar.specs.Bytes.{ascii}
 use Rattle.grammar.specs.Look.{Word}
@@ -65,13 +65,13 @@ row-same f g i j (suc n) h =
 
 module _ (a b : List ℕ) where
   output-row : outputBytes a b ≡ inRow (lineAt a b) 0 (length a + length b)
-  unfolding outputBytes inRow table
+  unfolding outputBytes inRow tabulated
   output-row = refl
 
   pub first-then-second : outputBytes a b
-      ≡ eachIn (λ i. changeBytes (changeAt a b i) i (getD a i 0)) (table (length a) (λ i. i))
-      ++ eachIn (λ j. changeBytes (changeAt a b (length a + j)) j (getD b j 0)) (table (length b) (λ j. j))
-  unfolding inRow table
+      ≡ eachIn (λ i. changeBytes (changeAt a b i) i (getD a i 0)) (tabulated (length a) (λ i. i))
+      ++ eachIn (λ j. changeBytes (changeAt a b (length a + j)) j (getD b j 0)) (tabulated (length b) (λ j. j))
+  unfolding inRow tabulated
   first-then-second =
       output-row ∙ row-parts (lineAt a b) 0 (length a) (length b)
       ∙ rw (

@@ -26,7 +26,7 @@ use Rattle.nodes.specs.Laws.Children.{kid-step, kid-look, next-read, elements-j
 use Rattle.nodes.specs.declared.Kid.{Kid}
 use Rattle.nodes.specs.declared.Kid.the-variants.{Child}
 use Rattle.nodes.specs.declared.Found.the-variants.{At}
-use Rattle.inside.specs.Way.{Step, step, StartTag, start-tag, OnlyTag, only-tag, Leads, here, down}
+use Rattle.inside.specs.Way.{WayStep, step, StartTag, start-tag, OnlyTag, only-tag, Leads, here, down}
 use Rattle.inside.specs.Laws.Written.{element-reads, element-opens}
 use Rattle.inside.specs.Walked.{placesWithin, placesFrom, nthPlace, childAt, thence, walked}
 
@@ -143,12 +143,12 @@ only-read (only-tag {n} {t} {u} nm at hu) r =
     simp append-assoc (tag-name nm (t ++ (u ++ (47 ∷ 62 ∷ r))) ∙ tag-attributes at (u ++ (47 ∷ 62 ∷ r))
     ∙ tag-blanks hu (47 ∷ 62 ∷ r) ∙ tag-bare r)
 
-pub leads-writes : {way : List Step} {d : ℕ} {e x : Element} {w before s : List ℕ} → Leads way d e w before x s → WritesElement d e w
+pub leads-writes : {way : List WayStep} {d : ℕ} {e x : Element} {w before s : List ℕ} → Leads way d e w before x s → WritesElement d e w
 leads-writes (here h) = h
 leads-writes (down rest h tg c y k) = h
 
 -- the walk from a place finds the element, which is as far behind as what stands before it is long
-pub record Ends (way : List Step) (text : List ℕ) (at : ℕ) (before s : List ℕ) (x : Element) : Type 0 where
+pub record Ends (way : List WayStep) (text : List ℕ) (at : ℕ) (before s : List ℕ) (x : Element) : Type 0 where
   pub rest : List ℕ
   pub tail : Tail text (s ++ rest)
   pub reads : element₁₆ (s ++ rest) ≡ got x rest
@@ -159,7 +159,7 @@ first-at : (text : List ℕ) (at : ℕ) (tag r : List ℕ) → StartTag tag → 
 unfolding firstChild first-by
 first-at text at tag r tg e = rw (e, start-read tg r)
 
-step-down : (text : List ℕ) (p : Element → Bool) (n : ℕ) (way : List Step) (at k : ℕ) → childAt (λ j. p (the text j)) n text at ≡ At k
+step-down : (text : List ℕ) (p : Element → Bool) (n : ℕ) (way : List WayStep) (at k : ℕ) → childAt (λ j. p (the text j)) n text at ≡ At k
     → walked (step p n ∷ way) text at ≡ walked way text k
 unfolding walked thence
 step-down text p n way at k e = rw e
@@ -176,7 +176,7 @@ child-found text p {d} {c} {y} {tag} {a} {v} r at deep tg wc ok wy e t =
     (passes text p wc .finds deep (suc (length text)) (v ++ r) (omega (arith, t .fits)) t (at-child (length text) wy r)
     (ap p (here .is) ∙ ok))
 
-pub along : (text : List ℕ) {way : List Step} {d : ℕ} {e x : Element} {w before s : List ℕ} → Leads way d e w before x s → d ≤ 16
+pub along : (text : List ℕ) {way : List WayStep} {d : ℕ} {e x : Element} {w before s : List ℕ} → Leads way d e w before x s → d ≤ 16
     → (r : List ℕ) → Tail text (w ++ r)
     → Ends way text (length text - length (w ++ r)) before s x
 unfolding walked

@@ -22,7 +22,7 @@ use Rattle.nodes.specs.Laws.Inside.{within-law}
 use Rattle.nodes.specs.Laws.ReadSteps.{eats-child}
 use Rattle.nodes.specs.declared.Found.{Found}
 use Rattle.nodes.specs.declared.Found.the-variants.{At}
-use Rattle.inside.specs.Way.{Step, reached, Leads, here, down, Tagged, between, nothing-between, Place, place}
+use Rattle.inside.specs.Way.{WayStep, reached, Leads, here, down, Tagged, between, nothing-between, WayPlace, place}
 use Rattle.inside.specs.Laws.Written.{element-opens, before-reads}
 use Rattle.inside.specs.Walked.{walked, walkedFrom, wayAt}
 use Rattle.inside.specs.Laws.Walked.{Agrees, not-there, stands-there, way-agrees}
@@ -42,13 +42,13 @@ tag-ends (nothing-between {tag} h q) text k r e n =
     let m : length (tag ++ r) ≡ length tag + length r = length-append tag r in
     rw (e, only-read h r) (omega arith)
 
-root-at : {p u w : List ℕ} {way : List Step} {d : ℕ} {e x : Element} {before s : List ℕ} → Declaration p → Prologue u
+root-at : {p u w : List ℕ} {way : List WayStep} {d : ℕ} {e x : Element} {before s : List ℕ} → Declaration p → Prologue u
     → Leads way d e w before x s → (v : List ℕ)
     → wayAt way (p ++ (u ++ (w ++ v))) ≡ walked way (p ++ (u ++ (w ++ v))) (length (p ++ (u ++ (w ++ v))) - length (w ++ v))
 unfolding wayAt walkedFrom root root-by
 root-at h k l v = rw (before-reads h k (element-opens (leads-writes l)) v)
 
-pub place-met : {way : List Step} {part text : List ℕ} {start : ℕ} → Place way part text start → Met way part text start
+pub place-met : {way : List WayStep} {part text : List ℕ} {start : ℕ} → WayPlace way part text start → Met way part text start
 place-met {way} {part} (place {p} {u} {w} {v} {before} {tag} {s} {cs} {e} {x} h k l z q g) =
     let text : List ℕ = p ++ (u ++ (w ++ v)) in
     let t : Tail text (w ++ v) = tail-more u (w ++ v) refl (tail-more p (u ++ (w ++ v)) refl (whole-tail text)) in
@@ -74,8 +74,8 @@ place-met {way} {part} (place {p} {u} {w} {v} {before} {tag} {s} {cs} {e} {x} h 
     }
 
 -- AT MOST ONE PLACE
-pub place-unique : {way : List Step} {part part₁ text : List ℕ} {start start₁ : ℕ} → Place way part text start
-    → Place way part₁ text start₁ → (start ≡ start₁) × (part ≡ part₁)
+pub place-unique : {way : List WayStep} {part part₁ text : List ℕ} {start start₁ : ℕ} → WayPlace way part text start
+    → WayPlace way part₁ text start₁ → (start ≡ start₁) × (part ≡ part₁)
 place-unique {text = text} a b =
     let p = place-met a in
     let q = place-met b in
@@ -86,7 +86,7 @@ place-unique {text = text} a b =
 
 -- ---- The text is what stands before, the tag, the part, and the rest.
 
-leads-whole : {way : List Step} {d : ℕ} {e x : Element} {w before s : List ℕ} → Leads way d e w before x s
+leads-whole : {way : List WayStep} {d : ℕ} {e x : Element} {w before s : List ℕ} → Leads way d e w before x s
     → (after : List ℕ) × (w ≡ before ++ (s ++ after))
 leads-whole (here {w = w} h) = ([], sym (append-nil w))
 leads-whole (down {tag = tag} {a} {v} {before} {s} rest h tg c y k) =
@@ -103,7 +103,7 @@ cut before part rest text e =
     length-append before (part ++ rest) ∙ ap (λ i. length before + i) (length-append part rest) in
     rw e (record { inside = omega arith; is = rw (drop-append-seam before (part ++ rest)) (take-append-seam part rest) })
 
-pub place-cut : {way : List Step} {part text : List ℕ} {start : ℕ} → Place way part text start → PartStands text start part
+pub place-cut : {way : List WayStep} {part text : List ℕ} {start : ℕ} → WayPlace way part text start → PartStands text start part
 place-cut {part = part} (place {p} {u} {w} {v} {before} {tag} {s} h k l z q g) =
     let (after, a) = leads-whole l in
     let (rest, b) = tagged-whole g in
@@ -112,20 +112,20 @@ place-cut {part = part} (place {p} {u} {w} {v} {before} {tag} {s} h k l z q g) =
 
 -- THE WALK FINDS THE PLACE: what the way reaches in the document of a text has its place behind the tag of the element that the walk
 -- finds
-pub place-found : (way : List Step) {text : List ℕ} {e : Element} {k : ℕ} → parse text ≡ some e → wayAt way text ≡ At k
-    → Place way (between-tags text k) text (tagEnd text k)
+pub place-found : (way : List WayStep) {text : List ℕ} {e : Element} {k : ℕ} → parse text ≡ some e → wayAt way text ≡ At k
+    → WayPlace way (between-tags text k) text (tagEnd text k)
 place-found way {text} {e} {k} h f = by (way-agrees way text h) refl refl
   where
-    at-place : {x : Element} → reached way e ≡ some x → Place way (between-tags text k) text (tagEnd text k)
+    at-place : {x : Element} → reached way e ≡ some x → WayPlace way (between-tags text k) text (tagEnd text k)
     at-place q =
         let (start, pl) = there way h q in
         let m = place-met pl in
         let g = m .finds in
         let z : m .at ≡ k = cc in
-        subst (λ (n : ℕ). Place way (between-tags text k) text n) (m .starts ∙ ap (tagEnd text) z)
-        (subst (λ (l : List ℕ). Place way l text start) (m .within-is ∙ ap (between-tags text) z) pl)
+        subst (λ (n : ℕ). WayPlace way (between-tags text k) text n) (m .starts ∙ ap (tagEnd text) z)
+        (subst (λ (l : List ℕ). WayPlace way l text start) (m .within-is ∙ ap (between-tags text) z) pl)
 
     by : {r : Found} {o : Option Element} → Agrees text r o → wayAt way text ≡ r → reached way e ≡ o
-        → Place way (between-tags text k) text (tagEnd text k)
+        → WayPlace way (between-tags text k) text (tagEnd text k)
     by not-there p q = clash (cc)
     by (stands-there st) p q = at-place q

@@ -17,8 +17,8 @@ use Rattle.grammar.specs.Look.{contentsOf, withinOf, elements}
 use Rattle.grammar.specs.Parser.{parse}
 use Rattle.grammar.specs.Laws.Sound.{begins-less, parted-less}
 use Rattle.grammar.specs.Laws.SoundElements.{parse-sound}
-use Rattle.inside.specs.Way.{Step, step, nth, onward, reached, StartTag, start-tag, only-tag, Leads, here, down, Tagged}
-use Rattle.inside.specs.Way.{between, nothing-between, Place, place}
+use Rattle.inside.specs.Way.{WayStep, step, nth, onward, reached, StartTag, start-tag, only-tag, Leads, here, down, Tagged}
+use Rattle.inside.specs.Way.{between, nothing-between, WayPlace, place}
 use Rattle.nodes.specs.Laws.Children.{elements-joined}
 
 -- ---- In contents: what stands before the n-th child that passes, the child, and what stands behind it.
@@ -152,7 +152,7 @@ module _ (p : Element → Bool) where
 
 -- ---- Along the way.
 
-record Led (way : List Step) (d : ℕ) (e : Element) (w : List ℕ) (x : Element) : Type 0 where
+record Led (way : List WayStep) (d : ℕ) (e : Element) (w : List ℕ) (x : Element) : Type 0 where
   before : List ℕ
   tag : List ℕ
   writes : List ℕ
@@ -177,7 +177,7 @@ led-here (Grammar.empty {n = n} {t} {u} nm at hu) = record {
   tagged = nothing-between (only-tag nm at hu) refl;
 }
 
-module _ {p : Element → Bool} {way : List Step} {y x : Element} where
+module _ {p : Element → Bool} {way : List WayStep} {y x : Element} where
   led-down : {d : ℕ} {e : Element} (tag : List ℕ) (n : ℕ) (k rest : List ℕ) → StartTag tag → Splits d p n y k
       → WritesElement (suc d) e (tag ++ (k ++ rest))
       → ((w : List ℕ) → WritesElement d y w → Led way d y w x) → Led (step p n ∷ way) (suc d) e (tag ++ (k ++ rest)) x
@@ -204,7 +204,7 @@ module _ {p : Element → Bool} {way : List Step} {y x : Element} where
       (subst (λ (w : List ℕ). WritesElement (suc d) (element n l c k) w) (sym same) (Grammar.full nm at hu wc hv)) (below d))
   led-step m (Grammar.empty nm at hu) q below = no-child p m y q _
 
-reached-step : (way : List Step) (o : Option Element) {x : Element} → onward (reached way) o ≡ some x
+reached-step : (way : List WayStep) (o : Option Element) {x : Element} → onward (reached way) o ≡ some x
     → (y : Element) × (o ≡ some y) × (reached way y ≡ some x)
 unfolding onward
 reached-step way Option.none h = never-some h
@@ -213,7 +213,7 @@ reached-step way (some y) h = (y, refl, h)
 same-led : {d : ℕ} {e x : Element} {w : List ℕ} → e ≡ x → Led [] d e w e → Led [] d e w x
 same-led {d} {e} {x} {w} z l = subst (λ (y : Element). Led [] d e w y) z l
 
-led : (way : List Step) {d : ℕ} {e x : Element} {w : List ℕ} → WritesElement d e w → reached way e ≡ some x → Led way d e w x
+led : (way : List WayStep) {d : ℕ} {e x : Element} {w : List ℕ} → WritesElement d e w → reached way e ≡ some x → Led way d e w x
 unfolding reached
 led [] {e = e} {x} h q = let z : e ≡ x = cc in same-led z (led-here h)
 led (step p n ∷ way) {e = e} h q =
@@ -221,11 +221,11 @@ led (step p n ∷ way) {e = e} h q =
     led-step n h a (λ j v k. led way k b)
 
 -- THE LAW: what a way reaches in the document of a text has a place in the text
-pub there : (way : List Step) {text : List ℕ} {e x : Element} → parse text ≡ some e → reached way e ≡ some x
-    → (start : ℕ) × Place way (withinOf x) text start
+pub there : (way : List WayStep) {text : List ℕ} {e x : Element} → parse text ≡ some e → reached way e ≡ some x
+    → (start : ℕ) × WayPlace way (withinOf x) text start
 there way {text} {e} {x} h q = by (parse-sound text e h)
   where
-    by : {t : List ℕ} → Writes e t → (start : ℕ) × Place way (withinOf x) t start
+    by : {t : List ℕ} → Writes e t → (start : ℕ) × WayPlace way (withinOf x) t start
     by (Grammar.document {p} {u} {w} {v} a b k c) =
         let l = led way k q in
         (length (p ⊹ u ⊹ l .before ⊹ l .tag), place a b (l .leads) c refl (l .tagged))

@@ -35,7 +35,7 @@ use Rattle.nodes.specs.declared.Found.{Found}
 use Rattle.nodes.specs.declared.Found.the-variants.{At, Nothing}
 use Rattle.nodes.specs.declared.scan.Tag.{Tag}
 use Rattle.nodes.specs.declared.scan.Tag.the-variants.{Open, Bare, No}
-use Rattle.inside.specs.Way.{Step, step}
+use Rattle.inside.specs.Way.{WayStep, step}
 use Rattle.inside.specs.Walked.{placesWithin, placesFrom, nthPlace, childAt, thence, walked, walkedFrom, wayAt}
 use Rattle.inside.specs.Laws.Walked.{child-same, Agrees}
 use Rattle.inside.specs.Laws.Walked.{not-there, stands-there, child-agrees}
@@ -219,9 +219,9 @@ module _ (text : List ℕ) (at : ℕ) {t : Tag} (e : t ≡ tagTold (length text)
 pub ruleset tag-ending = (behind-open, behind-bare, behind-none, needs)
 
 -- each test says of what stands at a place what the way's test says of the element
-pub data Alike (text : List ℕ) : List Tread → List Step → Type 0 where
+pub data Alike (text : List ℕ) : List Tread → List WayStep → Type 0 where
   alike-none : Alike text [] []
-  alike-more : {t : ℕ → Bool} {p : Element → Bool} (n : ℕ) {l : List Tread} {way : List Step}
+  alike-more : {t : ℕ → Bool} {p : Element → Bool} (n : ℕ) {l : List Tread} {way : List WayStep}
       → ((k : ℕ) → Stands text k → t k ≡ p (the text k)) → Alike text l way
       → Alike text (tread t n ∷ l) (step p n ∷ way)
 
@@ -235,19 +235,19 @@ unfolding thence
 thence-same not-there h = refl
 thence-same (stands-there {k} st) h = h k st
 
-pub trod-walked : {text : List ℕ} {l : List Tread} {way : List Step} → Alike text l way → {at : ℕ} → Stands text at
+pub trod-walked : {text : List ℕ} {l : List Tread} {way : List WayStep} → Alike text l way → {at : ℕ} → Stands text at
     → trod l text at ≡ walked way text at
 unfolding trod walked
 trod-walked alike-none st = refl
 trod-walked {text} (alike-more {t} {p} n {l} {way} h a) {at} st =
     ap (thence (trod l text)) (child-same n st h) ∙ thence-same (child-agrees p n st) (λ k k-st. trod-walked a k-st)
 
-trod-root : {text : List ℕ} {l : List Tread} {way : List Step} → Alike text l way → {e : Element} → Rooted text e
+trod-root : {text : List ℕ} {l : List Tread} {way : List WayStep} → Alike text l way → {e : Element} → Rooted text e
     → trodFrom l text (root text) ≡ wayAt way text
 unfolding trodFrom wayAt walkedFrom
 trod-root a r = rw (r .found) (trod-walked a (r .stands))
 
 -- THE LAW: in the text of a document, the treads lead where the way leads
-pub trod-way : {text : List ℕ} {l : List Tread} {way : List Step} → Alike text l way → {e : Element} → parse text ≡ some e
+pub trod-way : {text : List ℕ} {l : List Tread} {way : List WayStep} → Alike text l way → {e : Element} → parse text ≡ some e
     → trodFrom l text (root text) ≡ wayAt way text
 trod-way {text} a {e} h = trod-root a (root-law text e h)

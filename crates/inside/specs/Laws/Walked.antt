@@ -19,7 +19,7 @@ use Rattle.nodes.specs.Laws.Root.{Rooted, root-law}
 use Rattle.nodes.specs.declared.Kid.{Kid}
 use Rattle.nodes.specs.declared.Found.{Found}
 use Rattle.nodes.specs.declared.Found.the-variants.{At, Nothing}
-use Rattle.inside.specs.Way.{Step, step, nth, onward, reached}
+use Rattle.inside.specs.Way.{WayStep, step, nth, onward, reached}
 use Rattle.inside.specs.Walked.{placesWithin, placesFrom, nthPlace, childAt, thence, walked, walkedFrom, wayAt}
 
 -- ---- At the places stand the elements.
@@ -90,16 +90,16 @@ pub child-agrees : (p : Element → Bool) (n : ℕ) {text : List ℕ} {at : ℕ}
 unfolding childAt
 child-agrees p n st = nth-agrees n (those-stood p (children-stood st))
 
-pub walked-agrees : (way : List Step) {text : List ℕ} {at : ℕ} → Stands text at
+pub walked-agrees : (way : List WayStep) {text : List ℕ} {at : ℕ} → Stands text at
     → Agrees text (walked way text at) (reached way (the text at))
 unfolding walked reached
 walked-agrees [] st = stands-there st
 walked-agrees (step p n ∷ way) {text} st = thence-agrees (walked way text) (reached way) (λ k h. walked-agrees way h) (child-agrees p n st)
 
-rooted-agrees : (way : List Step) {text : List ℕ} {e : Element} → Rooted text e → Agrees text (wayAt way text) (reached way e)
+rooted-agrees : (way : List WayStep) {text : List ℕ} {e : Element} → Rooted text e → Agrees text (wayAt way text) (reached way e)
 unfolding wayAt walkedFrom
 rooted-agrees way r = rw (r .found, ← r .is) (walked-agrees way (r .stands))
 
 -- THE LAW: from the root, a walk by places finds what the way reaches in the document
-pub way-agrees : (way : List Step) (text : List ℕ) {e : Element} → parse text ≡ some e → Agrees text (wayAt way text) (reached way e)
+pub way-agrees : (way : List WayStep) (text : List ℕ) {e : Element} → parse text ≡ some e → Agrees text (wayAt way text) (reached way e)
 way-agrees way text {e} p = rooted-agrees way (root-law text e p)

@@ -16,7 +16,7 @@ use Rattle.grammar.specs.Look.{is, contentsOf, elements, children}
 use Rattle.grammar.specs.Parser.{sameBytes}
 use Rattle.schema.specs.Schema.{child, once, always, childShaped, standsSo}
 use Rattle.cifti.specs.LabelTable.{tableKeys, namesWith}
-use Rattle.cifti.specs.Rows.{ElementKind, cifti, rows, words, namedMap, labelledMap, labelTable}
+use Rattle.cifti.specs.Rows.{ElementKind, cifti, rows, textLeaf, namedMap, labelledMap, labelTable}
 use Rattle.cifti.specs.Maps.{mapOf, mapsOf, mapElements, kindOfMap, isLabels, isScalars, hasNames, same-kind, rowFor}
 use Rattle.cifti.specs.Maps.{dimensionsOf, tablesIn}
 use Rattle.cifti.specs.Conditions.{listedDimensions}
@@ -39,7 +39,7 @@ use Rattle.label_reader.specs.Way.{tableWay}
 
 -- how often a child stands does not ask what it is taken for
 same-times : (l : List Element) → childShaped l (child "LabelTable" once (always labelTable))
-    ≡ childShaped l (child "LabelTable" once (always words))
+    ≡ childShaped l (child "LabelTable" once (always textLeaf))
 unfolding childShaped standsSo
 same-times l = refl
 
@@ -47,7 +47,7 @@ one-table : {e : Element} → Good labelledMap e → childShaped (elements (cont
 unfolding rows all
 one-table {e} g =
     and-left (childShaped (elements (contentsOf e)) (child "LabelTable" once (always labelTable))) _
-    (and-right (childShaped (elements (contentsOf e)) (child "MapName" once (always words))) _ (row-met g _ _ _ refl))
+    (and-right (childShaped (elements (contentsOf e)) (child "MapName" once (always textLeaf))) _ (row-met g _ _ _ refl))
 
 labels-tabled : OneRow "LabelTable" labelledMap
 labels-tabled = record { met = λ g. sym (same-times _) ∙ one-table g }

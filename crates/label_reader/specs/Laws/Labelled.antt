@@ -26,7 +26,7 @@ use Rattle.numbers.specs.Numbers.{sameKey}
 use Rattle.numbers.specs.Answers.{keyIn}
 use Rattle.cifti.specs.LabelTable.{labelsOf, labelKey, keysRight, tableKeys, labelsWith, namesWith}
 use Rattle.label_table.specs.Labels.{labels, labelsFrom, keyOrZero, keyHere, has-key, labelWith}
-use Rattle.inside.specs.Way.{Step, step, nth}
+use Rattle.inside.specs.Way.{WayStep, step, nth}
 use Rattle.inside.specs.Walked.{placesFrom, nthPlace, childAt, thence, walked, walkedFrom, wayAt}
 use Rattle.inside.specs.Laws.Walked.{Stood, none, one, children-stood, Agrees}
 use Rattle.inside.specs.Laws.Walked.{not-there, stands-there}
@@ -93,7 +93,7 @@ module _ (key : ℤ) (e : Element) where
 
 -- ---- The way by places.
 
-walked-on : (w v : List Step) (text : List ℕ) (at : ℕ) → walked (w ++ v) text at ≡ thence (walked v text) (walked w text at)
+walked-on : (w v : List WayStep) (text : List ℕ) (at : ℕ) → walked (w ++ v) text at ≡ thence (walked v text) (walked w text at)
 unfolding walked thence
 walked-on [] v text at = refl
 walked-on (step p n ∷ w) v text at = go (childAt (λ k. p (the text k)) n text at) (λ k. walked-on w v text k)
@@ -103,7 +103,7 @@ walked-on (step p n ∷ w) v text at = go (childAt (λ k. p (the text k)) n text
     go Nothing ih = refl
     go (At k) ih = ih k
 
-way-on : (w v : List Step) (text : List ℕ) {t : ℕ} → wayAt w text ≡ At t → wayAt (w ++ v) text ≡ walked v text t
+way-on : (w v : List WayStep) (text : List ℕ) {t : ℕ} → wayAt w text ≡ At t → wayAt (w ++ v) text ≡ walked v text t
 unfolding wayAt walkedFrom walked thence
 way-on w v text {t} h = go (root text) h
   where

@@ -10,7 +10,7 @@ use Rattle.grammar.specs.Parser.{sameBytes}
 use Rattle.schema.specs.Schema.{ChildRow, child, once, atMostOnce, always, kindOf, kindBy}
 use Rattle.schema.specs.Laws.Good as good
 pub use Rattle.schema.specs.Laws.Good.{no-good, also-good, those-good}
-use Rattle.cifti.specs.Rows.{ElementKind, rows, words, metaData, labels, labelledMap, labelTable}
+use Rattle.cifti.specs.Rows.{ElementKind, rows, textLeaf, metaData, labels, labelledMap, labelTable}
 pub use Rattle.cifti.specs.Laws.Tables.{keys-in-form}
 use Rattle.maps.specs.Laws.Good.{GoodAs, good-as, good-children}
 use Rattle.maps.specs.Good.{Good}
@@ -32,7 +32,7 @@ good-named {e} g =
 -- ---- The LabelTable of a NamedMap.
 
 abbrev labelledRows : List (ChildRow ElementKind)
-labelledRows = child "MapName" once (always words) ∷ child "LabelTable" once (always labelTable)
+labelledRows = child "MapName" once (always textLeaf) ∷ child "LabelTable" once (always labelTable)
     ∷ child "MetaData" atMostOnce (always metaData) ∷ []
 
 name-table : is "MapName" (ascii "LabelTable") ≡ false

@@ -6,7 +6,7 @@ use native.Mathlib.Numerals.{add-one}
 use native.Mathlib.Omega.{arith}
 use lib.ListN.{length, getD, take, drop}
 use lib.Seq.{drop-cons}
-use Rattle.lists.specs.Lists.{countUp, table, each}
+use Rattle.lists.specs.Lists.{countUp, tabulated, each}
 
 module _ {A : Type 0} where
   pub up-suc : (f : ℕ → A) (i n : ℕ) → countUp f i (suc n) ≡ f i ∷ countUp f (suc i) n
@@ -23,8 +23,8 @@ module _ {A : Type 0} where
   unfolding countUp
   up-done f i n h = let e : n - i ≡ 0 = omega arith in rw e
 
-  pub up-all : (f : ℕ → A) (n : ℕ) → countUp f 0 (n - 0) ≡ table n f
-  unfolding table
+  pub up-all : (f : ℕ → A) (n : ℕ) → countUp f 0 (n - 0) ≡ tabulated n f
+  unfolding tabulated
   up-all f n = let e : n - 0 ≡ n = omega arith in rw e
 
   pub up-same : {f g : ℕ → A} (i n : ℕ) → ((k : ℕ) → i ≤ k → k < i + n → f k ≡ g k) → countUp f i n ≡ countUp g i n
@@ -32,11 +32,11 @@ module _ {A : Type 0} where
   up-same i zero h = refl
   up-same i (suc n) h = rw (h i (omega arith) (omega arith), up-same (suc i) n (λ k u v. h k (omega arith) (omega arith)))
 
-  pub table-below : {f g : ℕ → A} (n : ℕ) → ((k : ℕ) → k < n → f k ≡ g k) → table n f ≡ table n g
-  unfolding table
+  pub table-below : {f g : ℕ → A} (n : ℕ) → ((k : ℕ) → k < n → f k ≡ g k) → tabulated n f ≡ tabulated n g
+  unfolding tabulated
   table-below n h = up-same 0 n (λ k u v. h k (omega arith))
 
-  pub table-same : {f g : ℕ → A} → ((k : ℕ) → f k ≡ g k) → (n : ℕ) → table n f ≡ table n g
+  pub table-same : {f g : ℕ → A} → ((k : ℕ) → f k ≡ g k) → (n : ℕ) → tabulated n f ≡ tabulated n g
   table-same h n = table-below n (λ k _. h k)
 
   up-length : (f : ℕ → A) (i n : ℕ) → length (countUp f i n) ≡ n
@@ -44,8 +44,8 @@ module _ {A : Type 0} where
   up-length f i zero = refl
   up-length f i (suc n) = ap suc (up-length f (suc i) n)
 
-  pub size-of-table : (f : ℕ → A) (n : ℕ) → length (table n f) ≡ n
-  unfolding table
+  pub size-of-table : (f : ℕ → A) (n : ℕ) → length (tabulated n f) ≡ n
+  unfolding tabulated
   size-of-table f n = up-length f 0 n
 
   up-at : (f : ℕ → A) (b : A) (i n k : ℕ) → k < n → getD (countUp f i n) k b ≡ f (i + k)
@@ -54,8 +54,8 @@ module _ {A : Type 0} where
   up-at f b i (suc n) zero h = ap f (omega arith)
   up-at f b i (suc n) (suc k) h = let e : suc i + k ≡ i + suc k = omega arith in up-at f b (suc i) n k (omega arith) ∙ ap f e
 
-  pub entry-of-table : (f : ℕ → A) (b : A) (n k : ℕ) → k < n → getD (table n f) k b ≡ f k
-  unfolding table
+  pub entry-of-table : (f : ℕ → A) (b : A) (n k : ℕ) → k < n → getD (tabulated n f) k b ≡ f k
+  unfolding tabulated
   entry-of-table f b n k h = let e : 0 + k ≡ k = omega arith in up-at f b 0 n k h ∙ ap f e
 
 module _ {A B : Type 0} where
@@ -64,8 +64,8 @@ module _ {A B : Type 0} where
   each-up h f i zero = refl
   each-up h f i (suc n) = ap (λ l. h (f i) ∷ l) (each-up h f (suc i) n)
 
-  pub each-table : (h : A → B) (f : ℕ → A) (n : ℕ) → each h (table n f) ≡ table n (λ k. h (f k))
-  unfolding table
+  pub each-table : (h : A → B) (f : ℕ → A) (n : ℕ) → each h (tabulated n f) ≡ tabulated n (λ k. h (f k))
+  unfolding tabulated
   each-table h f n = each-up h f 0 n
 
 -- the first n entries of an array
@@ -77,6 +77,6 @@ take-up f l i (suc n) h =
     let d = drop-cons l i 0 (omega arith) in
     ap (λ r. each f (take (suc n) r)) d ∙ ap (λ r. f (getD l i 0) ∷ r) (take-up f l (suc i) n (omega arith))
 
-pub each-take : {A : Type 0} (f : ℕ → A) (l : List ℕ) (n : ℕ) → n ≤ length l → each f (take n l) ≡ table n (λ k. f (getD l k 0))
-unfolding table
+pub each-take : {A : Type 0} (f : ℕ → A) (l : List ℕ) (n : ℕ) → n ≤ length l → each f (take n l) ≡ tabulated n (λ k. f (getD l k 0))
+unfolding tabulated
 each-take f l n h = take-up f l 0 n (omega arith)

@@ -17,7 +17,7 @@ use Rattle.grammar.specs.Look.{is, nameOf, contentsOf, elements, children}
 use Rattle.grammar.specs.Parser.{sameBytes}
 use Rattle.schema.specs.Schema.{ChildRow, child, once, anyTimes, always, kindOf, kindBy, childShaped, standsSo}
 use Rattle.schema.specs.Laws.Good.{count-those, single}
-use Rattle.cifti.specs.Rows.{ElementKind, rows, words, scalars, namedMap, labels, labelledMap, mapAttributes}
+use Rattle.cifti.specs.Rows.{ElementKind, rows, textLeaf, scalars, namedMap, labels, labelledMap, mapAttributes}
 use Rattle.cifti.specs.Maps.{mapOf, kindOfMap, isScalars, isLabels, hasNames, same-kind, kindWords, caseKind, allKinds, rowFor}
 use Rattle.cifti.specs.Maps.{countedName}
 use Rattle.cifti.specs.Names.{holdsName}
@@ -37,7 +37,7 @@ pub data Named (s : String) : List Element → Type 0 where
 
 -- a row that has one child of the name
 pub record OneRow (s : String) (k : ElementKind) : Type 0 where
-  pub met : {e : Element} → Good k e → childShaped (elements (contentsOf e)) (child s once (always words)) ≡ true
+  pub met : {e : Element} → Good k e → childShaped (elements (contentsOf e)) (child s once (always textLeaf)) ≡ true
 
 scalars-named : OneRow "MapName" namedMap
 unfolding rows all

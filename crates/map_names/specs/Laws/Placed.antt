@@ -27,7 +27,7 @@ use Rattle.cifti.specs.Rows.{cifti}
 use Rattle.cifti.specs.Laws.Text.{answers-by}
 use Rattle.cifti.specs.Laws.Theorems.{number-unique, part-unique}
 use Rattle.maps.specs.Good.{Good}
-use Rattle.inside.specs.Way.{Step}
+use Rattle.inside.specs.Way.{WayStep}
 use Rattle.inside.specs.Walked.{wayAt}
 use Rattle.inside.specs.Laws.Walked.{Agrees, not-there, stands-there, way-agrees}
 use Rattle.inside.specs.Laws.One as One
@@ -65,7 +65,7 @@ fine lengths size (some e) h =
 
 -- ---- A place by any number, part and way.
 
-module _ {Number : ℕ → Type 0} {Part : List ℕ → Type 0} {way : List Step} {text : List ℕ} where
+module _ {Number : ℕ → Type 0} {Part : List ℕ → Type 0} {way : List WayStep} {text : List ℕ} where
   pub refused-by : {n : ℕ} → (n ≡ 0 → ⊥) → Number n → Part [] → {r : NamePlace} → Is r n 0 0 → PlacedBy Number Part way text r
   refused-by k m l {r} s =
       let a = s .number-is in
@@ -100,7 +100,7 @@ as-long : (text : List ℕ) (s n : ℕ) → s + n ≤ length text → length (ta
 as-long text s n h = let k = length-drop s text in length-take-le n (drop s text) (omega arith)
 
 -- where number and part are one, the place is one
-module _ {Number : ℕ → Type 0} {Part : List ℕ → Type 0} {way : List Step} {text : List ℕ} {a b : NamePlace}
+module _ {Number : ℕ → Type 0} {Part : List ℕ → Type 0} {way : List WayStep} {text : List ℕ} {a b : NamePlace}
     (p : PlacedBy Number Part way text a) (q : PlacedBy Number Part way text b) (number-same : a .number ≡ b .number)
     (part-same : take (a .length) (drop (a .start) text) ≡ take (b .length) (drop (b .start) text)) where
   start-same : a .start ≡ b .start

@@ -29,7 +29,7 @@ use Rattle.maps.specs.Laws.MapKind.{map-dimensions}
 use Rattle.maps.specs.MapKind.{GoodMap}
 use Rattle.maps.specs.Laws.Ready.{GoodMaps, no-maps, one-map, good-maps}
 use Rattle.maps.specs.Laws.Listed.{any-some}
-use Rattle.inside.specs.Way.{Step, step, nth, onward, reached}
+use Rattle.inside.specs.Way.{WayStep, step, nth, onward, reached}
 use Rattle.map_names.specs.Way.{ofName, listsDimension, mapThatLists, inMap, wayInMap, nameWay}
 use Rattle.map_names.specs.Laws.Held.{Named, no-named, one-named, each-named, holds-so}
 
@@ -80,7 +80,7 @@ dimensions-split d e l = count-append (eqb d) (dimensionsOf e) (listedDimensions
 -- such a child of an index.
 
 module _ {A : Type 0} (s : String) (f : Element → A) (z : A) (held : ℕ → Map → Bool) where
-  abbrev the-child : List Step
+  abbrev the-child : List WayStep
   the-child = step (ofName s) 0 ∷ []
 
   unfoldable pub toldIn : List Element → List A

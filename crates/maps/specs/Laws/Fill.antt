@@ -5,7 +5,7 @@ use mathlib.Core.List.{List, [], _∷_}
 use mathlib.Core.Bool.{cond}
 use Prim.Native.Nat.{ℕ, _+_, _-_, _<_, _≤_}
 use lib.ListN.{length, getD}
-use Rattle.lists.specs.Lists.{table, count}
+use Rattle.lists.specs.Lists.{tabulated, count}
 use Rattle.lists.specs.Ranges.{holds}
 use Rattle.lists.specs.Filling as Filling
 pub use Rattle.lists.specs.Filling.{wrote-in, wrote-before, wrote-past}
@@ -50,7 +50,7 @@ module _ (f : Model → List ℕ) where
     -- THE LAW: all models written one after the other are the table by index
     pub filled-law : (l : List Model) (s : List ℕ) → Fitting size l → start + size ≤ length s
         → ((n : ℕ) → n < size → count (covers n) l ≡ 1)
-        → filled start l s ≡ wrote start (table size (entryAt l)) s
+        → filled start l s ≡ wrote start (tabulated size (entryAt l)) s
     unfolding covers holds
     filled-law l s fit h once =
         filled-so start l s

@@ -10,7 +10,7 @@ use lib.Dec.{eqb}
 use lib.ListN.{getD}
 use borrow.Author.Needs.{needs}
 use borrow.Author.Tests.{eqb-true, lt-ltb, le-ltb, eqb-false}
-use Rattle.lists.specs.Lists.{countUp, table, total}
+use Rattle.lists.specs.Lists.{countUp, tabulated, total}
 use Rattle.lists.specs.Ranges.{Range, sumOf, tiling, beginsAt}
 use Rattle.lists.specs.Laws.Ranges.{Chain, start, on, Counting, counting-up, chain-through, chain-past}
 use Rattle.lists.specs.Laws.Ranges.{chain-stops}
@@ -20,7 +20,7 @@ use Rattle.models.specs.Laws.Ranges.{range-size}
 use Rattle.models.specs.declared.gather.Models.{Models}
 
 pub ranges-count : {m : Models} → Ranged m → Counting (λ (r : Range). r .size) (rangesOf m)
-unfolding rangesOf table
+unfolding rangesOf tabulated
 ranges-count {m} r = counting-up (λ (r : Range). r .size) (rangeOf m) 0 (m .count)
     (λ k u v. (let e = range-size m k in let h = r .least k (omega arith) in omega arith))
 
@@ -31,7 +31,7 @@ total-up f i (suc n) h = let a = h i (omega arith) (omega arith) in let b =
     total-up f (suc i) n (λ k u v. h k (omega arith) (omega arith)) in omega arith
 
 pub sum-small : {m : Models} → Ranged m → sumOf (rangesOf m) ≤ 67108864
-unfolding rangesOf table
+unfolding rangesOf tabulated
 sum-small {m} r = omega (
   arith,
   total-up (rangeOf m) 0 (m .count)

@@ -6,7 +6,7 @@ use Prim.Native.Nat.{ℕ, zero, suc, _<_, _≤_}
 use native.Mathlib.Omega.{arith}
 use lib.Dec.{eqb}
 use lib.ListN.{length, getD}
-use Rattle.lists.specs.Lists.{table, each, count, total, allBelow}
+use Rattle.lists.specs.Lists.{tabulated, each, count, total, allBelow}
 use Rattle.lists.specs.Laws.Lists.{count-each, total-each}
 use Rattle.lists.specs.Ranges.{Range, holds, inRange, sumOf, tiling}
 use Rattle.lists.specs.Laws.Ranges.{counting-up}
@@ -93,7 +93,7 @@ pub held-total : {text : List ℕ} {map : ℕ} {m : Models} → BrainHeld text m
 held-total {text} {map} h = brain-sum (the text map) (h .brain .is-brain)
 
 pub held-counting : {text : List ℕ} {map : ℕ} {m : Models} → BrainHeld text map m → Counting ((mapOf (the text map)) .models)
-unfolding modelsAt heldModel table
+unfolding modelsAt heldModel tabulated
 held-counting {text} {map} {m} h =
     rw (held-models h) (counting-up (λ (x : Model). x .count) (λ i. modelOf (the text (getD (m .at) i 0))) 0 (m .count)
     (λ k u v. (let x = h .held .holds k (omega arith) in let w = held-ranged (holding (h .held)) .least k (omega arith) in

@@ -9,7 +9,7 @@ use native.Mathlib.Numerals.{add-one}
 use lib.Dec.{eqb, leb, ltb}
 use lib.ListN.{length, getD}
 use borrow.Author.Tests.{le-leb, lt-leb, eq-eqb, ne-eqb}
-use Rattle.lists.specs.Lists.{any, allBelow, eachIn, table, countUp}
+use Rattle.lists.specs.Lists.{any, allBelow, eachIn, tabulated, countUp}
 use Rattle.lists.specs.Laws.Booleans.{and-right, and-both, both-ways}
 use Rattle.lists.specs.Laws.Quantifiers.{allBelow-iff}
 use Rattle.lists.specs.Laws.Tables.{up-one, up-done, up-all, size-of-table}
@@ -248,41 +248,41 @@ numbers-long (m ∷ ms) = let h = numbers-long ms in omega arith
 
 -- the first i runs are written
 pub written : List ℕ → Made → ℕ → List ℕ
-written l made i = wrote 0 (numbersOf (table i (modelAt made))) l
+written l made i = wrote 0 (numbersOf (tabulated i (modelAt made))) l
 
 pub written-none : (l : List ℕ) (made : Made) → l ≡ written l made 0
-unfolding written numbersOf eachIn table countUp
+unfolding written numbersOf eachIn tabulated countUp
 written-none l made = sym (wrote-none 0 l)
 
 pub written-long : (l k : List ℕ) (made : Made) (i : ℕ) → k ≡ written l made i → 4 * i ≤ length l → length k ≡ length l
 unfolding written
 written-long l k made i e h =
-    let n = numbers-long (table i (modelAt made)) in
+    let n = numbers-long (tabulated i (modelAt made)) in
     let t = size-of-table (modelAt made) i in
-    ap length e ∙ length-wrote 0 (numbersOf (table i (modelAt made))) l (omega arith)
+    ap length e ∙ length-wrote 0 (numbersOf (tabulated i (modelAt made))) l (omega arith)
 
 pub written-next : (l k j row : List ℕ) (made : Made) (i : ℕ) → k ≡ written l made i → 4 * made .count ≤ length l → i < made .count
     → row ≡ four (modelAt made i) → j ≡ wrote (4 * i) row k → j ≡ written l made (i + 1)
 unfolding written
 written-next l k j row made i e h u f g =
-    let ms : List Model = table i (modelAt made) in
+    let ms : List Model = tabulated i (modelAt made) in
     let n = numbers-long ms in
     let t = size-of-table (modelAt made) i in
     g ∙ ap (λ r. wrote (4 * i) r k) f ∙ ap (λ s. wrote (4 * i) (four (modelAt made i)) s) e
     ∙ wrote-on 0 (4 * i) (numbersOf ms) (four (modelAt made i)) l (omega arith) (omega arith)
-    ∙ ap (λ s. wrote 0 s l) (sym (numbers-snoc ms (modelAt made i)) ∙ ap numbersOf (sym (table-snoc (modelAt made) i) ∙ ap (λ c. table c
+    ∙ ap (λ s. wrote 0 s l) (sym (numbers-snoc ms (modelAt made i)) ∙ ap numbersOf (sym (table-snoc (modelAt made) i) ∙ ap (λ c. tabulated c
     (modelAt made)) (sym (add-one i))))
 
 pub written-all : (l k : List ℕ) (made : Made) (i : ℕ) → k ≡ written l made i → i ≤ made .count → made .count ≤ i
-    → k ≡ wrote 0 (numbersOf (table (made .count) (modelAt made))) l
+    → k ≡ wrote 0 (numbersOf (tabulated (made .count) (modelAt made))) l
 unfolding written
-written-all l k made i e h u = let z : i ≡ made .count = omega arith in e ∙ ap (λ c. wrote 0 (numbersOf (table c (modelAt made))) l) z
+written-all l k made i e h u = let z : i ≡ made .count = omega arith in e ∙ ap (λ c. wrote 0 (numbersOf (tabulated c (modelAt made))) l) z
 
 -- what was made and written is what is promised
 pub lists-numbers : (rs before after : List ℕ) (made : Made) → MadeOf rs (length before / 4) made
-    → after ≡ wrote 0 (numbersOf (table (made .count) (modelAt made))) before
+    → after ≡ wrote 0 (numbersOf (tabulated (made .count) (modelAt made))) before
     → ListsNumbers rs before (record { number = made .number; value = made .count }) after
-unfolding numbersOf eachIn table countUp
+unfolding numbersOf eachIn tabulated countUp
 lists-numbers rs before after made o e = record {
   answers = λ i. record { number = o .numbered i; value = value i };
   holds = ⊎-elim fills same (eq? (made .number) 0);
@@ -307,7 +307,7 @@ lists-numbers rs before after made o e = record {
 
     same : (made .number ≡ 0 → ⊥) → after ≡ unless (made .number) (wrote 0 (numbersOf (runs rs)) before) before
     same z =
-        e ∙ ap (λ c. wrote 0 (numbersOf (table c (modelAt made))) before) (o .none z) ∙ wrote-none 0 before
+        e ∙ ap (λ c. wrote 0 (numbersOf (tabulated c (modelAt made))) before) (o .none z) ∙ wrote-none 0 before
         ∙ sym (ap (λ b. cond b (wrote 0 (numbersOf (runs rs)) before) before) (ne-eqb (made .number) 0 z))
 
 -- the next four numbers fit, and the list stays as long

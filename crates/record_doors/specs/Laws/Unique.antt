@@ -3,7 +3,7 @@ use mathlib.Core.Path.{_≡_, sym, ap, _∙_}
 use mathlib.Core.List.{List, [], _∷_}
 use Prim.Native.Nat.{ℕ}
 use Rattle.records.specs.Laws.Unique.{find-unique, pack-unique, unpack-unique}
-use Rattle.records.specs.declared.search.Found.{Found}
+use Rattle.records.specs.declared.search.RecordFound.{RecordFound}
 use Rattle.records.specs.declared.outcome.Outcome.{Outcome}
 use Rattle.flat.specs.Flat.{laidOver}
 use Rattle.record_doors.specs.Promises.{FindsFlat, PacksFlat, UnpacksFlat}
@@ -12,8 +12,8 @@ module _ {records slice : List ℕ} {x m n : ℕ} {a b : List ℕ} where
   pub find-flat-unique : FindsFlat records x slice m a → FindsFlat records x slice n b → (m ≡ n) × (a ≡ b)
   find-flat-unique p q =
       let e : p .answer ≡ q .answer = find-unique records x (p .answer) (q .answer) (p .finds) (q .finds) in (
-        p .numbered ∙ ap (λ (f : Found). f .number) e ∙ sym (q .numbered),
-        p .flat ∙ ap (λ (f : Found). laidOver (f .place .0 ∷ []) slice) e ∙ sym (q .flat),
+        p .numbered ∙ ap (λ (f : RecordFound). f .number) e ∙ sym (q .numbered),
+        p .flat ∙ ap (λ (f : RecordFound). laidOver (f .place .0 ∷ []) slice) e ∙ sym (q .flat),
       )
 
 module _ {records sheet slice : List ℕ} {m n : ℕ} {s t a b : List ℕ} where

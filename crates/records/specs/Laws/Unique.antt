@@ -14,7 +14,7 @@ use Rattle.records.specs.Sheet.{PacksIn, UnpacksIn, packedInto, unpacked
 use Rattle.records.specs.Find.{FirstPlace, Finds}
 use Rattle.records.specs.Repeat.{ChecksRepeats}
 use Rattle.records.specs.declared.counters.Vertex.{Vertex}
-use Rattle.records.specs.declared.search.Found.{Found}
+use Rattle.records.specs.declared.search.RecordFound.{RecordFound}
 use Rattle.records.specs.declared.outcome.Outcome.{Outcome}
 
 pub surface-record-unique : (s v a b : ℕ) → a ≡ recordOf (wrapped (onSurface s v)) → b ≡ recordOf (wrapped (onSurface s v)) → a ≡ b
@@ -74,7 +74,7 @@ same-place rs x p q f g =
     ⊎-elim (λ (h : p < q). absurd (g .absent p h (f .stands)))
     (λ (h : q ≤ p). ⊎-elim (λ (k : q < p). absurd (f .absent q k (g .stands))) (λ (k : p ≤ q). omega arith) (lt? q p)) (lt? p q)
 
-pub find-unique : (rs : List ℕ) (x : ℕ) (a b : Found) → Finds rs x a → Finds rs x b → a ≡ b
+pub find-unique : (rs : List ℕ) (x : ℕ) (a b : RecordFound) → Finds rs x a → Finds rs x b → a ≡ b
 find-unique rs x a b p q =
     let e : a .number ≡ b .number = p .numbered ∙ sym (q .numbered) in
     let f : a .place .0 ≡ b .place .0 =

@@ -13,7 +13,7 @@ use Rattle.lists.specs.Refusals.{_when_, first}
 use Rattle.lists.specs.Laws.Booleans.{or-left, or-right, or-first, or-second, or-neither}
 use Rattle.records.specs.Outcome.{ends, applies, passes, gives-first}
 use Rattle.records.specs.Find.{FirstPlace, Finds, findRefusal}
-use Rattle.records.specs.declared.search.Found.{Found}
+use Rattle.records.specs.declared.search.RecordFound.{RecordFound}
 use Rattle.shortlist.specs.Runs.{structureKind, kindIn}
 use Rattle.shortlist.specs.Asking.{empty, noStructure, holdsIndex, ofKind, isRecord, soughtNumber, soughtIndex}
 use Rattle.shortlist.specs.Search.{bitSet, follows, badEntry, spoilt, withEntry, nextOf, toldOf, ownRecords, listOutside, Finding}
@@ -234,7 +234,7 @@ module _ (rs : List ℕ) (s : Search) (x : ℕ) where
   part-is = let e : s .from + s .size - s .from ≡ s .size = omega arith in ap (λ n. take n (drop (s .from) rs)) e
 
   -- a number is found where it is among the records
-  among : (l : List ℕ) (f : Found) → Finds l x f → f .number ≡ 0 → any (eqb x) l ≡ true
+  among : (l : List ℕ) (f : RecordFound) → Finds l x f → f .number ≡ 0 → any (eqb x) l ≡ true
   unfolding findRefusal first
   among l f h z = by (any (eqb x) l) refl (sym (h .numbered) ∙ z)
     where
@@ -242,7 +242,7 @@ module _ (rs : List ℕ) (s : Search) (x : ℕ) where
       by true e k = e
       by false e k = absurd (omega arith)
 
-  not-among : (l : List ℕ) (f : Found) → Finds l x f → (f .number ≡ 0 → ⊥) → any (eqb x) l ≡ false
+  not-among : (l : List ℕ) (f : RecordFound) → Finds l x f → (f .number ≡ 0 → ⊥) → any (eqb x) l ≡ false
   unfolding findRefusal first
   not-among l f h z = by (any (eqb x) l) refl (h .numbered)
     where
@@ -250,7 +250,7 @@ module _ (rs : List ℕ) (s : Search) (x : ℕ) where
       by true e k = absurd (z k)
       by false e k = e
 
-  module _ (a b : Bool) (f : Found) (p : a ≡ listOutside s (length rs)) (q : a ≡ false) (u : b ≡ isRecord x) (v : not b ≡ false)
+  module _ (a b : Bool) (f : RecordFound) (p : a ≡ listOutside s (length rs)) (q : a ≡ false) (u : b ≡ isRecord x) (v : not b ≡ false)
       (h : Finds (take (s .from + s .size - s .from) (drop (s .from) rs)) x f) where
     pub sought-found : f .number ≡ 0 → Finding rs s x (Sought.At (record { 0 = s .from + f .place .0 }))
     unfolding soughtNumber soughtIndex

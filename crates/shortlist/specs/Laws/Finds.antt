@@ -18,7 +18,7 @@ use Rattle.lists.specs.Laws.Booleans.{refute}
 use Rattle.records.specs.Record.{isVoxel, structureOf, legalRecord}
 use Rattle.records.specs.Find.{FirstPlace, Finds, findRefusal}
 use Rattle.lists.specs.Laws.Numbers.{eq?}
-use Rattle.records.specs.declared.search.Found.{Found}
+use Rattle.records.specs.declared.search.RecordFound.{RecordFound}
 use Rattle.shortlist.specs.Runs.{structureKind, kindOf, kindIn, ofOneKind, runs, comesBack}
 use Rattle.shortlist.specs.Asking.{pastEnd, holdsIndex, ofKind, theModel, recordsInRange, isRecord, ownStretch}
 use Rattle.shortlist.specs.Asking.{soughtNumber, soughtIndex, seekRefusal, Seeks}
@@ -170,7 +170,7 @@ module _ (rs : List ℕ) (made : WasMade rs) (x : ℕ) where
       w .index-is ∙ ap (λ n. own .first .0 + n) e ∙ i
 
   -- number and place, of any answer that is allowed
-  pub list-finds : (answer : Sought) (f : Found) → Seeks (runs rs) rs x answer → Finds rs x f
+  pub list-finds : (answer : Sought) (f : RecordFound) → Seeks (runs rs) rs x answer → Finds rs x f
       → (soughtNumber answer ≡ f .number) × (soughtIndex answer ≡ f .place .0)
   list-finds answer f s h =
       let n : soughtNumber answer ≡ f .number = s .numbered ∙ finds-number ∙ sym (h .numbered) in (

@@ -9,7 +9,7 @@ use lib.Dec.{leb, ltb}
 use lib.ListN.{length, getD, set, drop}
 use lib.Seq.{drop-cons, set-at, append-snoc}
 use borrow.Author.Tests.{lt-ltb, le-ltb, ne-eqb, le-leb, lt-leb, ltb-true, ltb-false}
-use Rattle.lists.specs.Lists.{all, table, countUp}
+use Rattle.lists.specs.Lists.{all, tabulated, countUp}
 use Rattle.lists.specs.Refusals.{_when_, first, NoneApplies, positive}
 use Rattle.lists.specs.Laws.Booleans.{or-elim, or-left, or-right, and-no, and-both}
 use Rattle.lists.specs.Laws.Refusals.{given-none, row-fails, rows-behind}
@@ -122,15 +122,15 @@ pub ruleset making = (stops-count, stops-short, made-whole)
 -- ---- The list lent.
 
 -- filled entry by entry is laid over its start
-pub filled-laid : (n : ℕ) (f : ℕ → Model) (l : List Model) → n ≤ length l → entriesFilled n f l ≡ table n f ++ drop n l
-unfolding table countUp
+pub filled-laid : (n : ℕ) (f : ℕ → Model) (l : List Model) → n ≤ length l → entriesFilled n f l ≡ tabulated n f ++ drop n l
+unfolding tabulated countUp
 filled-laid zero f l h = refl
 filled-laid (suc n) f l h =
     let d = drop-cons l n noModel h in
-    let e = filled-laid n f l (omega arith) ∙ ap (λ r. table n f ++ r) d in
+    let e = filled-laid n f l (omega arith) ∙ ap (λ r. tabulated n f ++ r) d in
     ap (λ r. set r n (f n)) e
-    ∙ set-at (table n f) (getD l n noModel) (drop (suc n) l) (f n) n (size-of-table f n)
-    ∙ sym (append-snoc (table n f) (f n) (drop (suc n) l))
+    ∙ set-at (tabulated n f) (getD l n noModel) (drop (suc n) l) (f n) n (size-of-table f n)
+    ∙ sym (append-snoc (tabulated n f) (f n) (drop (suc n) l))
     ∙ ap (λ r. r ++ drop (suc n) l) (sym (table-snoc f n))
 
 -- ---- The answer.

@@ -11,7 +11,7 @@ use lib.ListN.{length, getD, drop}
 use lib.Pow.{pow-pos}
 use lib.Seq.{drop-cons}
 use borrow.Author.Tests.{le-leb, lt-leb, leb-true, leb-false, eq-eqb, ne-eqb}
-use Rattle.lists.specs.Lists.{table, countUp}
+use Rattle.lists.specs.Lists.{tabulated, countUp}
 use Rattle.records.specs.Fields.{bits, partsOf}
 use Rattle.records.specs.Record.{isVoxel, structureOf, structureIn}
 use Rattle.shortlist.specs.Runs.{mostStructure, structureKind, kindOf, kindIn, alone, runsOn, runsFrom}
@@ -93,8 +93,8 @@ up-snoc f i (suc c) =
     ap (λ l. f i ∷ l) (up-snoc f (suc i) c) ∙ ap (λ j. f i ∷ (countUp f (suc i) c ++ (f j ∷ []))) e
 
 -- one entry more at the end of a table
-pub table-snoc : (f : ℕ → Model) (c : ℕ) → table (suc c) f ≡ table c f ++ (f c ∷ [])
-unfolding table
+pub table-snoc : (f : ℕ → Model) (c : ℕ) → tabulated (suc c) f ≡ tabulated c f ++ (f c ∷ [])
+unfolding tabulated
 table-snoc f c = let e : 0 + c ≡ c = omega arith in up-snoc f 0 c ∙ ap (λ j. countUp f 0 c ++ (f j ∷ [])) e
 
 -- nothing lies past the end

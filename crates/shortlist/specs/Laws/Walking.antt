@@ -10,7 +10,7 @@ use lib.Dec.{eqb, leb}
 use lib.ListN.{length, getD, set, drop, replicate, length-set}
 use lib.Seq.{drop-cons, getD-set-same, getD-set-other}
 use borrow.Author.Tests.{eq-eqb, eqb-true, not-true, not-false}
-use Rattle.lists.specs.Lists.{all, table, countUp}
+use Rattle.lists.specs.Lists.{all, tabulated, countUp}
 use Rattle.lists.specs.Refusals.{_when_, first}
 use Rattle.lists.specs.Laws.Booleans.{and-left, and-right, and-both, both-ways}
 use Rattle.lists.specs.Laws.Quantifiers.{all-iff}
@@ -30,7 +30,7 @@ use Rattle.shortlist.specs.declared.state.Made.{Made}
 pub record Walked (rs : List ℕ) (at : ℕ) (seen : List Bool) (made : Made) : Type 0 where
   pub inside : at ≤ length rs
   pub legal-is : all legalRecord rs ≡ all legalRecord (drop at rs)
-  pub runs-are : all legalRecord rs ≡ true → runs rs ≡ table (made .count) (modelAt made) ++ runsFrom at (drop at rs)
+  pub runs-are : all legalRecord rs ≡ true → runs rs ≡ tabulated (made .count) (modelAt made) ++ runsFrom at (drop at rs)
   pub back-is : all legalRecord rs ≡ true → comesBack rs ≡ again (flagged seen) (runsFrom at (drop at rs))
   pub counted : flags seen ≡ made .count
   pub seen-64 : length seen ≡ 64
@@ -44,7 +44,7 @@ unfolding runsFrom
 no-runs = refl
 
 pub walked-first : (rs : List ℕ) → Walked rs 0 (replicate 64 false) (refusedBy 0)
-unfolding runs comesBack table countUp
+unfolding runs comesBack tabulated countUp
 walked-first rs = record {
   inside = omega arith;
   legal-is = refl;
@@ -199,12 +199,12 @@ module _ (made : Made) (at n k : ℕ) (sized : MadeSized made) (few : made .coun
     kind-64 = length-set (made .kind) (made .count) k ∙ sized .kind-64;
   }
 
-  table-more : table (more .count) (modelAt more) ≡ table (made .count) (modelAt made) ++ (piece at n k ∷ [])
+  table-more : tabulated (more .count) (modelAt more) ≡ tabulated (made .count) (modelAt made) ++ (piece at n k ∷ [])
   unfolding more
   table-more =
-      ap (λ c. table c (modelAt more)) (add-one (made .count)) ∙ table-snoc (modelAt more) (made .count)
+      ap (λ c. tabulated c (modelAt more)) (add-one (made .count)) ∙ table-snoc (modelAt more) (made .count)
       ∙ ap (λ l. l ++ (modelAt more (made .count) ∷ [])) (table-below (made .count) before)
-      ∙ ap (λ m. table (made .count) (modelAt made) ++ (m ∷ [])) here
+      ∙ ap (λ m. tabulated (made .count) (modelAt made) ++ (m ∷ [])) here
 
 legal-through : (rs : List ℕ) (d i : ℕ) → i + d ≤ length rs → ((j : ℕ) → i ≤ j → j < i + d → legalRecord (getD rs j 0) ≡ true)
     → all legalRecord (drop i rs) ≡ all legalRecord (drop (i + d) rs)
@@ -251,8 +251,8 @@ module _ {rs : List ℕ} {at k to : ℕ} {seen : List Bool} {made : Made} (w : W
         w .legal-is ∙ legal-through rs d at (omega (arith, far)) (λ j u v. each-legal j u (omega arith))
         ∙ ap (λ i. all legalRecord (drop i rs)) e;
     runs-are = λ g.
-        w .runs-are g ∙ ap (λ l. table (made .count) (modelAt made) ++ l) (rest g)
-        ∙ sym (append-assoc (table (made .count) (modelAt made)) (piece at (to - at) k ∷ []) (runsFrom to (drop to rs)))
+        w .runs-are g ∙ ap (λ l. tabulated (made .count) (modelAt made) ++ l) (rest g)
+        ∙ sym (append-assoc (tabulated (made .count) (modelAt made)) (piece at (to - at) k ∷ []) (runsFrom to (drop to rs)))
         ∙ ap (λ l. l ++ runsFrom to (drop to rs)) (sym (table-more made at (to - at) k (w .sized) room));
     back-is = λ g.
         let p = piece-kind at (to - at) k small in
@@ -278,8 +278,8 @@ unfolding runsFrom all
 walked-last {rs} {at} {seen} {made} w h =
     let none : drop at rs ≡ [] = drop-all rs at h in
     let good : all legalRecord rs ≡ true = w .legal-is ∙ ap (all legalRecord) none ∙ all-none in
-    let runs-are : runs rs ≡ table (made .count) (modelAt made) =
-    w .runs-are good ∙ ap (λ l. table (made .count) (modelAt made) ++ runsFrom at l) none ∙ append-nil (table (made .count) (modelAt
+    let runs-are : runs rs ≡ tabulated (made .count) (modelAt made) =
+    w .runs-are good ∙ ap (λ l. tabulated (made .count) (modelAt made) ++ runsFrom at l) none ∙ append-nil (tabulated (made .count) (modelAt
     made)) in
     let back-is : comesBack rs ≡ false =
     w .back-is good ∙ ap (λ l. again (flagged seen) (runsFrom at l)) none ∙ again-done (flagged seen) in

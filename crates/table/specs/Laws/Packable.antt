@@ -7,7 +7,7 @@ use native.Mathlib.Nat.{le-of-suc-le-suc}
 use native.Mathlib.Omega.{arith}
 use lib.Dec.{ltb}
 use lib.ListN.{length, getD, take, drop}
-use Rattle.lists.specs.Lists.{all, each, eachIn, those, table}
+use Rattle.lists.specs.Lists.{all, each, eachIn, those, tabulated}
 use Rattle.lists.specs.Laws.Quantifiers.{all-iff}
 use Rattle.lists.specs.Refusals.{_when_, first}
 use Rattle.lists.specs.Laws.Booleans.{and-left, and-right, and-both}
@@ -33,7 +33,7 @@ use Rattle.table.specs.Laws.Indexed.{indexed, lawful-legal}
 stretch-legal : {e : Element} → GoodMap e → FineMap (mapOf e) → isBrain ((mapOf e) .kind) ≡ true
     → allLegal seven (stretch (mapOf e)) ≡ true
 unfolding stretch
-stretch-legal {e} g f b = all-iff 0 legalRecord (table size made) .1 (λ i u. at i (rw (size-of-table made size) at u))
+stretch-legal {e} g f b = all-iff 0 legalRecord (tabulated size made) .1 (λ i u. at i (rw (size-of-table made size) at u))
   where
     size : ℕ
     size = lengthOf (mapOf e)
@@ -41,7 +41,7 @@ stretch-legal {e} g f b = all-iff 0 legalRecord (table size made) .1 (λ i u. at
     made : ℕ → ℕ
     made = recordAt ((mapOf e) .models)
 
-    at : (i : ℕ) → i < size → legalRecord (getD (table size made) i 0) ≡ true
+    at : (i : ℕ) → i < size → legalRecord (getD (tabulated size made) i 0) ≡ true
     at i u =
         let x = indexed g f b i u in
         ap legalRecord (entry-of-table made 0 size i u ∙ x .recorded) ∙ lawful-legal (x .fits)
