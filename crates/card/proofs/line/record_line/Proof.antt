@@ -1,12 +1,12 @@
-use Rattle.card.specs.Laws.Line.{recordSteps}
+use Rattle.card.specs.Laws.Line.{voxel-line, surface-line, recordSteps}
 use Rattle.card.proofs.line.record_line.Statement.{statement}
 use Rattle.card.proofs.line.record_line.Tie as tie
 
 returns : tie.Need-returns
-returns c = search recordSteps
+returns c = search voxel-line
 
 returns-2 : tie.Need-returns-2
-returns-2 c = search recordSteps
+returns-2 c = search surface-line
 
 pub record-line-spec : {M : Type 1} → statement M
 record-line-spec {M = M} =

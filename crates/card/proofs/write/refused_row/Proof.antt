@@ -3,6 +3,9 @@ use borrow.Author.Needs.{needs}
 use Rattle.card.proofs.write.refused_row.Statement.{statement}
 use Rattle.card.proofs.write.refused_row.Tie as tie
 
+returns : tie.Need-returns
+returns c = search two-words
+
 pub refused-row-spec : {M : Type 1} → statement M
 refused-row-spec {M = M} =
     let closed = tie.spec {M = M}
@@ -10,5 +13,5 @@ refused-row-spec {M = M} =
     (λ c κs. search needs)
     (λ c κs. search needs)
     (λ c. search needs)
-    (λ c. search (two-words, needs))
+    returns
     in tie.close closed
