@@ -1,10 +1,9 @@
 use Rattle.values.specs.Laws.InTurn.{seeking, sought-met}
-use borrow.Author.Needs.{needs}
 use Rattle.values.proofs.attributes.seek.Statement.{statement}
 use Rattle.values.proofs.attributes.seek.Tie as tie
 
 met : tie.Need-returns
-met c = search (sought-met, needs)
+met c = search sought-met
 
 pub seek-spec : {M : Type 1} → statement M
 seek-spec {M = M} =
