@@ -55,6 +55,7 @@ none_front [] k h = none_left
 none_front (n when b ∷ l) k (passed h) = passed (none_front l k h)
 
 pub none_applies : {l : List Refusal} → NoneApplies l → (m : ℕ) → ¬ Applies l m
+none_applies none_left m x3 = elim x3 [ ]
 none_applies (passed h) m (later a) = none_applies h m a
 
 -- ---- Two lists in a row.
@@ -87,6 +88,7 @@ first_kept (m when false ∷ l) k n z h = first_kept l k n z h
 -- the numbers that apply are n or above
 pub above : (n : ℕ) (l : List Refusal) → rising n l ≡ true → (m : ℕ) → Applies l m → n ≤ m
 unfolding rising
+above n [] h m x'' = elim x'' [ ]
 above n (k when true ∷ l) h m here = leb-true n k (and_left (leb n k) (rising k l) h)
 above n (k when b ∷ l) h m (later a) =
     let s = leb-true n k (and_left (leb n k) (rising k l) h) in
