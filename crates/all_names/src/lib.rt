@@ -1,4 +1,6 @@
 // All names of a map in one call: where each starts in the text, and its length.
+#![tactic(auto)]
+
 ghost use Rattle.std.specs.Prelude.{◌≡◌, ◌+◌, ◌≤◌, length, get_or};
 ghost use Rattle.records.specs.Fill.{wrote};
 ghost use Rattle.all_names.specs.Names.{MapNamesPlaced};

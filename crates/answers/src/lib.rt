@@ -1,4 +1,6 @@
 // Parts of an answer: kinds and their numbers, a dimension, a refusal.
+#![tactic(auto)]
+
 ghost use Rattle.std.specs.Prelude.{◌≡◌, min};
 ghost use Rattle.cifti.specs.Maps.{kind_number, kind_place, is_brain, is_series, is_labels};
 ghost use Rattle.cifti.specs.declared.answer.Kind.TheVariants as kinds;

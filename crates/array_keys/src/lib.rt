@@ -1,4 +1,5 @@
 // The keys of an array, one after another or many at a time, in whatever encoding they are written.
+#![tactic(auto)]
 
 // The key of four bytes.
 mod fours;

@@ -1,4 +1,5 @@
 // Base64 in a text: the bytes of the next four letters, and whether a text is Base64.
+#![tactic(auto)]
 
 // The next letter that is no blank, and its value.
 mod values;

@@ -1,4 +1,6 @@
 // What the benchmarks under bench/ link: the layers, for programs in C and C++. A slice is a pointer and a count.
+#![tactic(auto)]
+
 ghost use Rattle.std.specs.Prelude.{◌≡◌, take};
 ghost use Rattle.steps.specs.WellFormed.{WellFormed};
 ghost use Rattle.records.specs.Repeat.{ChecksRepeats};

@@ -1,4 +1,5 @@
 // The morning card: which lines are printed, how many, and the bytes of each.
+#![tactic(auto)]
 
 // Each line of the card, by its number.
 mod line;

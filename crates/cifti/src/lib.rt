@@ -1,4 +1,5 @@
 // The CIFTI-2 rules, and the answer of the reader. Definitions, laws and types; no functions.
+#![tactic(auto)]
 
 // The answer, by value.
 mod answer;

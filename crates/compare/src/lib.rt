@@ -1,4 +1,5 @@
 // Two sheets side by side.
+#![tactic(auto)]
 
 // The paper's number of two sheets.
 mod refusal;

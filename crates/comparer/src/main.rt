@@ -1,4 +1,5 @@
 // Two sheets end to end on standard input; what changed from the first to the second, a line each, on standard output.
+#![tactic(auto)]
 
 // The bytes of a line.
 mod change_text;

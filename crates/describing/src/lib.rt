@@ -1,4 +1,5 @@
 // What the answer says of the maps, and condition 13.
+#![tactic(auto)]
 
 // The places that each map takes, and 13.
 mod room;

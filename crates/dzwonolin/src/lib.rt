@@ -1,6 +1,8 @@
 // The library for C: include/dzwonolin.h says what each function takes and gives. A slice is a pointer and the number of its elements.
 // Here are the doors of texts and files. Those that need no text are in record_doors; ./library puts both into one library.
 // All names of a map.
+#![tactic(auto)]
+
 mod names;
 // Labels.
 mod labels;

@@ -1,4 +1,5 @@
 // Walking the elements of a text: over a tag, over an element, to the first child and the next.
+#![tactic(auto)]
 
 // Passing over what is known to be well formed.
 pub mod scan;

@@ -1,5 +1,7 @@
 // The reader of a NIfTI-2 file: its front, and then what `reader` answers of the text inside it.
 // The lengths that are handed on.
+#![tactic(auto)]
+
 mod given;
 // The table.
 mod reading;

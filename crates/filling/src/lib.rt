@@ -1,5 +1,7 @@
 // The records of the brain maps: condition 14, and the table. The laws are in `table`.
 // The records of one list.
+#![tactic(auto)]
+
 mod listing;
 // Of one model.
 mod model;

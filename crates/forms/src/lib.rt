@@ -1,4 +1,6 @@
 // Whether a value, or the text of an element, is a number or numbers of a form.
+#![tactic(auto)]
+
 ghost use Rattle.std.specs.Prelude.{◌≡◌};
 ghost use Rattle.nodes.specs.Texts.{text_of_lem, says_at};
 ghost use Rattle.nodes.specs.Values.{value_there};

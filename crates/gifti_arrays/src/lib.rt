@@ -1,4 +1,5 @@
 // The arrays of a GIFTI label file: their keys, counted against the table of labels, and written.
+#![tactic(auto)]
 
 // The keys of an array, counted and written.
 mod tally;

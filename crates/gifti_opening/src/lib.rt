@@ -1,4 +1,6 @@
 // Conditions 2, 3, 4, 6, 29 and 7 of a GIFTI text, in the paper's order, and where its root stands.
+#![tactic(auto)]
+
 ghost use Rattle.std.specs.Prelude.{◌≡◌};
 ghost use Rattle.numbered_rows.specs.Checks.{JudgedGifti};
 ghost use Rattle.gifti_opening.specs.Opening.{OpensGifti, OpensRoot};

@@ -1,4 +1,5 @@
 // The readers up to the head of a tag: each takes a text and a position in it, and tells where the thing that begins there ends.
+#![tactic(auto)]
 
 // Characters and references.
 pub use letters::characters;

@@ -1,4 +1,5 @@
 // What the programs take from standard input.
+#![tactic(auto)]
 
 // Bytes, until there is no more room or no more input.
 mod came;

@@ -1,4 +1,5 @@
 // What the element at a place says: its name, its attributes, their decoded values, its text; and ways to an element.
+#![tactic(auto)]
 
 // Whether the element has a name.
 pub mod names;

@@ -1,5 +1,7 @@
 // Conditions 10, 11 and 12: the models of the brain maps. The laws are in `models`.
 // A model's structure by its word.
+#![tactic(auto)]
+
 mod structures;
 // A model's type and structure in one number.
 mod kind;

@@ -1,5 +1,6 @@
 // Whether a key stands twice in the table of labels at a place: by its keys in their order, all of them where work space is lent for so
 // many, and else part by part.
+#![tactic(auto)]
 
 // A part of the keys in their order, and what comes behind it.
 mod parts;

@@ -1,4 +1,5 @@
 // The numbers of a label: its key, and its colours; and keys in a row.
+#![tactic(auto)]
 
 // A decimal in value from 0 to 1.
 mod shade;

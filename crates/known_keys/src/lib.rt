@@ -1,5 +1,6 @@
 // Whether keys stand in the table of labels at a place, with no memory lent: the table's keys, as many at a time as there is room for, are
 // brought into their order, and each key is searched by halves.
+#![tactic(auto)]
 
 // Numbers brought into their order.
 mod order;

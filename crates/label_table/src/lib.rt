@@ -1,4 +1,5 @@
 // The table of labels at a place: its keys in order, the label of a key; and keys as numbers that are not below 0, in the same order.
+#![tactic(auto)]
 
 // The labels of a table, one after the other, and the key of each.
 pub mod labels;

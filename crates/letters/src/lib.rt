@@ -1,4 +1,5 @@
 // The smallest readers: classes of bytes, blanks and marks, names, characters; and blocks of sixteen bytes.
+#![tactic(auto)]
 
 // What a byte may be.
 pub mod classes;

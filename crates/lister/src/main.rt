@@ -1,4 +1,5 @@
 // The morning card: the lengths and a header text on standard input, the table of locations or the refusal on standard output.
+#![tactic(auto)]
 
 // What is answered to the first line and the text behind it.
 mod decision;

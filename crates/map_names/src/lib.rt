@@ -1,4 +1,6 @@
 // Where a map name stands in the text: the way of map_names/specs/Way, step by step, and so for any child of a NamedMap.
+#![tactic(auto)]
+
 ghost use Rattle.std.specs.Prelude.{◌≡◌};
 ghost use Rattle.inside.specs.Walked.{child_at};
 ghost use Rattle.inside.specs.Treads.{trod};

@@ -1,4 +1,6 @@
 // The reader of elements: which texts are documents, and where each element ends.
+#![tactic(auto)]
+
 ghost use Rattle.steps.specs.WellFormed.{WellFormed};
 
 use self::elements::whole_end;

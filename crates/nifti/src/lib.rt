@@ -1,4 +1,5 @@
 // The front of a NIfTI-2 file: what is read of it, and what is answered. Definitions, laws and types; no functions.
+#![tactic(auto)]
 
 // The order of the bytes of every number: the most significant first, or the least.
 #[derive(Drop)]

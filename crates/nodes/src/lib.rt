@@ -1,5 +1,6 @@
 // The elements of a text, as positions: the layers above walk them and never see a byte of markup. Definitions, laws and types; no
 // functions.
+#![tactic(auto)]
 
 // A cursor in a row of children.
 #[derive(Drop)]

@@ -1,5 +1,7 @@
 // The maps of a matrix that passes 1 to 7, each noted once. The laws are in `maps`.
 // The kind of a map, and the children that it counts.
+#![tactic(auto)]
+
 mod kind;
 // The dimensions that a map lists.
 mod digits;

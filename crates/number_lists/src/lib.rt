@@ -1,4 +1,5 @@
 // Numbers in a row: decoded characters, digits and blanks, and the next number of a list.
+#![tactic(auto)]
 
 // Decoded bytes, from a value or from a text.
 pub mod chars;

@@ -1,4 +1,5 @@
 // Numbers of one value: whole numbers, lengths, dimension lists, exponents, decimals with powers of ten; and the row of sixteen decimals.
+#![tactic(auto)]
 
 // What stands behind a mantissa.
 mod power;

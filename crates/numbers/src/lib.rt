@@ -1,4 +1,5 @@
 // Numbers in words and in texts: what each form means, and what its reader answers. Definitions, laws and types; no functions.
+#![tactic(auto)]
 
 // A whole number, or that there is none.
 #[derive(Drop)]

@@ -1,1 +1,2 @@
 // The order of models does not matter: definitions and theorems alone.
+#![tactic(auto)]

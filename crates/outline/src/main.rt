@@ -1,6 +1,8 @@
 // The document that a text writes, shown: the text on standard input, at most 32,768 bytes; on standard output `refused 2` where it is
 // longer, `refused 3` where it is no document, and else a line for each start (`<` and the name), attribute (`@`, its name, a space and its
 // value), run (`#`) and end (`>`), in the order of the text. Values and runs are decoded, in hexadecimal.
+#![tactic(auto)]
+
 use elements::children::root_of;
 use libc::{STDERR_FILENO, STDIN_FILENO, STDOUT_FILENO};
 use markup::well_formed;

@@ -2,6 +2,8 @@
 // text of a file is.
 // include/dzwonolin.h says what each takes and gives. A slice is a pointer and the number of its elements.
 // The short list made.
+#![tactic(auto)]
+
 mod making;
 // The short list asked.
 mod asking;

@@ -1,4 +1,5 @@
 // A record made and taken apart, its legality, its key; the first place of a record.
+#![tactic(auto)]
 
 // The 54 bits of a record.
 mod record;

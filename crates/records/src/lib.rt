@@ -1,4 +1,5 @@
 // Records of locations: the three counters, and what is answered of records, sheets and repeats. Definitions, laws and types; no functions.
+#![tactic(auto)]
 
 // An index, a vertex and a place, which are told apart.
 mod counters;

@@ -1,5 +1,6 @@
 // What it is for an element to be as rows say; and rows as a lent table of numbers and letters, with what a walk over a document by such
 // a table says. Definitions and theorems, and the types that the walk passes on; no functions.
+#![tactic(auto)]
 
 // How often each line of a kind was met so far; the place of the line met last, and the kind that it gave;
 // whether the watched name was seen, and whether it was met below a child.

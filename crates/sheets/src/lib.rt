@@ -1,4 +1,5 @@
 // Sheets: records packed into bytes, and unpacked.
+#![tactic(auto)]
 
 // The words of a sheet of either layout.
 mod word;

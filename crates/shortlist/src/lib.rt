@@ -1,5 +1,6 @@
 // A short list of models beside the records of one brain map: what it is, what is answered of it, and what the code passes on by value.
 // Definitions, laws and types; no functions.
+#![tactic(auto)]
 
 // A model of the list, and what is answered.
 mod answer;

@@ -1,4 +1,5 @@
 // The short list of models beside the records of one brain map: made and asked, entry by entry by value, and as a lent list.
+#![tactic(auto)]
 
 // The kind of a record; a number of no more bits than a record has.
 mod kinds;

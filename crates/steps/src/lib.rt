@@ -1,5 +1,6 @@
 // Where what begins at a place of a text ends: what the readers of bytes answer; and that a text says what it says with its line ends
 // translated first. Definitions, laws and types; no functions.
+#![tactic(auto)]
 
 // The position behind what was read, or that nothing was.
 #[derive(Drop)]

@@ -1,4 +1,6 @@
 // An element's own part, by a lent table: the faults of its attributes and of the numbers in its text.
+#![tactic(auto)]
+
 ghost use Rattle.schema.specs.Asked.{Known};
 ghost use Rattle.schema.specs.Walked.{Owns};
 

@@ -1,5 +1,7 @@
 // The table of rows, lent to the walk: conditions 3, 6 and 7 of any text, as CIFTI or as GIFTI, and the numbers of the words that the
 // paper names.
+#![tactic(auto)]
+
 ghost use Rattle.std.specs.Prelude.{◌≡◌};
 ghost use Rattle.nodes.specs.Values.{value_there};
 ghost use Rattle.cifti.specs.Words.{structures, units, number_in};

@@ -1,4 +1,6 @@
 // The walk over a document by a lent table: whether it is as the rows say that the table stands for. Any table will do.
+#![tactic(auto)]
+
 ghost use Rattle.schema.specs.Checked.{Checks, ChecksRoot, DocumentKnown};
 ghost use Rattle.std.specs.Prelude.{◌<◌};
 
