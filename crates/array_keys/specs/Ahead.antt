@@ -6,7 +6,7 @@ use Rattle.nodes.specs.Texts.{says_at, left, inside}
 use Rattle.nodes.specs.declared.Found.{Found}
 use Rattle.nodes.specs.declared.Found.TheVariants.{At, Nothing}
 use Rattle.numbers.specs.Numbers.{words, key, key_value}
-use Rattle.base64.specs.Fours.{Endian, big, little, keys_in}
+use Rattle.base64_text.specs.Fours.{Endian, big, little, keys_in}
 use Rattle.base64_reader.specs.Groups.{letters_at, low_bytes, bytes_ahead}
 use Rattle.array_keys.specs.declared.Encoding.{Encoding}
 use Rattle.array_keys.specs.declared.Encoding.TheVariants.{Plain, Big, Little}

@@ -1,7 +1,7 @@
 -- Bytes gathered until four are held, and the key of four bytes, as the code keeps them.
 use Rattle.std.specs.Prelude.{◌≡◌, List, [], ◌++◌, Bool, cond, ℕ, ◌+◌, ◌/◌, ◌%◌, ◌^◌, ◌<◌, ◌≤◌, ltb, ℤ}
 use Rattle.nodes.specs.Texts.{left}
-use Rattle.base64.specs.Fours.{in_endian, bits32, twos}
+use Rattle.base64_text.specs.Fours.{in_endian, bits32, twos}
 use Rattle.base64_reader.specs.Groups.{letters_at, low_bytes, bytes_ahead}
 use Rattle.array_keys.specs.Ahead.{bytes_from, endian_if}
 use Rattle.array_keys.specs.declared.KeyPlace.{KeyPlace}

@@ -1,6 +1,6 @@
 // The key of four bytes.
 ghost use Rattle.std.specs.Prelude.{◌≡◌, ◌/◌, ◌%◌, ◌^◌, ◌<◌, ◌≤◌};
-ghost use Rattle.base64.specs.Fours.{bits32, twos};
+ghost use Rattle.base64_text.specs.Fours.{bits32, twos};
 ghost use Rattle.array_keys.specs.Gathered.{key_by};
 
 // The four bytes before the last `rest` of those held.

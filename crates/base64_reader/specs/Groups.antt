@@ -7,8 +7,8 @@ use Rattle.grammar.specs.Look.{Word}
 use Rattle.nodes.specs.Texts.{says_at, left}
 use Rattle.nodes.specs.declared.Char.{Char}
 use Rattle.nodes.specs.declared.Char.TheVariants as chars
-use Rattle.base64.specs.Base64.{unblanked, worth, is_value, sixes, three_bytes, three_more, four_ending, four_values, decode}
-use Rattle.base64.specs.Fours.{bytes_or}
+use Rattle.base64_text.specs.Base64.{unblanked, worth, is_value, sixes, three_bytes, three_more, four_ending, four_values, decode}
+use Rattle.base64_text.specs.Fours.{bytes_or}
 use Rattle.base64_reader.specs.declared.Group.{Group}
 use Rattle.base64_reader.specs.declared.Group.TheVariants.{Bytes, End, Bad}
 

@@ -1,7 +1,7 @@
 // The bytes of the next four letters.
 ghost use Rattle.std.specs.Prelude.{◌≡◌, [], suc, ◌<◌, ◌≤◌};
 ghost use Rattle.nodes.specs.Texts.{says_at, left};
-ghost use Rattle.base64.specs.Base64.{unblanked, one_byte, two_bytes, four_ending};
+ghost use Rattle.base64_text.specs.Base64.{unblanked, one_byte, two_bytes, four_ending};
 ghost use Rattle.base64_reader.specs.Groups.{bits_of, LastTold, FourTold, GroupTold, QuickGroup, values_lent};
 
 use super::Group;

@@ -10,7 +10,7 @@ mod sixteen;
 
 ghost use Rattle.std.specs.Prelude.{◌≡◌, Bool};
 ghost use Rattle.nodes.specs.Texts.{says_at, text_of_lem};
-ghost use Rattle.base64.specs.Base64.{coded};
+ghost use Rattle.base64_text.specs.Base64.{coded};
 
 pub use groups::{any_group, quick_bits};
 use nodes::Found;

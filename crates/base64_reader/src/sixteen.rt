@@ -1,6 +1,6 @@
 // Sixteen plain letters at once: those that stand in the text as they are.
 ghost use Rattle.std.specs.Prelude.{◌≡◌};
-ghost use Rattle.base64.specs.Base64.{is_value, worth};
+ghost use Rattle.base64_text.specs.Base64.{is_value, worth};
 ghost use Rattle.base64_reader.specs.Groups.{sixteen_at};
 
 // One of the 64 letters.

@@ -1,6 +1,6 @@
 // The next letter that is no blank, and the value of a letter.
 ghost use Rattle.std.specs.Prelude.{◌≡◌};
-ghost use Rattle.base64.specs.Base64.{worth};
+ghost use Rattle.base64_text.specs.Base64.{worth};
 ghost use Rattle.base64_reader.specs.Groups.{LetterTold, values_lent};
 
 use letters::classes::is_blank;

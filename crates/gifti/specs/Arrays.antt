@@ -5,7 +5,7 @@ use Rattle.lists.specs.Lists.{each, each_in}
 use Rattle.grammar.specs.Document.{Element}
 use Rattle.grammar.specs.Look.{Word, attr, has, children, text_of}
 use Rattle.numbers.specs.Numbers.{value, listed_keys}
-use Rattle.base64.specs.Fours.{Endian, big, little, coded_keys, coded_bytes}
+use Rattle.base64_text.specs.Fours.{Endian, big, little, coded_keys, coded_bytes}
 use Rattle.cifti.specs.LabelTable.{table_keys}
 
 -- every DataArray in the root, and how many the root says that there are

@@ -3,7 +3,7 @@ use Rattle.std.specs.Prelude.{◌≡◌, List, [], ◌∷◌, true, false}
 use Rattle.grammar.specs.Document.{Element}
 use Rattle.grammar.specs.Look.{attr, children, text_of}
 use Rattle.numbers.specs.Numbers.{whole, key_list}
-use Rattle.base64.specs.Base64.{coded}
+use Rattle.base64_text.specs.Base64.{coded}
 use Rattle.cifti.specs.LabelTable.{keys_right}
 use Rattle.gifti.specs.Arrays.{is_coded, label_tables}
 

@@ -3,7 +3,7 @@
 use Rattle.std.specs.Prelude.{List, [], ◌∷◌, ◌++◌, ℕ}
 use Prim.Native.String.{String}
 use Rattle.numbers.specs.Numbers.{whole, key_list}
-use Rattle.base64.specs.Base64.{coded}
+use Rattle.base64_text.specs.Base64.{coded}
 use Rattle.schema.specs.Schema.{any_value, word, number, AttributeRow, required, optional, any_text, numbers, once, at_most_once}
 use Rattle.schema.specs.Schema.{at_least_once, Case, ◌⇒◌, always, chosen_else, child, any_order, in_order, Row, branch, leaf}
 use Rattle.schema.specs.Laws.Renamed.{row_named}

@@ -8,7 +8,7 @@ use Rattle.nodes.specs.declared.Found.{Found}
 use Rattle.nodes.specs.declared.Found.TheVariants.{At, Nothing}
 use Rattle.inside.specs.Treads.{child_named}
 use Rattle.numbers.specs.Numbers.{in_keys}
-use Rattle.base64.specs.Fours.{coded_bytes}
+use Rattle.base64_text.specs.Fours.{coded_bytes}
 use Rattle.known_keys.specs.Known.{known_in}
 use Rattle.gifti.specs.Arrays.{arrays_of, is_coded, data_of, dim0, array_keys, fills_dim0}
 use Rattle.array_keys.specs.Ahead.{keys_ahead, spare_bytes, keys_start}

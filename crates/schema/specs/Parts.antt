@@ -10,7 +10,7 @@ use Rattle.schema.specs.Schema.{child_shaped}
 use Rattle.schema.specs.Schema.{orderly, kind_of, shaped, numbered}
 use Rattle.numbers.specs.Numbers as numbers
 use Rattle.numbers.specs.Numbers.{whole, volume_dimensions, dimension_list, exponent, decimal, key_list, colour}
-use Rattle.base64.specs.Base64.{coded}
+use Rattle.base64_text.specs.Base64.{coded}
 use Rattle.nodes.specs.Attributes.{Key, key}
 use Rattle.schema.specs.Walk.{at_child}
 use Rattle.schema.specs.Table.{rows_of, text_at, order_at, order_by, text_form_at, form_at, attribute_at, attributes_of_kind, lines_of_kind}

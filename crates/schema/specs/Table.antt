@@ -3,7 +3,7 @@ use Rattle.std.specs.Prelude.{List, [], ◌++◌, ◌&&◌, cond, ℕ, zero, suc
 use Prim.Native.String.{String}
 use Rattle.lists.specs.Lists.{count_up}
 use Rattle.numbers.specs.Numbers.{whole, volume_dimensions, dimension_list, exponent, decimal, wholes, sixteen, key, key_list, colour}
-use Rattle.base64.specs.Base64.{coded}
+use Rattle.base64_text.specs.Base64.{coded}
 use Rattle.schema.specs.Schema.{Form, any_value, word, number, AttributeRow, required, optional, TextForm, any_text, numbers, Times}
 use Rattle.schema.specs.Schema.{once}
 use Rattle.schema.specs.Schema.{at_most_once, any_times, at_least_once, needed_below, Case, ◌⇒◌, Which, always, chosen, chosen_else}

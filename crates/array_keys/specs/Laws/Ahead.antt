@@ -17,8 +17,8 @@ use Rattle.nodes.specs.Laws.TextSteps.{says_at_outside, left_most, text_none, te
 use Rattle.nodes.specs.declared.Found.{Found}
 use Rattle.nodes.specs.declared.Found.TheVariants.{At, Nothing}
 use Rattle.numbers.specs.Numbers.{words, key, key_value, key_list, listed_keys}
-use Rattle.base64.specs.Base64.{unblanked, worth, sixes, three_bytes, three_more, four_ending, four_values, decode, bytes_in, coded}
-use Rattle.base64.specs.Fours.{Endian, big, little, keys_in, bytes_or, coded_keys, coded_bytes}
+use Rattle.base64_text.specs.Base64.{unblanked, worth, sixes, three_bytes, three_more, four_ending, four_values, decode, bytes_in, coded}
+use Rattle.base64_text.specs.Fours.{Endian, big, little, keys_in, bytes_or, coded_keys, coded_bytes}
 use Rattle.base64_reader.specs.Groups.{letters_at, low_bytes, four_read, four_ahead, bytes_ahead}
 use Rattle.keys.specs.KeyLists as lists
 use Rattle.keys.specs.declared.key_lists.ListedKey.{ListedKey}

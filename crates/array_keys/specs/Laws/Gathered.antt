@@ -7,9 +7,9 @@ use mir.Syntax.{w32}
 use mir.Val.{SFits, to_z, of_z}
 use mir.ValLaws.{to_z-of_z, to_z_pos}
 use Rattle.nodes.specs.Texts.{left}
-use Rattle.base64.specs.Base64.{decode}
-use Rattle.base64.specs.Fours.{Endian, in_endian, bits32, twos, keys_in}
-use Rattle.base64.specs.Laws.Fours.{whole_back}
+use Rattle.base64_text.specs.Base64.{decode}
+use Rattle.base64_text.specs.Fours.{Endian, in_endian, bits32, twos, keys_in}
+use Rattle.base64_text.specs.Laws.Fours.{whole_back}
 use Rattle.base64_reader.specs.Groups.{letters_at, low_bytes, bytes_ahead, BytesTaken, GroupTold, QuickGroup}
 use Rattle.base64_reader.specs.declared.Group.{Group}
 use Rattle.base64_reader.specs.declared.Group.TheVariants as groups

@@ -11,7 +11,7 @@ use mir.ValLaws.{to_z-of_z}
 use Rattle.std.proofs.lemmas.Bool.{lt-leb, not-true, not-false}
 use Rattle.lists.specs.Laws.Booleans.{or_left, or_right, both_ways}
 use Rattle.nodes.specs.Texts.{left}
-use Rattle.base64.specs.Fours.{big, little, keys_in}
+use Rattle.base64_text.specs.Fours.{big, little, keys_in}
 use Rattle.base64_reader.specs.Groups.{low_bytes, QuickGroup}
 use Rattle.array_keys.specs.Ahead.{held_bytes, bytes_from, coded_ahead, keys_ahead, spare_bytes, keys_left, encoding_if, KeyTold}
 use Rattle.array_keys.specs.Gathered.{kept_bytes, BytesGathered, key_by}

@@ -12,9 +12,9 @@ use Rattle.lists.specs.Laws.Booleans.{clash, and_halves}
 use Rattle.grammar.specs.Look.{Word}
 use Rattle.nodes.specs.declared.Char.{Char}
 use Rattle.nodes.specs.declared.Char.TheVariants as chars
-use Rattle.base64.specs.Base64.{worth, is_value, sixes, three_bytes, three_more, one_byte, two_bytes, four_ending, four_values, decode}
-use Rattle.base64.specs.Fours.{bytes_or}
-use Rattle.base64.specs.Laws.Letters.{value_below, is_value_lem as a_value}
+use Rattle.base64_text.specs.Base64.{worth, is_value, sixes, three_bytes, three_more, one_byte, two_bytes, four_ending, four_values, decode}
+use Rattle.base64_text.specs.Fours.{bytes_or}
+use Rattle.base64_text.specs.Laws.Letters.{value_below, is_value_lem as a_value}
 use Rattle.base64_reader.specs.Groups.{letters_at, Letter, LetterTold, low_bytes, prefixed, bits_of, four_read, four_ahead, bytes_ahead}
 use Rattle.base64_reader.specs.Groups.{BytesTaken, GroupRead, GroupTold, FourTold, Lasts, LastTold}
 use Rattle.base64_reader.specs.declared.Group.{Group}

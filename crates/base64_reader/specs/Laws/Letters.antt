@@ -16,7 +16,7 @@ use Rattle.nodes.specs.declared.Char.TheVariants as chars
 use Rattle.numbers.specs.Stream.{char_at, letter_at, stream, left_in}
 use Rattle.numbers.specs.Laws.Stream.{char_byte, char_end}
 use Rattle.numbers.specs.declared.Source.TheVariants.{Contents}
-use Rattle.base64.specs.Base64.{unblanked, worth}
+use Rattle.base64_text.specs.Base64.{unblanked, worth}
 use Rattle.base64_reader.specs.Groups.{values_lent, letters_at, Letter, LetterTold}
 
 pub letter_told : {text : List ℕ} {i b j : ℕ} → Letter text i b j → LetterTold text i (chars.Byte b j)

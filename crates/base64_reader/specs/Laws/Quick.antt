@@ -9,8 +9,8 @@ use Rattle.grammar.specs.Bytes.{blank, special}
 use Rattle.nodes.specs.declared.Char.TheVariants as chars
 use Rattle.numbers.specs.Stream.{char_at}
 use Rattle.numbers.specs.Laws.Listed.{plain_char}
-use Rattle.base64.specs.Base64.{worth, is_value}
-use Rattle.base64.specs.Laws.Letters.{value_byte, is_value_lem}
+use Rattle.base64_text.specs.Base64.{worth, is_value}
+use Rattle.base64_text.specs.Laws.Letters.{value_byte, is_value_lem}
 use Rattle.base64_reader.specs.Groups.{LetterTold, GroupTold, bits_of, QuickGroup}
 use Rattle.base64_reader.specs.Laws.Letters.{passing_start, passing_letter}
 use Rattle.base64_reader.specs.Laws.Groups.{group_four, four_right, Values, bits_some}

@@ -9,8 +9,8 @@ use Rattle.lists.specs.Lists.{all_below}
 use Rattle.lists.specs.Laws.Quantifiers.{all_below_iff}
 use Rattle.lists.specs.Laws.Booleans.{refute}
 use Rattle.grammar.specs.Bytes.{between}
-use Rattle.base64.specs.Base64.{worth, is_value, sixes, four_values}
-use Rattle.base64.specs.Laws.Letters.{value_below, is_value_lem}
+use Rattle.base64_text.specs.Base64.{worth, is_value, sixes, four_values}
+use Rattle.base64_text.specs.Laws.Letters.{value_below, is_value_lem}
 use Rattle.base64_reader.specs.Groups.{bits_of, QuickGroup, letter_behind, sixteen_at}
 use Rattle.base64_reader.specs.Laws.Quick.{quick_told}
 

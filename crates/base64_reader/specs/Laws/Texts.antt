@@ -9,7 +9,7 @@ use Rattle.nodes.specs.Texts.{says_at, left, inside, text_of_lem}
 use Rattle.nodes.specs.Laws.TextSteps.{text_none, text_some}
 use Rattle.nodes.specs.declared.Found.{Found}
 use Rattle.nodes.specs.declared.Found.TheVariants.{At, Nothing}
-use Rattle.base64.specs.Base64.{unblanked, decode, bytes_in, coded}
+use Rattle.base64_text.specs.Base64.{unblanked, decode, bytes_in, coded}
 use Rattle.base64_reader.specs.Groups.{letters_at, low_bytes, prefixed, GroupTold, QuickGroup, sixteen_at}
 use Rattle.base64_reader.specs.Laws.Sixteen.{four_small, four_quick}
 use Rattle.base64_reader.specs.declared.Group.{Group}

@@ -5,8 +5,8 @@ use Rattle.lists.specs.Lists.{all, each}
 use Rattle.lists.specs.Laws.Booleans.{and_left, and_right}
 use Rattle.grammar.specs.Document.{Element}
 use Rattle.numbers.specs.Numbers.{listed_keys}
-use Rattle.base64.specs.Base64.{bytes_in}
-use Rattle.base64.specs.Fours.{Endian, keys_in, bytes_or, coded_keys, coded_bytes}
+use Rattle.base64_text.specs.Base64.{bytes_in}
+use Rattle.base64_text.specs.Fours.{Endian, keys_in, bytes_or, coded_keys, coded_bytes}
 use Rattle.gifti.specs.Arrays.{is_coded, endian_of, data_of, dim0, array_keys, fills_dim0}
 
 fours_many : (o : Endian) (l : List ℕ) (n : ℕ) → length l ≡ 4 * n → length (keys_in o l) ≡ n

@@ -12,7 +12,7 @@ use Rattle.grammar.specs.Document.{Element}
 use Rattle.grammar.specs.Look.{Word, is, name_of, attributes_of, contents_of, value_in, or_empty, attr, has, elements, children, text_of}
 use Rattle.grammar.specs.Parser.{same_bytes}
 use Rattle.numbers.specs.Numbers.{whole, key_list}
-use Rattle.base64.specs.Base64.{coded}
+use Rattle.base64_text.specs.Base64.{coded}
 use Rattle.schema.specs.Schema.{any_value, word, number, AttributeRow, required, optional, ChildRow, child, once, at_most_once}
 use Rattle.schema.specs.Schema.{at_least_once, always, chosen_else, any_order}
 use Rattle.schema.specs.Schema.{in_order, branch, kind_of, kind_by, kind_chosen, kind_among, or_else, shaped, numbered}

@@ -7,8 +7,8 @@ use Rattle.grammar.specs.Bytes.{◌⊹◌, ascii}
 use Rattle.grammar.specs.Parser.{computing}
 use Rattle.grammar.specs.Look.{looks}
 use Rattle.numbers.specs.Numbers.{numbers}
-use Rattle.base64.specs.Base64.{base64}
-use Rattle.base64.specs.Fours.{fours}
+use Rattle.base64_text.specs.Base64.{base64}
+use Rattle.base64_text.specs.Fours.{fours}
 use Rattle.schema.specs.Schema.{schema}
 use Rattle.schema.specs.Laws.Renamed.{renaming}
 use Rattle.cifti.specs.LabelTable.{label_words}

@@ -29,8 +29,8 @@ use Rattle.array_keys.specs.declared.Encoding.TheVariants.{Plain, Big, Little}
 use Rattle.lists.specs.Lists.{all, those}
 use Rattle.lists.specs.Laws.Booleans.{never_some, and_true}
 use Rattle.numbers.specs.Numbers.{in_keys, listed_keys, value, key_list}
-use Rattle.base64.specs.Base64.{bytes_in, coded}
-use Rattle.base64.specs.Fours.{big, little, bytes_or, coded_keys, coded_bytes}
+use Rattle.base64_text.specs.Base64.{bytes_in, coded}
+use Rattle.base64_text.specs.Fours.{big, little, bytes_or, coded_keys, coded_bytes}
 use Rattle.maps.specs.Fields.{attribute_word, number_seen}
 use Rattle.maps.specs.Laws.Fields.{word_at, number_seen_lem}
 use Rattle.array_keys.specs.Laws.Ahead.{plain_keys, big_keys, little_keys, big_spare, little_spare, key_bytes_lem}

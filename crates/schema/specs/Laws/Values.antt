@@ -11,7 +11,7 @@ use Rattle.nodes.specs.Places.{the}
 use Rattle.nodes.specs.Texts.{text_of_lem}
 use Rattle.nodes.specs.Laws.TextSteps.{text_law}
 use Rattle.numbers.specs.Numbers.{whole, volume_dimensions, dimension_list, exponent, decimal, wholes, sixteen, key, key_list, colour}
-use Rattle.base64.specs.Base64.{coded}
+use Rattle.base64_text.specs.Base64.{coded}
 use Rattle.schema.specs.Schema.{Form, word, number, any_value, is_word, is_number, is_text, any_text, numbers}
 use Rattle.schema.specs.Words.{number_in}
 use Rattle.schema.specs.Table.{fronted_at, form_by, form_at, form_cell, text_form_by, text_form_at}

@@ -1,6 +1,6 @@
 use mathlib.Core.Path.{refl}
 use Rattle.lists.specs.Lists.{count_up, tabulated}
-use Rattle.base64.specs.Base64.{worth}
+use Rattle.base64_text.specs.Base64.{worth}
 use Rattle.base64_reader.specs.Groups.{values_lent}
 use Rattle.base64_reader.proofs.values.letter_values.Statement.{statement}
 use Rattle.base64_reader.proofs.values.letter_values.Tie as tie

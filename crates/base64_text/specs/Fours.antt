@@ -5,7 +5,7 @@ use Rattle.std.proofs.Math.Option.{Option, some}
 use Rattle.std.proofs.Math.Option
 use Rattle.lists.specs.Lists.{each_in}
 use Rattle.grammar.specs.Look.{Word}
-use Rattle.base64.specs.Base64.{bytes_in}
+use Rattle.base64_text.specs.Base64.{bytes_in}
 
 -- the byte that stands first is the greatest, or the least
 pub data Endian : Type 0 where

@@ -14,10 +14,10 @@ use Rattle.lists.specs.Lists.{those}
 use Rattle.lists.specs.Laws.Booleans.{and_halves, never_some}
 use Rattle.grammar.specs.Bytes.{blank}
 use Rattle.grammar.specs.Look.{Word}
-use Rattle.base64.specs.Base64.{letter_of, bits_of_three, first_letter, second_letter, third_letter, fourth_letter, encode, unblanked}
-use Rattle.base64.specs.Base64.{worth, is_value, sixes, three_bytes, three_more, one_byte, two_bytes, four_ending, four_values, decode}
-use Rattle.base64.specs.Base64.{bytes_in}
-use Rattle.base64.specs.Laws.Letters.{worth_letter, letter_worth, pads, pad, no_pad, is_value_lem, value_below, letter_kept}
+use Rattle.base64_text.specs.Base64.{letter_of, bits_of_three, first_letter, second_letter, third_letter, fourth_letter, encode, unblanked}
+use Rattle.base64_text.specs.Base64.{worth, is_value, sixes, three_bytes, three_more, one_byte, two_bytes, four_ending, four_values, decode}
+use Rattle.base64_text.specs.Base64.{bytes_in}
+use Rattle.base64_text.specs.Laws.Letters.{worth_letter, letter_worth, pads, pad, no_pad, is_value_lem, value_below, letter_kept}
 
 pub data Bytes : List ℕ → Type 0 where
   none : Bytes []

@@ -5,10 +5,10 @@ use Rattle.lists.specs.Lists.{all, each_in}
 use Rattle.lists.specs.Laws.Booleans.{and_halves}
 use Rattle.numbers.specs.Numbers.{in_keys}
 use Rattle.numbers.specs.Laws.Keys.{above_in, below_in_lem}
-use Rattle.base64.specs.Base64.{encode}
-use Rattle.base64.specs.Fours.{Endian, big, little, in_endian, bits32, twos, keys_in, bytes_or, coded_keys}
-use Rattle.base64.specs.Fours.{bits_of_key, four_bytes, bytes_of_key, key_bytes}
-use Rattle.base64.specs.Laws.Base64.{Bytes, none, more, written_found}
+use Rattle.base64_text.specs.Base64.{encode}
+use Rattle.base64_text.specs.Fours.{Endian, big, little, in_endian, bits32, twos, keys_in, bytes_or, coded_keys}
+use Rattle.base64_text.specs.Fours.{bits_of_key, four_bytes, bytes_of_key, key_bytes}
+use Rattle.base64_text.specs.Laws.Base64.{Bytes, none, more, written_found}
 
 -- the 32 bits of a key, and the key of them
 bits_small : (z : ℤ) → in_keys z ≡ true → bits_of_key z < 4294967296

@@ -6,8 +6,8 @@ use Prim.Native.String.{String}
 use Rattle.lists.specs.Lists.{lists, all, each}
 use Rattle.grammar.specs.Bytes.{ascii, blank}
 use Rattle.grammar.specs.Look.{Word}
-use Rattle.base64.specs.Base64.{base64, encode, bytes_in, coded}
-use Rattle.base64.specs.Fours.{fours, big, little, coded_keys, coded_bytes}
+use Rattle.base64_text.specs.Base64.{base64, encode, bytes_in, coded}
+use Rattle.base64_text.specs.Fours.{fours, big, little, coded_keys, coded_bytes}
 
 unfoldable rows : List String → List Word
 rows l = each ascii l

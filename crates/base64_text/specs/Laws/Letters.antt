@@ -6,7 +6,7 @@ use Rattle.lists.specs.Lists.{all_below}
 use Rattle.lists.specs.Laws.Quantifiers.{all_below_iff}
 use Rattle.lists.specs.Laws.Booleans.{both_ways}
 use Rattle.grammar.specs.Bytes.{between, blank}
-use Rattle.base64.specs.Base64.{alphabet, letter_of, worth, is_value}
+use Rattle.base64_text.specs.Base64.{alphabet, letter_of, worth, is_value}
 
 passed : (p : ℕ → Bool) (n : ℕ) → all_below n p ≡ true → (a : ℕ) → a < n → p a ≡ true
 passed p n e = (all_below_iff n p).0 e

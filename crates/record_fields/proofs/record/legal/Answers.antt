@@ -1,0 +1,6 @@
+use Rattle.records.specs.Laws.Record.{seven_sound}
+use Rattle.record_fields.specs.Laws.Sums.{legal_sum}
+use Rattle.record_fields.proofs.record.legal.Goals as goal
+
+pub returns : goal.returns
+returns c = legal_sum seven_sound c.args.r
