@@ -24,7 +24,7 @@ unfolding location_in is_voxel_in structure_in payload_in bits parts_of
 surface r h = whole r _ (rw (ne_eqb (r / 2 ^ 39 % 2) 1 h, div-one))
 
 pub returns-then-r-eq1 : goal.returns-then-r-eq1
-returns-then-r-eq1 c = c.voxel-record.ensures ∙ volume _ c.if-r-eq1.true
+returns-then-r-eq1 c = c.voxel_record-voxel.ensures ∙ volume _ c.if-r-eq1.true
 
 pub returns-else-r-eq1 : goal.returns-else-r-eq1
-returns-else-r-eq1 c = c.surface-record.ensures ∙ surface _ c.if-r-eq1.false
+returns-else-r-eq1 c = c.surface_record-surface.ensures ∙ surface _ c.if-r-eq1.false
