@@ -40,10 +40,10 @@ within_child : (m : ℕ) (text : List ℕ) (k : ℕ) → kids_within (suc m) tex
 unfolding kids_within
 within_child m text k = refl
 
-kids_row : (m : ℕ) {text : List ℕ} {kid : Kid} {l : List Element} → left text kid < m → Siblings text kid l → kids_within m text kid ≡ l
-kids_row m {text} h no_more = within_done m text
+kids_row : {text : List ℕ} (m : ℕ) {kid : Kid} {l : List Element} → left text kid < m → Siblings text kid l → kids_within m text kid ≡ l
+kids_row {text} m h no_more = within_done m text
 kids_row zero h (one_more st f r) = absurd (omega arith)
-kids_row (suc m) {text} h (one_more {k} st f r) = within_child m text k ∙ ap (λ l. the text k ∷ l) (kids_row m (omega arith) r)
+kids_row {text} (suc m) h (one_more {k} st f r) = within_child m text k ∙ ap (λ l. the text k ∷ l) (kids_row m (omega arith) r)
 
 row_kids : {text : List ℕ} {kid : Kid} {l : List Element} → Siblings text kid l → kids text kid ≡ l
 unfolding kids

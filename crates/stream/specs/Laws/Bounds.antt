@@ -89,7 +89,7 @@ unfolding holders
 holders_append q [] l = refl
 holders_append q (j ∷ m) l = ap (held_by (sort j)) (holders_append q m l)
 
-joined_rows : (p q : ℕ) {m : List Job} (l : List Job) → InRow (jobs p l) (holders q l) m → InRow p q l → InRow p q (m ++ l)
+joined_rows : (p q : ℕ) (l : List Job) {m : List Job} → InRow (jobs p l) (holders q l) m → InRow p q l → InRow p q (m ++ l)
 joined_rows p q l row_none o = o
 joined_rows p q l (row_more {j} {l = m} f r) o =
     row_more {j = j} {l = m ++ l} (rw (jobs_append p m l, holders_append q m l) f) (joined_rows p q l r o)
@@ -118,7 +118,7 @@ byte_kept a (jobs_left {l} o) = jobs_kept l a o
 pub kept : {x : Left} (s : List ℕ) → Kept x → Kept (read_on x s)
 unfolding read_on
 kept [] k = k
-kept (a ∷ s) k = kept s (byte_kept a k)
+kept {x = x} (a ∷ s) k = kept {x = read_byte x a} s (byte_kept a k)
 
 outset_kept : Kept outset
 unfolding outset sort Suited jobs holders held_by
