@@ -1,4 +1,3 @@
 pub mod Ahead
 pub mod Gathered
 pub mod Rows
-pub mod Laws

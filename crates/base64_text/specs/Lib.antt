@@ -1,4 +1,2 @@
 pub mod Base64
 pub mod Fours
-pub mod Laws
-pub mod Tests

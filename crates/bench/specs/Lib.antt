@@ -1,3 +1,2 @@
 pub mod Numbered
 pub mod Sum
-pub mod Laws

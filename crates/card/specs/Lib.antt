@@ -1,4 +1,2 @@
 pub mod Card
-pub mod Laws
 pub mod Written
-pub mod Tests

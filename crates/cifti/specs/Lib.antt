@@ -6,6 +6,4 @@ pub mod Text
 pub mod Names
 pub mod Answer
 pub mod Labels
-pub mod Laws
-pub mod Tests
 pub mod LabelTable

@@ -1,4 +1,4 @@
-// What changed from one sheet to another, index by index. The theorems on two sheets side by side are in specs/Laws.
+// What changed from one sheet to another, index by index. The theorems on two sheets side by side are in proofs/Laws.
 ghost use Rattle.std.specs.Prelude.{◌≡◌, ◌≤◌, ◌<◌, length};
 ghost use Rattle.comparison.specs.Compare.{has_record, has_at};
 ghost use Rattle.compare.specs.Change.{change_at, end_said, first_end};

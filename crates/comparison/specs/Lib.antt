@@ -2,4 +2,3 @@ pub mod Matched
 pub mod Tagged
 pub mod Compare
 pub mod Accepted
-pub mod Laws

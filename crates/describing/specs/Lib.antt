@@ -1,4 +1,3 @@
 pub mod Room
 pub mod Series
 pub mod Said
-pub mod Laws

@@ -2,4 +2,3 @@ pub mod Promises
 pub mod AllNames
 pub mod Labels
 pub mod Gifti
-pub mod Laws

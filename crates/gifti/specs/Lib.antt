@@ -4,5 +4,3 @@ pub mod Conditions
 pub mod Keys
 pub mod Located
 pub mod Held
-pub mod Laws
-pub mod Tests

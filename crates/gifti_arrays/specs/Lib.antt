@@ -1,4 +1,3 @@
 pub mod Tally
 pub mod Ready
 pub mod Arrays
-pub mod Laws

@@ -1,4 +1,3 @@
 pub mod Arrays
 pub mod Opening
 pub mod Passed
-pub mod Laws

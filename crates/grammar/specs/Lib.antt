@@ -7,5 +7,3 @@ pub mod Parser
 pub mod Erased
 pub mod Unfuelled
 pub mod Look
-pub mod Laws
-pub mod Tests

@@ -2,5 +2,3 @@ pub mod Arrived
 pub mod Limits
 pub mod Lengths
 pub mod Parted
-pub mod Laws
-pub mod Tests

@@ -2,4 +2,3 @@ pub mod Way
 pub mod Walked
 pub mod One
 pub mod Treads
-pub mod Laws

@@ -1,4 +1,3 @@
 pub mod Order
 pub mod Known
 pub mod Sieve
-pub mod Laws

@@ -2,6 +2,4 @@ pub mod Way
 pub mod Before
 pub mod Keys
 pub mod Names
-pub mod Laws
 pub mod Told
-pub mod Tests

@@ -1,4 +1,3 @@
 pub mod Walks
 pub mod Labels
 pub mod Codes
-pub mod Laws

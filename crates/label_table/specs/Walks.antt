@@ -2,7 +2,7 @@
 use Rattle.std.specs.Prelude.{List, [], ℕ}
 use Rattle.lists.specs.Lists.{each}
 use Rattle.nodes.specs.declared.Kid.{Kid}
-use Rattle.label_table.specs.Laws.Labels.{row}
+use Rattle.label_table.proofs.Laws.Labels.{row}
 use Rattle.label_table.specs.Codes.{code_here}
 
 -- what is still to come

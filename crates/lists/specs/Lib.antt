@@ -3,4 +3,3 @@ pub mod Refusals
 pub mod Ranges
 pub mod Filling
 pub mod Reordered
-pub mod Laws

@@ -2,4 +2,3 @@ pub mod Way
 pub mod Treads
 pub mod Answered
 pub mod Placed
-pub mod Laws

@@ -13,4 +13,3 @@ pub mod Over
 pub mod ListedOnce
 pub mod LengthsAgree
 pub mod Unread
-pub mod Laws

@@ -10,4 +10,3 @@ pub mod Held
 pub mod Fine
 pub mod Judged
 pub mod Judging
-pub mod Laws

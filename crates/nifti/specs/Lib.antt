@@ -4,4 +4,3 @@ pub mod Fields
 pub mod Extensions
 pub mod File
 pub mod Model
-pub mod Laws

@@ -14,5 +14,3 @@ pub mod Root
 pub mod ElementEnd
 pub mod ScanSteps
 pub mod TextBytes
-pub mod Laws
-pub mod Tests

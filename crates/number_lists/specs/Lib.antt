@@ -1,4 +1,3 @@
 pub mod Digits
 pub mod Letters
 pub mod Within
-pub mod Laws

@@ -7,5 +7,3 @@ pub mod Answers
 pub mod Spelled
 pub mod Quick
 pub mod Sixteen
-pub mod Laws
-pub mod Tests

@@ -1,4 +1,2 @@
 pub mod Resorted
 pub mod Stretch
-pub mod Laws
-pub mod Tests

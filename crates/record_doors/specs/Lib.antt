@@ -3,4 +3,3 @@ pub mod Promises
 pub mod Lists
 pub mod Sides
 pub mod Front
-pub mod Laws

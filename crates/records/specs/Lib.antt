@@ -8,5 +8,3 @@ pub mod Outcome
 pub mod Sheet
 pub mod Find
 pub mod Repeat
-pub mod Laws
-pub mod Tests

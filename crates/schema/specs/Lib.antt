@@ -2,7 +2,6 @@ pub mod Good
 pub mod Schema
 pub mod Walk
 pub mod Words
-pub mod Laws
 pub mod Letters
 pub mod Table
 pub mod Faults
@@ -12,4 +11,3 @@ pub mod Asked
 pub mod Tallied
 pub mod Walked
 pub mod Checked
-pub mod Tests

@@ -3,5 +3,3 @@ pub mod Making
 pub mod Asking
 pub mod Made
 pub mod Search
-pub mod Laws
-pub mod Tests

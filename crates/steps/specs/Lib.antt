@@ -10,4 +10,3 @@ pub mod Pieces
 pub mod Blocks
 pub mod WellFormed
 pub mod LineEnds
-pub mod Laws

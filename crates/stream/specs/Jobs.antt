@@ -1,5 +1,5 @@
 -- JOBS: what is still to be read of a text that arrives a bit at a time, and what one byte makes of it. A job is something of the grammar,
--- or the rest of it where its first bytes are gone. specs/Laws/Meets says of each which of the grammar's readers it is.
+-- or the rest of it where its first bytes are gone. proofs/Laws/Meets says of each which of the grammar's readers it is.
 use Rattle.std.specs.Prelude.{List, [], ◌∷◌, ◌++◌, ℕ, zero, suc, Bool, true, false, cond, ◌&&◌, not, eqb, leb, ltb, length}
 use Rattle.std.proofs.Math.Option.{Option, some}
 use Rattle.std.proofs.Math.Option

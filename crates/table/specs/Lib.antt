@@ -9,5 +9,3 @@ pub mod Accepted
 pub mod Located
 pub mod Packable
 pub mod ByOffset
-pub mod Laws
-pub mod Tests

@@ -1,4 +1,4 @@
-use Rattle.all_names.specs.Laws.Placed.{placingAll}
+use Rattle.all_names.proofs.Laws.Placed.{placingAll}
 use Rattle.all_names.proofs.map_names.Statement.{statement}
 use Rattle.all_names.proofs.map_names.Tie as tie
 

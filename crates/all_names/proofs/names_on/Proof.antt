@@ -1,5 +1,5 @@
 use borrow.Author.Rules.{rules}
-use Rattle.all_names.specs.Laws.Walk.{onMap, on_short}
+use Rattle.all_names.proofs.Laws.Walk.{onMap, on_short}
 use Rattle.all_names.proofs.names_on.Statement.{statement}
 use Rattle.all_names.proofs.names_on.Tie as tie
 

@@ -1,4 +1,4 @@
-use Rattle.all_names.specs.Laws.Walk.{putting}
+use Rattle.all_names.proofs.Laws.Walk.{putting}
 use Rattle.all_names.proofs.put_name.Statement.{statement}
 use Rattle.all_names.proofs.put_name.Tie as tie
 

@@ -1,5 +1,5 @@
-use Rattle.inside.specs.Laws.Treads.{ahead}
-use Rattle.all_names.specs.Laws.Walk.{filling, Filling, fill_start}
+use Rattle.inside.proofs.Laws.Treads.{ahead}
+use Rattle.all_names.proofs.Laws.Walk.{filling, Filling, fill_start}
 use Rattle.all_names.proofs.put_names.Statement.{statement}
 use Rattle.all_names.proofs.put_names.Tie as tie
 

@@ -1,4 +1,4 @@
-use Rattle.array_keys.specs.Laws.Ahead.{choosing}
+use Rattle.array_keys.proofs.Laws.Ahead.{choosing}
 use Rattle.array_keys.proofs.key_next.Statement.{statement}
 use Rattle.array_keys.proofs.key_next.Tie as tie
 

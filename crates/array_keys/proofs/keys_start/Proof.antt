@@ -1,4 +1,4 @@
-use Rattle.array_keys.specs.Laws.Ahead.{starting, start_there, start_nowhere}
+use Rattle.array_keys.proofs.Laws.Ahead.{starting, start_there, start_nowhere}
 use Rattle.array_keys.proofs.keys_start.Statement.{statement}
 use Rattle.array_keys.proofs.keys_start.Tie as tie
 

@@ -1,4 +1,4 @@
-use Rattle.array_keys.specs.Laws.Ahead.{plainly}
+use Rattle.array_keys.proofs.Laws.Ahead.{plainly}
 use Rattle.array_keys.proofs.plain_next.Statement.{statement}
 use Rattle.array_keys.proofs.plain_next.Tie as tie
 

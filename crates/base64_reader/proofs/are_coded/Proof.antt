@@ -1,4 +1,4 @@
-use Rattle.base64_reader.specs.Laws.Texts.{coded-texts, coded_there}
+use Rattle.base64_reader.proofs.Laws.Texts.{coded-texts, coded_there}
 use Rattle.base64_reader.proofs.are_coded.Statement.{statement}
 use Rattle.base64_reader.proofs.are_coded.Tie as tie
 

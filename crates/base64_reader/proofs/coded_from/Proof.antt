@@ -1,7 +1,7 @@
 use native.Mathlib.Omega.{arith}
-use Rattle.base64_reader.specs.Laws.Quick.{quick_place}
-use Rattle.base64_reader.specs.Laws.Sixteen.{sixteen_place}
-use Rattle.base64_reader.specs.Laws.Texts.{Coding, coding, coding_sixteen_less}
+use Rattle.base64_reader.proofs.Laws.Quick.{quick_place}
+use Rattle.base64_reader.proofs.Laws.Sixteen.{sixteen_place}
+use Rattle.base64_reader.proofs.Laws.Texts.{Coding, coding, coding_sixteen_less}
 use Rattle.nodes.specs.Texts.{left}
 use Rattle.base64_reader.proofs.coded_from.Statement.{statement}
 use Rattle.base64_reader.proofs.coded_from.Tie as tie

@@ -1,5 +1,5 @@
 use Rattle.nodes.specs.Texts.{left}
-use Rattle.bench.specs.Laws.Sum.{Summed, sumSteps}
+use Rattle.bench.proofs.Laws.Sum.{Summed, sumSteps}
 use Rattle.bench.proofs.bench_sum.Statement.{statement}
 use Rattle.bench.proofs.bench_sum.Tie as tie
 

@@ -2,7 +2,7 @@ use mathlib.Core.Path.{refl, sym, ◌∙◌}
 use lib.Seq.{length-take-le}
 use native.Mathlib.Omega.{arith}
 use borrow.Author.Rules.{rules}
-use Rattle.comparer.specs.Laws.Room.{output_said, refusal_said, number_told, rest_is}
+use Rattle.comparer.proofs.Laws.Room.{output_said, refusal_said, number_told, rest_is}
 use Rattle.comparer.proofs.print_answer.Statement.{statement}
 use Rattle.comparer.proofs.print_answer.Tie as tie
 

@@ -6,13 +6,13 @@ use lib.Seq.{length-take-le}
 use native.Mathlib.Omega.{arith}
 use borrow.Author.Rules.{rules}
 use Rattle.records.specs.Sheet.{count_of, Unpacks}
-use Rattle.records.specs.Laws.Sheet.{wrote_front}
+use Rattle.records.proofs.Laws.Sheet.{wrote_front}
 use Rattle.records.specs.declared.outcome.Outcome.{Outcome}
 use Rattle.comparison.specs.Compare.{records_of}
 use Rattle.comparison.specs.Accepted.{sheet_refusal}
-use Rattle.comparison.specs.Laws.Accepted.{accepted}
-use Rattle.comparison.specs.Laws.Held.{held_long}
-use Rattle.compare.specs.Laws.Held.{unpacked_value, unpacked_holds}
+use Rattle.comparison.proofs.Laws.Accepted.{accepted}
+use Rattle.comparison.proofs.Laws.Held.{held_long}
+use Rattle.compare.proofs.Laws.Held.{unpacked_value, unpacked_holds}
 use Rattle.comparer.specs.Output.{output_bytes}
 use Rattle.comparer.proofs.print_both.Statement.{statement}
 use Rattle.comparer.proofs.print_both.Tie as tie

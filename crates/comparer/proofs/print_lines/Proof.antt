@@ -4,7 +4,7 @@ use borrow.Author.Rules.{rules}
 use Prim.Native.Nat.{◌+◌, ◌≤◌, ◌-◌}
 use lib.ListN.{length}
 use native.Mathlib.Omega.{arith}
-use Rattle.comparer.specs.Laws.Lines.{bytes_below, bytes_none, bytes_few, bytes_next, bytes_all, line_small}
+use Rattle.comparer.proofs.Laws.Lines.{bytes_below, bytes_none, bytes_few, bytes_next, bytes_all, line_small}
 use Rattle.comparer.proofs.print_lines.Statement.{statement}
 use Rattle.comparer.proofs.print_lines.Tie as tie
 

@@ -1,6 +1,6 @@
 use native.Mathlib.Omega.{arith}
 use borrow.Author.Rules.{rules}
-use Rattle.comparer.specs.Laws.Output.{refusal_all}
+use Rattle.comparer.proofs.Laws.Output.{refusal_all}
 use Rattle.comparer.proofs.print_refusal.Statement.{statement}
 use Rattle.comparer.proofs.print_refusal.Tie as tie
 

@@ -1,4 +1,4 @@
-use Rattle.forms.specs.Laws.Forms.{telling}
+use Rattle.forms.proofs.Laws.Forms.{telling}
 use Rattle.forms.proofs.are_lengths.Statement.{statement}
 use Rattle.forms.proofs.are_lengths.Tie as tie
 

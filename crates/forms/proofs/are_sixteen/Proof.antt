@@ -1,4 +1,4 @@
-use Rattle.forms.specs.Laws.Forms.{inside_text}
+use Rattle.forms.proofs.Laws.Forms.{inside_text}
 use Rattle.forms.proofs.are_sixteen.Statement.{statement}
 use Rattle.forms.proofs.are_sixteen.Tie as tie
 

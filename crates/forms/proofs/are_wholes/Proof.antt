@@ -1,4 +1,4 @@
-use Rattle.forms.specs.Laws.Forms.{inside_text}
+use Rattle.forms.proofs.Laws.Forms.{inside_text}
 use Rattle.forms.proofs.are_wholes.Statement.{statement}
 use Rattle.forms.proofs.are_wholes.Tie as tie
 

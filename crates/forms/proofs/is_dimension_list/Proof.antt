@@ -1,4 +1,4 @@
-use Rattle.forms.specs.Laws.Forms.{telling}
+use Rattle.forms.proofs.Laws.Forms.{telling}
 use Rattle.forms.proofs.is_dimension_list.Statement.{statement}
 use Rattle.forms.proofs.is_dimension_list.Tie as tie
 

@@ -1,4 +1,4 @@
-use Rattle.forms.specs.Laws.Forms.{telling}
+use Rattle.forms.proofs.Laws.Forms.{telling}
 use Rattle.forms.proofs.is_whole.Statement.{statement}
 use Rattle.forms.proofs.is_whole.Tie as tie
 

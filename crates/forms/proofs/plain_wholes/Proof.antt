@@ -1,6 +1,6 @@
 use Rattle.nodes.specs.Texts.{left}
 use Rattle.forms.specs.Passed.{NumbersPassed}
-use Rattle.forms.specs.Laws.Passed.{passing}
+use Rattle.forms.proofs.Laws.Passed.{passing}
 use Rattle.forms.proofs.plain_wholes.Statement.{statement}
 use Rattle.forms.proofs.plain_wholes.Tie as tie
 

@@ -1,6 +1,6 @@
-use Rattle.forms.specs.Laws.Passed.{listing}
+use Rattle.forms.proofs.Laws.Passed.{listing}
 use Rattle.nodes.specs.Texts.{left}
-use Rattle.forms.specs.Laws.Forms.{Listing}
+use Rattle.forms.proofs.Laws.Forms.{Listing}
 use Rattle.forms.proofs.wholes_from.Statement.{statement}
 use Rattle.forms.proofs.wholes_from.Tie as tie
 

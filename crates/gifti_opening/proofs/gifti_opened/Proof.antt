@@ -1,4 +1,4 @@
-use Rattle.gifti_opening.specs.Laws.Opening.{opening}
+use Rattle.gifti_opening.proofs.Laws.Opening.{opening}
 use Rattle.gifti_opening.proofs.gifti_opened.Statement.{statement}
 use Rattle.gifti_opening.proofs.gifti_opened.Tie as tie
 

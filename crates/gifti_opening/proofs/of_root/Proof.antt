@@ -1,5 +1,5 @@
 use mathlib.Core.Path.{refl}
-use Rattle.gifti_opening.specs.Laws.Opening.{rooted, root_unread, root_passes}
+use Rattle.gifti_opening.proofs.Laws.Opening.{rooted, root_unread, root_passes}
 use Rattle.gifti_opening.proofs.of_root.Statement.{statement}
 use Rattle.gifti_opening.proofs.of_root.Tie as tie
 

@@ -3,7 +3,7 @@ use borrow.Author.Rules.{rules}
 use lib.ListN.{length}
 use lib.Seq.{length-take-le}
 use Rattle.label_table.specs.Walks.{to_come}
-use Rattle.key_twice.specs.Laws.Parts.{searching, Searching, searching_found}
+use Rattle.key_twice.proofs.Laws.Parts.{searching, Searching, searching_found}
 use Rattle.key_twice.proofs.search_in.Statement.{statement}
 use Rattle.key_twice.proofs.search_in.Tie as tie
 

@@ -1,4 +1,4 @@
-use Rattle.keys.specs.Laws.Colours.{colouring, colour_seen}
+use Rattle.keys.proofs.Laws.Colours.{colouring, colour_seen}
 use Rattle.keys.proofs.is_colour.Statement.{statement}
 use Rattle.keys.proofs.is_colour.Tie as tie
 

@@ -1,4 +1,4 @@
-use Rattle.keys.specs.Laws.Keys.{key-telling}
+use Rattle.keys.proofs.Laws.Keys.{key-telling}
 use Rattle.keys.proofs.is_key.Statement.{statement}
 use Rattle.keys.proofs.is_key.Tie as tie
 

@@ -1,5 +1,5 @@
 use mathlib.Core.Path.{refl}
-use Rattle.keys.specs.Laws.Colours.{sighting, seen}
+use Rattle.keys.proofs.Laws.Colours.{sighting, seen}
 use Rattle.keys.proofs.is_zero_or_one.Statement.{statement}
 use Rattle.keys.proofs.is_zero_or_one.Tie as tie
 

@@ -1,4 +1,4 @@
-use Rattle.keys.specs.Laws.Keys.{key-digits}
+use Rattle.keys.proofs.Laws.Keys.{key-digits}
 use Rattle.keys.proofs.key_from.Statement.{statement}
 use Rattle.keys.proofs.key_from.Tie as tie
 

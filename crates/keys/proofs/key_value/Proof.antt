@@ -1,4 +1,4 @@
-use Rattle.numbers.specs.Laws.Keys.{key-signs, key_minus}
+use Rattle.numbers.proofs.Laws.Keys.{key-signs, key_minus}
 use Rattle.keys.proofs.key_value.Statement.{statement}
 use Rattle.keys.proofs.key_value.Tie as tie
 

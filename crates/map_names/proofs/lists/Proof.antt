@@ -1,4 +1,4 @@
-use Rattle.map_names.specs.Laws.Treads.{listing}
+use Rattle.map_names.proofs.Laws.Treads.{listing}
 use Rattle.map_names.proofs.lists.Statement.{statement}
 use Rattle.map_names.proofs.lists.Tie as tie
 

@@ -1,4 +1,4 @@
-use Rattle.map_names.specs.Laws.Treads.{mapping}
+use Rattle.map_names.proofs.Laws.Treads.{mapping}
 use Rattle.map_names.proofs.map_lists.Statement.{statement}
 use Rattle.map_names.proofs.map_lists.Tie as tie
 

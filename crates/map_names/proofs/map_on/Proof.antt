@@ -1,6 +1,6 @@
 use Rattle.map_names.specs.Treads.{map_lists_at}
-use Rattle.map_names.specs.Laws.Treads.{first-map}
-use Rattle.inside.specs.Laws.Treads.{Seeking, ahead}
+use Rattle.map_names.proofs.Laws.Treads.{first-map}
+use Rattle.inside.proofs.Laws.Treads.{Seeking, ahead}
 use Rattle.map_names.proofs.map_on.Statement.{statement}
 use Rattle.map_names.proofs.map_on.Tie as tie
 

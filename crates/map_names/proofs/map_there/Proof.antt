@@ -1,4 +1,4 @@
-use Rattle.map_names.specs.Laws.Treads.{from-root}
+use Rattle.map_names.proofs.Laws.Treads.{from-root}
 use Rattle.map_names.proofs.map_there.Statement.{statement}
 use Rattle.map_names.proofs.map_there.Tie as tie
 

@@ -1,4 +1,4 @@
-use Rattle.map_names.specs.Laws.Treads.{on_map}
+use Rattle.map_names.proofs.Laws.Treads.{on_map}
 use Rattle.map_names.proofs.name_on.Statement.{statement}
 use Rattle.map_names.proofs.name_on.Tie as tie
 

@@ -1,4 +1,4 @@
-use Rattle.map_names.specs.Laws.Treads.{from-map}
+use Rattle.map_names.proofs.Laws.Treads.{from-map}
 use Rattle.map_names.proofs.named_there.Statement.{statement}
 use Rattle.map_names.proofs.named_there.Tie as tie
 

@@ -1,4 +1,4 @@
-use Rattle.map_names.specs.Laws.Answered.{answering}
+use Rattle.map_names.proofs.Laws.Answered.{answering}
 use Rattle.map_names.proofs.place_of.Statement.{statement}
 use Rattle.map_names.proofs.place_of.Tie as tie
 

@@ -1,4 +1,4 @@
-use Rattle.marks.proofs.Laws.{marked-there}
+use Rattle.marks.proofs.Marking.{marked-there}
 use Rattle.marks.proofs.is_marked.Statement.{statement}
 use Rattle.marks.proofs.is_marked.Tie as tie
 

@@ -1,4 +1,4 @@
-use Rattle.steps.specs.Laws.Document.{documents}
+use Rattle.steps.proofs.Laws.Document.{documents}
 use Rattle.markup.proofs.well_formed.Statement.{statement}
 use Rattle.markup.proofs.well_formed.Tie as tie
 

@@ -1,4 +1,4 @@
-use Rattle.number_values.specs.Laws.Dimensions.{dimension}
+use Rattle.number_values.proofs.Laws.Dimensions.{dimension}
 use Rattle.number_values.proofs.dimension_at.Statement.{statement}
 use Rattle.number_values.proofs.dimension_at.Tie as tie
 

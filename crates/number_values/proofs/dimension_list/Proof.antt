@@ -1,4 +1,4 @@
-use Rattle.numbers.specs.Laws.Lists.{counting-all}
+use Rattle.numbers.proofs.Laws.Lists.{counting-all}
 use Rattle.number_values.proofs.dimension_list.Statement.{statement}
 use Rattle.number_values.proofs.dimension_list.Tie as tie
 

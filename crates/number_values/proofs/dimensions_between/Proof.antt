@@ -1,4 +1,4 @@
-use Rattle.numbers.specs.Laws.Lists.{listing, Listing, list_room}
+use Rattle.numbers.proofs.Laws.Lists.{listing, Listing, list_room}
 use native.Mathlib.Omega.{arith}
 use Rattle.numbers.specs.Stream.{left_in}
 use Rattle.numbers.specs.declared.Source.TheVariants.{Value}

@@ -1,4 +1,4 @@
-use Rattle.numbers.specs.Laws.Exponent.{exponent-digits}
+use Rattle.numbers.proofs.Laws.Exponent.{exponent-digits}
 use Rattle.number_values.proofs.exponent_from.Statement.{statement}
 use Rattle.number_values.proofs.exponent_from.Tie as tie
 

@@ -1,4 +1,4 @@
-use Rattle.numbers.specs.Laws.Exponent.{exponent-signs}
+use Rattle.numbers.proofs.Laws.Exponent.{exponent-signs}
 use Rattle.number_values.proofs.exponent_value.Statement.{statement}
 use Rattle.number_values.proofs.exponent_value.Tie as tie
 

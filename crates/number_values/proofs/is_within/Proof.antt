@@ -1,4 +1,4 @@
-use Rattle.numbers.specs.Laws.Lists.{within-it}
+use Rattle.numbers.proofs.Laws.Lists.{within-it}
 use Rattle.number_values.proofs.is_within.Statement.{statement}
 use Rattle.number_values.proofs.is_within.Tie as tie
 

@@ -1,4 +1,4 @@
-use Rattle.numbers.specs.Laws.Parts.{finding}
+use Rattle.numbers.proofs.Laws.Parts.{finding}
 use Rattle.number_values.proofs.part_at.Statement.{statement}
 use Rattle.number_values.proofs.part_at.Tie as tie
 

@@ -1,4 +1,4 @@
-use Rattle.numbers.specs.Laws.Signed.{signed_fits, signed_minus, signed_plus}
+use Rattle.numbers.proofs.Laws.Signed.{signed_fits, signed_minus, signed_plus}
 use borrow.Author.Rules.{rules}
 use Rattle.number_values.proofs.signed.Statement.{statement}
 use Rattle.number_values.proofs.signed.Tie as tie

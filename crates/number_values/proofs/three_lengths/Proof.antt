@@ -1,4 +1,4 @@
-use Rattle.numbers.specs.Laws.Three.{lengths}
+use Rattle.numbers.proofs.Laws.Three.{lengths}
 use Rattle.number_values.proofs.three_lengths.Statement.{statement}
 use Rattle.number_values.proofs.three_lengths.Tie as tie
 

@@ -1,4 +1,4 @@
-use Rattle.numbers.specs.Laws.Values.{wholing}
+use Rattle.numbers.proofs.Laws.Values.{wholing}
 use Rattle.number_values.proofs.whole_value.Statement.{statement}
 use Rattle.number_values.proofs.whole_value.Tie as tie
 

@@ -3,7 +3,7 @@ use mathlib.Core.Path.{◌≡◌}
 use mathlib.Core.List.{[], ◌∷◌}
 use Rattle.flat.specs.Flat.{laid_over}
 use Rattle.record_doors.specs.Numbers.{SeeksNumbers}
-use Rattle.record_doors.specs.Laws.Lists.{seeks_flat}
+use Rattle.record_doors.proofs.Laws.Lists.{seeks_flat}
 use Rattle.record_doors.proofs.dz_index_of.Statement.{statement}
 use Rattle.record_doors.proofs.dz_index_of.Tie as tie
 

@@ -3,7 +3,7 @@ use mathlib.Core.Path.{◌≡◌}
 use mathlib.Core.List.{[], ◌∷◌}
 use Rattle.flat.specs.Flat.{laid_over}
 use Rattle.record_doors.specs.Numbers.{TellsNumbers}
-use Rattle.record_doors.specs.Laws.Lists.{tells_flat}
+use Rattle.record_doors.proofs.Laws.Lists.{tells_flat}
 use Rattle.record_doors.proofs.dz_structure_at.Statement.{statement}
 use Rattle.record_doors.proofs.dz_structure_at.Tie as tie
 

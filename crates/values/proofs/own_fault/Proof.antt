@@ -1,4 +1,4 @@
-use Rattle.values.specs.Laws.InTurn.{owning, walked_other}
+use Rattle.values.proofs.Laws.InTurn.{owning, walked_other}
 use Rattle.values.proofs.own_fault.Statement.{statement}
 use Rattle.values.proofs.own_fault.Tie as tie
 

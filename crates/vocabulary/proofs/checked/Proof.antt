@@ -1,5 +1,5 @@
 use mathlib.Core.Path.{refl}
-use Rattle.numbered_rows.specs.Laws.Agree.{cifti_checked}
+use Rattle.numbered_rows.proofs.Laws.Agree.{cifti_checked}
 use Rattle.vocabulary.proofs.checked.Statement.{statement}
 use Rattle.vocabulary.proofs.checked.Tie as tie
 

@@ -1,5 +1,5 @@
 use mathlib.Core.Path.{refl}
-use Rattle.numbered_rows.specs.Laws.Arrays.{gifti_checked}
+use Rattle.numbered_rows.proofs.Laws.Arrays.{gifti_checked}
 use Rattle.vocabulary.proofs.gifti_checked.Statement.{statement}
 use Rattle.vocabulary.proofs.gifti_checked.Tie as tie
 

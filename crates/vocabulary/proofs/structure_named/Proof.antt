@@ -1,4 +1,4 @@
-use Rattle.numbered_rows.specs.Laws.Agree.{structure_is}
+use Rattle.numbered_rows.proofs.Laws.Agree.{structure_is}
 use Rattle.vocabulary.proofs.structure_named.Statement.{statement}
 use Rattle.vocabulary.proofs.structure_named.Tie as tie
 

@@ -1,4 +1,4 @@
-use Rattle.schema.specs.Laws.Checked.{checking}
+use Rattle.schema.proofs.Laws.Checked.{checking}
 use Rattle.walk.proofs.check.Statement.{statement}
 use Rattle.walk.proofs.check.Tie as tie
 

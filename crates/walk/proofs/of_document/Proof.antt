@@ -1,4 +1,4 @@
-use Rattle.schema.specs.Laws.Checked.{rooted}
+use Rattle.schema.proofs.Laws.Checked.{rooted}
 use Rattle.walk.proofs.of_document.Statement.{statement}
 use Rattle.walk.proofs.of_document.Tie as tie
 

@@ -1,4 +1,4 @@
-use Rattle.array_keys.specs.Laws.Gathered.{nexting}
+use Rattle.array_keys.proofs.Laws.Gathered.{nexting}
 use Rattle.array_keys.proofs.coded.coded_next.Statement.{statement}
 use Rattle.array_keys.proofs.coded.coded_next.Tie as tie
 

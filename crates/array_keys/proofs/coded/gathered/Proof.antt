@@ -1,6 +1,6 @@
 use native.Mathlib.Omega.{arith}
-use Rattle.base64_reader.specs.Laws.Quick.{quick_place}
-use Rattle.array_keys.specs.Laws.Gathered.{Gathering, gathering, gather_quick}
+use Rattle.base64_reader.proofs.Laws.Quick.{quick_place}
+use Rattle.array_keys.proofs.Laws.Gathered.{Gathering, gathering, gather_quick}
 use Rattle.nodes.specs.Texts.{left}
 use Rattle.array_keys.proofs.coded.gathered.Statement.{statement}
 use Rattle.array_keys.proofs.coded.gathered.Tie as tie

@@ -1,4 +1,4 @@
-use Rattle.array_keys.specs.Laws.Gathered.{keeping}
+use Rattle.array_keys.proofs.Laws.Gathered.{keeping}
 use Rattle.array_keys.proofs.coded.kept_bytes.Statement.{statement}
 use Rattle.array_keys.proofs.coded.kept_bytes.Tie as tie
 

@@ -1,4 +1,4 @@
-use Rattle.array_keys.specs.Laws.Gathered.{holding}
+use Rattle.array_keys.proofs.Laws.Gathered.{holding}
 use Rattle.array_keys.proofs.coded.more_held.Statement.{statement}
 use Rattle.array_keys.proofs.coded.more_held.Tie as tie
 

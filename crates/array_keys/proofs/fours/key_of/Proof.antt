@@ -1,4 +1,4 @@
-use Rattle.array_keys.specs.Laws.Gathered.{keying}
+use Rattle.array_keys.proofs.Laws.Gathered.{keying}
 use Rattle.array_keys.proofs.fours.key_of.Statement.{statement}
 use Rattle.array_keys.proofs.fours.key_of.Tie as tie
 

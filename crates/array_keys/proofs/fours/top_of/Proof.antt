@@ -1,4 +1,4 @@
-use Rattle.array_keys.specs.Laws.Gathered.{topping}
+use Rattle.array_keys.proofs.Laws.Gathered.{topping}
 use Rattle.array_keys.proofs.fours.top_of.Statement.{statement}
 use Rattle.array_keys.proofs.fours.top_of.Tie as tie
 

@@ -1,4 +1,4 @@
-use Rattle.array_keys.specs.Laws.Gathered.{turning}
+use Rattle.array_keys.proofs.Laws.Gathered.{turning}
 use Rattle.array_keys.proofs.fours.turned.Statement.{statement}
 use Rattle.array_keys.proofs.fours.turned.Tie as tie
 

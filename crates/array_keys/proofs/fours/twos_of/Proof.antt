@@ -1,4 +1,4 @@
-use Rattle.array_keys.specs.Laws.Gathered.{signing}
+use Rattle.array_keys.proofs.Laws.Gathered.{signing}
 use Rattle.array_keys.proofs.fours.twos_of.Statement.{statement}
 use Rattle.array_keys.proofs.fours.twos_of.Tie as tie
 

@@ -1,6 +1,6 @@
 use Rattle.array_keys.specs.Ahead.{keys_left}
 use Rattle.array_keys.specs.Rows.{Run}
-use Rattle.array_keys.specs.Laws.Rows.{filling}
+use Rattle.array_keys.proofs.Laws.Rows.{filling}
 use Rattle.array_keys.proofs.rows.fill_from.Statement.{statement}
 use Rattle.array_keys.proofs.rows.fill_from.Tie as tie
 

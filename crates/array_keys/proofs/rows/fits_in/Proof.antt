@@ -1,4 +1,4 @@
-use Rattle.array_keys.specs.Laws.Rows.{rooming}
+use Rattle.array_keys.proofs.Laws.Rows.{rooming}
 use Rattle.array_keys.proofs.rows.fits_in.Statement.{statement}
 use Rattle.array_keys.proofs.rows.fits_in.Tie as tie
 

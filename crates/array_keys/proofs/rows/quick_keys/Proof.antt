@@ -3,7 +3,7 @@ use lib.ListN.{length}
 use Rattle.nodes.specs.Texts.{left}
 use Rattle.array_keys.specs.Ahead.{encoding_if}
 use Rattle.array_keys.specs.Rows.{Run, bare_at}
-use Rattle.array_keys.specs.Laws.Rows.{quickening, room_there, quick_inside, quick_more}
+use Rattle.array_keys.proofs.Laws.Rows.{quickening, room_there, quick_inside, quick_more}
 use Rattle.array_keys.proofs.rows.quick_keys.Statement.{statement}
 use Rattle.array_keys.proofs.rows.quick_keys.Tie as tie
 

@@ -1,4 +1,4 @@
-use Rattle.array_keys.specs.Laws.Rows.{running}
+use Rattle.array_keys.proofs.Laws.Rows.{running}
 use Rattle.array_keys.proofs.rows.quick_run.Statement.{statement}
 use Rattle.array_keys.proofs.rows.quick_run.Tie as tie
 

@@ -1,6 +1,6 @@
 use native.Mathlib.Omega.{arith}
 use lib.ListN.{length}
-use Rattle.array_keys.specs.Laws.Rows.{sixteen, room_left}
+use Rattle.array_keys.proofs.Laws.Rows.{sixteen, room_left}
 use Rattle.array_keys.proofs.rows.three_keys.Statement.{statement}
 use Rattle.array_keys.proofs.rows.three_keys.Tie as tie
 

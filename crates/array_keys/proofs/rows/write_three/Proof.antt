@@ -1,4 +1,4 @@
-use Rattle.array_keys.specs.Laws.Rows.{threes, three_wrote}
+use Rattle.array_keys.proofs.Laws.Rows.{threes, three_wrote}
 use Rattle.array_keys.proofs.rows.write_three.Statement.{statement}
 use Rattle.array_keys.proofs.rows.write_three.Tie as tie
 

@@ -1,4 +1,4 @@
-use Rattle.base64_reader.specs.Laws.Groups.{grouping}
+use Rattle.base64_reader.proofs.Laws.Groups.{grouping}
 use Rattle.base64_reader.proofs.groups.any_group.Statement.{statement}
 use Rattle.base64_reader.proofs.groups.any_group.Tie as tie
 

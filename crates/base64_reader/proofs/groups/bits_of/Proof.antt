@@ -1,4 +1,4 @@
-use Rattle.base64_reader.specs.Laws.Groups.{bits}
+use Rattle.base64_reader.proofs.Laws.Groups.{bits}
 use Rattle.base64_reader.proofs.groups.bits_of.Statement.{statement}
 use Rattle.base64_reader.proofs.groups.bits_of.Tie as tie
 

@@ -1,4 +1,4 @@
-use Rattle.base64_reader.specs.Laws.Groups.{fours, four_last}
+use Rattle.base64_reader.proofs.Laws.Groups.{fours, four_last}
 use Rattle.base64_reader.proofs.groups.group_of.Statement.{statement}
 use Rattle.base64_reader.proofs.groups.group_of.Tie as tie
 

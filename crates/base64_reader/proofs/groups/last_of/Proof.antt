@@ -1,4 +1,4 @@
-use Rattle.base64_reader.specs.Laws.Groups.{lasting, last_one}
+use Rattle.base64_reader.proofs.Laws.Groups.{lasting, last_one}
 use Rattle.base64_reader.proofs.groups.last_of.Statement.{statement}
 use Rattle.base64_reader.proofs.groups.last_of.Tie as tie
 

@@ -1,4 +1,4 @@
-use Rattle.base64_reader.specs.Laws.Groups.{spare}
+use Rattle.base64_reader.proofs.Laws.Groups.{spare}
 use Rattle.base64_reader.proofs.groups.one_byte.Statement.{statement}
 use Rattle.base64_reader.proofs.groups.one_byte.Tie as tie
 

@@ -1,4 +1,4 @@
-use Rattle.base64_reader.specs.Laws.Quick.{quickly}
+use Rattle.base64_reader.proofs.Laws.Quick.{quickly}
 use Rattle.base64_reader.proofs.groups.quick_bits.Statement.{statement}
 use Rattle.base64_reader.proofs.groups.quick_bits.Tie as tie
 

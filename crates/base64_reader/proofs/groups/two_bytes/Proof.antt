@@ -1,4 +1,4 @@
-use Rattle.base64_reader.specs.Laws.Groups.{spare}
+use Rattle.base64_reader.proofs.Laws.Groups.{spare}
 use Rattle.base64_reader.proofs.groups.two_bytes.Statement.{statement}
 use Rattle.base64_reader.proofs.groups.two_bytes.Tie as tie
 

@@ -1,4 +1,4 @@
-use Rattle.base64_reader.specs.Laws.Sixteen.{lettered}
+use Rattle.base64_reader.proofs.Laws.Sixteen.{lettered}
 use Rattle.base64_reader.proofs.sixteen.is_letter.Statement.{statement}
 use Rattle.base64_reader.proofs.sixteen.is_letter.Tie as tie
 

@@ -1,5 +1,5 @@
 use Prim.Native.Nat.{◌-◌}
-use Rattle.base64_reader.specs.Laws.Sixteen.{Looking, looking}
+use Rattle.base64_reader.proofs.Laws.Sixteen.{Looking, looking}
 use Rattle.base64_reader.proofs.sixteen.sixteen_letters.Statement.{statement}
 use Rattle.base64_reader.proofs.sixteen.sixteen_letters.Tie as tie
 

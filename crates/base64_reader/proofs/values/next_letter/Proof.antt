@@ -1,4 +1,4 @@
-use Rattle.base64_reader.specs.Laws.Letters.{Passing, passing}
+use Rattle.base64_reader.proofs.Laws.Letters.{Passing, passing}
 use Rattle.nodes.specs.Texts.{left}
 use Rattle.base64_reader.proofs.values.next_letter.Statement.{statement}
 use Rattle.base64_reader.proofs.values.next_letter.Tie as tie

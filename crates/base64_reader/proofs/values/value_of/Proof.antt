@@ -1,4 +1,4 @@
-use Rattle.base64_reader.specs.Laws.Letters.{valuing}
+use Rattle.base64_reader.proofs.Laws.Letters.{valuing}
 use Rattle.base64_reader.proofs.values.value_of.Statement.{statement}
 use Rattle.base64_reader.proofs.values.value_of.Tie as tie
 

@@ -1,5 +1,5 @@
 use Prim.Native.Nat.{◌-◌}
-use Rattle.card.specs.Laws.Count.{Dimensions, dimensionSteps}
+use Rattle.card.proofs.Laws.Count.{Dimensions, dimensionSteps}
 use native.Mathlib.Omega.{arith}
 use Rattle.card.proofs.count.dimension_count.Statement.{statement}
 use Rattle.card.proofs.count.dimension_count.Tie as tie

@@ -1,4 +1,4 @@
-use Rattle.card.specs.Laws.Count.{lines_few, lines_inside, lines_refused, lines_accepted}
+use Rattle.card.proofs.Laws.Count.{lines_few, lines_inside, lines_refused, lines_accepted}
 use native.Mathlib.Omega.{arith}
 use borrow.Author.Rules.{rules}
 use Rattle.card.proofs.count.line_count.Statement.{statement}

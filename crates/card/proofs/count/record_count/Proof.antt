@@ -1,6 +1,6 @@
 use Prim.Native.Nat.{◌-◌}
 use Rattle.card.specs.Card.{answer_dimensions}
-use Rattle.card.specs.Laws.Count.{Stretches, stretches_start, stretches_done, stretches_on}
+use Rattle.card.proofs.Laws.Count.{Stretches, stretches_start, stretches_done, stretches_on}
 use native.Mathlib.Omega.{arith}
 use Rattle.card.proofs.count.record_count.Statement.{statement}
 use Rattle.card.proofs.count.record_count.Tie as tie

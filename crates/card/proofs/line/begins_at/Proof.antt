@@ -1,4 +1,4 @@
-use Rattle.card.specs.Laws.Line.{kindSteps}
+use Rattle.card.proofs.Laws.Line.{kindSteps}
 use Rattle.card.proofs.line.begins_at.Statement.{statement}
 use Rattle.card.proofs.line.begins_at.Tie as tie
 

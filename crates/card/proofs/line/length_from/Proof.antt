@@ -2,7 +2,7 @@ use mathlib.Core.Path.{◌≡◌}
 use Prim.Native.Nat.{◌≤◌, ◌-◌}
 use lib.ListN.{drop}
 use Rattle.card.specs.Card.{length_from, answer_dimensions}
-use Rattle.card.specs.Laws.Line.{lengthSteps}
+use Rattle.card.proofs.Laws.Line.{lengthSteps}
 use native.Mathlib.Omega.{arith}
 use Rattle.card.proofs.line.length_from.Statement.{statement}
 use Rattle.card.proofs.line.length_from.Tie as tie

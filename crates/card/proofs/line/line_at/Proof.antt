@@ -1,4 +1,4 @@
-use Rattle.card.specs.Laws.Card.{cardSteps}
+use Rattle.card.proofs.Laws.Card.{cardSteps}
 use borrow.Author.Rules.{rules}
 use Rattle.card.proofs.line.line_at.Statement.{statement}
 use Rattle.card.proofs.line.line_at.Tie as tie

@@ -1,4 +1,4 @@
-use Rattle.card.specs.Laws.Line.{kindSteps}
+use Rattle.card.proofs.Laws.Line.{kindSteps}
 use Rattle.card.proofs.line.map_line.Statement.{statement}
 use Rattle.card.proofs.line.map_line.Tie as tie
 

@@ -1,4 +1,4 @@
-use Rattle.card.specs.Laws.Line.{voxel_line, surface_line, recordSteps}
+use Rattle.card.proofs.Laws.Line.{voxel_line, surface_line, recordSteps}
 use Rattle.card.proofs.line.record_line.Statement.{statement}
 use Rattle.card.proofs.line.record_line.Tie as tie
 

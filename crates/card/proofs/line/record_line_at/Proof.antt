@@ -1,6 +1,6 @@
 use Prim.Native.Nat.{◌-◌}
 use Rattle.card.specs.Card.{answer_dimensions}
-use Rattle.card.specs.Laws.Records.{Seeking, seekSteps, seek_start, seek_done, seek_here, seek_later}
+use Rattle.card.proofs.Laws.Records.{Seeking, seekSteps, seek_start, seek_done, seek_here, seek_later}
 use native.Mathlib.Omega.{arith}
 use Rattle.card.proofs.line.record_line_at.Statement.{statement}
 use Rattle.card.proofs.line.record_line_at.Tie as tie

@@ -1,4 +1,4 @@
-use Rattle.card.specs.Laws.Write.{rowSteps}
+use Rattle.card.proofs.Laws.Write.{rowSteps}
 use borrow.Author.Rules.{rules}
 use Rattle.card.proofs.write.map_at_row.Statement.{statement}
 use Rattle.card.proofs.write.map_at_row.Tie as tie

@@ -1,4 +1,4 @@
-use Rattle.card.specs.Laws.Write.{kind_part, kind_room, put_kind}
+use Rattle.card.proofs.Laws.Write.{kind_part, kind_room, put_kind}
 use native.Mathlib.Omega.{arith}
 use borrow.Author.Rules.{rules}
 use Rattle.card.proofs.write.put_kind.Statement.{statement}

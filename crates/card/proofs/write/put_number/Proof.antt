@@ -1,4 +1,4 @@
-use Rattle.card.specs.Laws.Write.{few_digits, put_number}
+use Rattle.card.proofs.Laws.Write.{few_digits, put_number}
 use Prim.Native.Nat.{◌<◌}
 use native.Mathlib.Omega.{arith}
 use borrow.Author.Rules.{rules}

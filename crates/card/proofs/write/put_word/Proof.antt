@@ -1,4 +1,4 @@
-use Rattle.card.specs.Laws.Write.{put_word}
+use Rattle.card.proofs.Laws.Write.{put_word}
 use borrow.Author.Rules.{rules}
 use Rattle.card.proofs.write.put_word.Statement.{statement}
 use Rattle.card.proofs.write.put_word.Tie as tie

@@ -1,4 +1,4 @@
-use Rattle.card.specs.Laws.Write.{two_words}
+use Rattle.card.proofs.Laws.Write.{two_words}
 use borrow.Author.Rules.{rules}
 use Rattle.card.proofs.write.refused_row.Statement.{statement}
 use Rattle.card.proofs.write.refused_row.Tie as tie

@@ -1,4 +1,4 @@
-use Rattle.card.specs.Laws.Write.{spellSteps}
+use Rattle.card.proofs.Laws.Write.{spellSteps}
 use borrow.Author.Rules.{rules}
 use Rattle.card.proofs.write.spell.Statement.{statement}
 use Rattle.card.proofs.write.spell.Tie as tie

@@ -1,4 +1,4 @@
-use Rattle.card.specs.Laws.Write.{spelled_part, write_short, write_all, write_counts}
+use Rattle.card.proofs.Laws.Write.{spelled_part, write_short, write_all, write_counts}
 use native.Mathlib.Omega.{arith}
 use borrow.Author.Rules.{rules}
 use Rattle.card.proofs.write.write_line.Statement.{statement}

@@ -4,8 +4,8 @@ use Prim.Native.Nat.{ℕ}
 use lib.ListN.{replicate}
 use borrow.Author.Rules.{rules}
 use Rattle.compare.specs.Refused.{Begun}
-use Rattle.compare.specs.Laws.Rows.{front_refused, begun, behind_front}
-use Rattle.compare.specs.Laws.Answer.{refused_is, counted_is}
+use Rattle.compare.proofs.Laws.Rows.{front_refused, begun, behind_front}
+use Rattle.compare.proofs.Laws.Answer.{refused_is, counted_is}
 use Rattle.compare.proofs.answer.compare.Statement.{statement}
 use Rattle.compare.proofs.answer.compare.Tie as tie
 

@@ -1,6 +1,6 @@
 -- `compare::answer::record_start` meets its contract. Assumes nothing.
 use native.Mathlib.Omega.{arith}
-use Rattle.comparison.specs.Laws.Counts.{formed_long, formed_most, start_five, start_seven}
+use Rattle.comparison.proofs.Laws.Counts.{formed_long, formed_most, start_five, start_seven}
 use Rattle.compare.proofs.answer.record_start.Statement.{statement}
 use Rattle.compare.proofs.answer.record_start.Tie as tie
 

@@ -1,7 +1,7 @@
 -- `compare::answer::tail` meets its contract. Assumes nothing.
 use native.Mathlib.Omega.{arith}
 use borrow.Author.Rules.{rules}
-use Rattle.comparison.specs.Laws.Part.{part_inside, part_second, part_first}
+use Rattle.comparison.proofs.Laws.Part.{part_inside, part_second, part_first}
 use Rattle.compare.proofs.answer.tail.Statement.{statement}
 use Rattle.compare.proofs.answer.tail.Tie as tie
 

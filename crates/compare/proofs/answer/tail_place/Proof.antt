@@ -4,8 +4,8 @@ use Prim.Native.Nat.{ℕ}
 use lib.ListN.{replicate}
 use native.Mathlib.Omega.{arith}
 use borrow.Author.Rules.{rules}
-use Rattle.comparison.specs.Laws.Accepted.{accepted, fine}
-use Rattle.comparison.specs.Laws.Part.{place_refused, place_second, place_first}
+use Rattle.comparison.proofs.Laws.Accepted.{accepted, fine}
+use Rattle.comparison.proofs.Laws.Part.{place_refused, place_second, place_first}
 use Rattle.compare.proofs.answer.tail_place.Statement.{statement}
 use Rattle.compare.proofs.answer.tail_place.Tie as tie
 

@@ -1,6 +1,6 @@
 -- `changes::change_at` meets its contract. Assumes nothing.
 use borrow.Author.Rules.{rules}
-use Rattle.compare.specs.Laws.Change.{says_same, says_moved_lem, says_first, says_none, says_both, says_second}
+use Rattle.compare.proofs.Laws.Change.{says_same, says_moved_lem, says_first, says_none, says_both, says_second}
 use Rattle.compare.proofs.changes.change_at.Statement.{statement}
 use Rattle.compare.proofs.changes.change_at.Tie as tie
 

@@ -1,7 +1,7 @@
 -- `changes::end_said` meets its contract. Assumes nothing.
 use native.Mathlib.Omega.{arith}
 use borrow.Author.Rules.{rules}
-use Rattle.compare.specs.Laws.Change.{end_five, end_seven}
+use Rattle.compare.proofs.Laws.Change.{end_five, end_seven}
 use mathlib.Core.Path.{refl}
 use Rattle.compare.proofs.changes.end_said.Statement.{statement}
 use Rattle.compare.proofs.changes.end_said.Tie as tie

@@ -1,6 +1,6 @@
 -- `changes::first_end` meets its contract. Assumes nothing.
 use native.Mathlib.Omega.{arith}
-use Rattle.compare.specs.Laws.Change.{end_short, end_past, end_there}
+use Rattle.compare.proofs.Laws.Change.{end_short, end_past, end_there}
 use Rattle.compare.proofs.changes.first_end.Statement.{statement}
 use Rattle.compare.proofs.changes.first_end.Tie as tie
 

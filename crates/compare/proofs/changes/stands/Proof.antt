@@ -1,6 +1,6 @@
 -- `changes::stands` meets its contract. Assumes nothing.
 use borrow.Author.Rules.{rules}
-use Rattle.compare.specs.Laws.Change.{found_has}
+use Rattle.compare.proofs.Laws.Change.{found_has}
 use Rattle.compare.proofs.changes.stands.Statement.{statement}
 use Rattle.compare.proofs.changes.stands.Tie as tie
 

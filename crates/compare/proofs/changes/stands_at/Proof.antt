@@ -1,6 +1,6 @@
 -- `changes::stands_at` meets its contract. Assumes nothing.
 use borrow.Author.Rules.{rules}
-use Rattle.compare.specs.Laws.Change.{at_inside, at_outside}
+use Rattle.compare.proofs.Laws.Change.{at_inside, at_outside}
 use Rattle.compare.proofs.changes.stands_at.Statement.{statement}
 use Rattle.compare.proofs.changes.stands_at.Tie as tie
 

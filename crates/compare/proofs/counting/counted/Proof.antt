@@ -1,7 +1,7 @@
 -- `compare::counting::counted` meets its contract. Assumes nothing.
 use borrow.Author.Rules.{rules}
-use Rattle.comparison.specs.Laws.Accepted.{fine}
-use Rattle.compare.specs.Laws.Answer.{laid_beside, laid_walkable, laid_fits, repeat_is, same_few, both_few, both_fits, compared_is}
+use Rattle.comparison.proofs.Laws.Accepted.{fine}
+use Rattle.compare.proofs.Laws.Answer.{laid_beside, laid_walkable, laid_fits, repeat_is, same_few, both_few, both_fits, compared_is}
 use Rattle.compare.proofs.counting.counted.Statement.{statement}
 use Rattle.compare.proofs.counting.counted.Tie as tie
 

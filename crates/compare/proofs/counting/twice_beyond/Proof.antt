@@ -1,6 +1,6 @@
 -- `compare::counting::twice_beyond` meets its contract. Assumes nothing.
 use borrow.Author.Rules.{rules}
-use Rattle.compare.specs.Laws.Answer.{none_beyond, some_beyond}
+use Rattle.compare.proofs.Laws.Answer.{none_beyond, some_beyond}
 use Rattle.compare.proofs.counting.twice_beyond.Statement.{statement}
 use Rattle.compare.proofs.counting.twice_beyond.Tie as tie
 

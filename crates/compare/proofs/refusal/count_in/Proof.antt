@@ -1,6 +1,6 @@
 -- `compare::refusal::count_in` meets its contract. Assumes nothing.
 use native.Mathlib.Omega.{arith}
-use Rattle.comparison.specs.Laws.Counts.{formed_long, count_five, count_seven}
+use Rattle.comparison.proofs.Laws.Counts.{formed_long, count_five, count_seven}
 use Rattle.compare.proofs.refusal.count_in.Statement.{statement}
 use Rattle.compare.proofs.refusal.count_in.Tie as tie
 

@@ -1,9 +1,9 @@
 -- `compare::refusal::front_refusal` meets its contract. Assumes nothing.
 use native.Mathlib.Omega.{arith}
 use borrow.Author.Rules.{rules}
-use Rattle.comparison.specs.Laws.Accepted.{fine}
-use Rattle.comparison.specs.Laws.Counts.{formed_most}
-use Rattle.compare.specs.Laws.Rows.{sheets_refused, sheets_fine, no_room, fits_first, front_twice, front_none}
+use Rattle.comparison.proofs.Laws.Accepted.{fine}
+use Rattle.comparison.proofs.Laws.Counts.{formed_most}
+use Rattle.compare.proofs.Laws.Rows.{sheets_refused, sheets_fine, no_room, fits_first, front_twice, front_none}
 use Rattle.compare.proofs.refusal.front_refusal.Statement.{statement}
 use Rattle.compare.proofs.refusal.front_refusal.Tie as tie
 

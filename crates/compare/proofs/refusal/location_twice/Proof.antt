@@ -1,5 +1,5 @@
 use borrow.Author.Rules.{rules}
-use Rattle.compare.specs.Laws.Held.{twice_told}
+use Rattle.compare.proofs.Laws.Held.{twice_told}
 use Rattle.compare.proofs.refusal.location_twice.Statement.{statement}
 use Rattle.compare.proofs.refusal.location_twice.Tie as tie
 

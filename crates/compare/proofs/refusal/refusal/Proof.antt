@@ -2,7 +2,7 @@
 use mathlib.Core.Path.{sym, subst}
 use Prim.Native.Nat.{ℕ}
 use borrow.Author.Rules.{rules}
-use Rattle.compare.specs.Laws.Rows.{front_refused, fits_second, second_twice, none_refused}
+use Rattle.compare.proofs.Laws.Rows.{front_refused, fits_second, second_twice, none_refused}
 use Rattle.compare.specs.Refused.{SheetFits}
 use Rattle.compare.proofs.refusal.refusal.Statement.{statement}
 use Rattle.compare.proofs.refusal.refusal.Tie as tie

@@ -1,5 +1,5 @@
 use borrow.Author.Rules.{rules}
-use Rattle.compare.specs.Laws.Rows.{judged_room, judged_number}
+use Rattle.compare.proofs.Laws.Rows.{judged_room, judged_number}
 use Rattle.compare.proofs.refusal.sheet_refusal.Statement.{statement}
 use Rattle.compare.proofs.refusal.sheet_refusal.Tie as tie
 

@@ -1,6 +1,6 @@
 -- `compare::refusal::sheets_refusal` meets its contract. Assumes nothing.
 use borrow.Author.Rules.{rules}
-use Rattle.compare.specs.Laws.Rows.{first_refused, second_refused}
+use Rattle.compare.proofs.Laws.Rows.{first_refused, second_refused}
 use Rattle.compare.proofs.refusal.sheets_refusal.Statement.{statement}
 use Rattle.compare.proofs.refusal.sheets_refusal.Tie as tie
 

@@ -1,4 +1,4 @@
-use Rattle.comparer.specs.Laws.Output.{changeSteps}
+use Rattle.comparer.proofs.Laws.Output.{changeSteps}
 use borrow.Author.Rules.{rules}
 use Rattle.comparer.proofs.change_text.spell.Statement.{statement}
 use Rattle.comparer.proofs.change_text.spell.Tie as tie

@@ -1,4 +1,4 @@
-use Rattle.comparer.specs.Laws.Output.{atSteps}
+use Rattle.comparer.proofs.Laws.Output.{atSteps}
 use borrow.Author.Rules.{rules}
 use Rattle.comparer.proofs.change_text.spell_at.Statement.{statement}
 use Rattle.comparer.proofs.change_text.spell_at.Tie as tie

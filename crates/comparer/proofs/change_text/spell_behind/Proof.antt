@@ -1,4 +1,4 @@
-use Rattle.comparer.specs.Laws.Output.{behindSteps}
+use Rattle.comparer.proofs.Laws.Output.{behindSteps}
 use borrow.Author.Rules.{rules}
 use Rattle.comparer.proofs.change_text.spell_behind.Statement.{statement}
 use Rattle.comparer.proofs.change_text.spell_behind.Tie as tie

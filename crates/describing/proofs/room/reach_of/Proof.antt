@@ -1,4 +1,4 @@
-use Rattle.describing.specs.Laws.Room.{reaching}
+use Rattle.describing.proofs.Laws.Room.{reaching}
 use Rattle.describing.proofs.room.reach_of.Statement.{statement}
 use Rattle.describing.proofs.room.reach_of.Tie as tie
 

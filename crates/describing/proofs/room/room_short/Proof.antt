@@ -1,7 +1,7 @@
-use Rattle.describing.specs.Laws.Room.{housing, House}
+use Rattle.describing.proofs.Laws.Room.{housing, House}
 use Prim.Native.Nat.{◌-◌}
 use Rattle.maps.specs.Ready.{maps_at}
-use Rattle.maps.specs.Laws.Over.{Over}
+use Rattle.maps.proofs.Laws.Over.{Over}
 use Rattle.describing.proofs.room.room_short.Statement.{statement}
 use Rattle.describing.proofs.room.room_short.Tie as tie
 

@@ -1,4 +1,4 @@
-use Rattle.describing.specs.Laws.Said.{answering, answered}
+use Rattle.describing.proofs.Laws.Said.{answering, answered}
 use Rattle.describing.proofs.said.accepted.Statement.{statement}
 use Rattle.describing.proofs.said.accepted.Tie as tie
 

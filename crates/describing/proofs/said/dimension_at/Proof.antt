@@ -1,4 +1,4 @@
-use Rattle.describing.specs.Laws.Said.{picking, Picking, picking_note}
+use Rattle.describing.proofs.Laws.Said.{picking, Picking, picking_note}
 use Prim.Native.Nat.{◌-◌}
 use Rattle.describing.proofs.said.dimension_at.Statement.{statement}
 use Rattle.describing.proofs.said.dimension_at.Tie as tie

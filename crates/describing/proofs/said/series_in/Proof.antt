@@ -1,4 +1,4 @@
-use Rattle.describing.specs.Laws.Said.{series-told}
+use Rattle.describing.proofs.Laws.Said.{series-told}
 use Rattle.describing.proofs.said.series_in.Statement.{statement}
 use Rattle.describing.proofs.said.series_in.Tie as tie
 

@@ -1,4 +1,4 @@
-use Rattle.describing.specs.Laws.Series.{decimalSteps}
+use Rattle.describing.proofs.Laws.Series.{decimalSteps}
 use Rattle.describing.proofs.series.decimal_seen.Statement.{statement}
 use Rattle.describing.proofs.series.decimal_seen.Tie as tie
 

@@ -1,4 +1,4 @@
-use Rattle.describing.specs.Laws.Series.{exponentSteps}
+use Rattle.describing.proofs.Laws.Series.{exponentSteps}
 use Rattle.describing.proofs.series.exponent_seen.Statement.{statement}
 use Rattle.describing.proofs.series.exponent_seen.Tie as tie
 

@@ -1,4 +1,4 @@
-use Rattle.models.specs.Laws.Structures.{structured}
+use Rattle.models.proofs.Laws.Structures.{structured}
 use borrow.Author.Rules.{rules}
 use Rattle.describing.proofs.series.unit_number.Statement.{statement}
 use Rattle.describing.proofs.series.unit_number.Tie as tie

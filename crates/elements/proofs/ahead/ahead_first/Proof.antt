@@ -1,4 +1,4 @@
-use Rattle.nodes.specs.Laws.Ahead.{starts-ahead}
+use Rattle.nodes.proofs.Laws.Ahead.{starts-ahead}
 use Rattle.elements.proofs.ahead.ahead_first.Statement.{statement}
 use Rattle.elements.proofs.ahead.ahead_first.Tie as tie
 

@@ -1,4 +1,4 @@
-use Rattle.nodes.specs.Laws.Ahead.{Heading, heading}
+use Rattle.nodes.proofs.Laws.Ahead.{Heading, heading}
 use Prim.Native.Nat.{◌-◌}
 use lib.ListN.{length}
 use Rattle.elements.proofs.ahead.ahead_from.Statement.{statement}

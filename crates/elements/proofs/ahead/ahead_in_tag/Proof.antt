@@ -1,4 +1,4 @@
-use Rattle.nodes.specs.Laws.Ahead.{in-tag-ahead}
+use Rattle.nodes.proofs.Laws.Ahead.{in-tag-ahead}
 use Rattle.elements.proofs.ahead.ahead_in_tag.Statement.{statement}
 use Rattle.elements.proofs.ahead.ahead_in_tag.Tie as tie
 

@@ -1,4 +1,4 @@
-use Rattle.nodes.specs.Laws.BlankData.{blank-marked}
+use Rattle.nodes.proofs.Laws.BlankData.{blank-marked}
 use Rattle.elements.proofs.ahead.blank_data_end.Statement.{statement}
 use Rattle.elements.proofs.ahead.blank_data_end.Tie as tie
 

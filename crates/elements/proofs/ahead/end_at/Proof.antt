@@ -1,4 +1,4 @@
-use Rattle.nodes.specs.Laws.Ahead.{ends}
+use Rattle.nodes.proofs.Laws.Ahead.{ends}
 use Rattle.elements.proofs.ahead.end_at.Statement.{statement}
 use Rattle.elements.proofs.ahead.end_at.Tie as tie
 

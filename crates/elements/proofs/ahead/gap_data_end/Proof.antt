@@ -1,4 +1,4 @@
-use Rattle.nodes.specs.Laws.BlankData.{gap-marked, gap_blank}
+use Rattle.nodes.proofs.Laws.BlankData.{gap-marked, gap_blank}
 use Rattle.elements.proofs.ahead.gap_data_end.Statement.{statement}
 use Rattle.elements.proofs.ahead.gap_data_end.Tie as tie
 

@@ -1,4 +1,4 @@
-use Rattle.nodes.specs.Laws.Ahead.{gaps}
+use Rattle.nodes.proofs.Laws.Ahead.{gaps}
 use Rattle.elements.proofs.ahead.past_gap.Statement.{statement}
 use Rattle.elements.proofs.ahead.past_gap.Tie as tie
 

@@ -1,4 +1,4 @@
-use Rattle.nodes.specs.Laws.Children.{siblings}
+use Rattle.nodes.proofs.Laws.Children.{siblings}
 use Rattle.elements.proofs.children.first_child.Statement.{statement}
 use Rattle.elements.proofs.children.first_child.Tie as tie
 

@@ -1,4 +1,4 @@
-use Rattle.nodes.specs.Laws.Children.{Going, going}
+use Rattle.nodes.proofs.Laws.Children.{Going, going}
 use Prim.Native.Nat.{◌-◌}
 use lib.ListN.{length}
 use Rattle.elements.proofs.children.kid_from.Statement.{statement}

@@ -1,4 +1,4 @@
-use Rattle.nodes.specs.Laws.Children.{rooting}
+use Rattle.nodes.proofs.Laws.Children.{rooting}
 use Rattle.elements.proofs.children.root_of.Statement.{statement}
 use Rattle.elements.proofs.children.root_of.Tie as tie
 

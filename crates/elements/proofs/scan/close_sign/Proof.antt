@@ -1,4 +1,4 @@
-use Rattle.nodes.specs.Laws.Signs.{signing}
+use Rattle.nodes.proofs.Laws.Signs.{signing}
 use Rattle.elements.proofs.scan.close_sign.Statement.{statement}
 use Rattle.elements.proofs.scan.close_sign.Tie as tie
 

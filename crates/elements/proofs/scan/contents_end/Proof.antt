@@ -1,7 +1,7 @@
 use Prim.Native.Nat.{◌-◌, ◌<◌}
 use native.Mathlib.Omega.{arith}
 use lib.ListN.{length}
-use Rattle.nodes.specs.Laws.Skip.{Scanning, scanning}
+use Rattle.nodes.proofs.Laws.Skip.{Scanning, scanning}
 use Rattle.elements.proofs.scan.contents_end.Statement.{statement}
 use Rattle.elements.proofs.scan.contents_end.Tie as tie
 

@@ -1,7 +1,7 @@
 use Prim.Native.Nat.{◌-◌}
 use lib.ListN.{length}
 use Rattle.nodes.specs.Scan.{Quoted}
-use Rattle.elements.specs.Laws.Tags.{signs-on}
+use Rattle.elements.proofs.Laws.Tags.{signs-on}
 use Rattle.elements.proofs.scan.far_sign.Statement.{statement}
 use Rattle.elements.proofs.scan.far_sign.Tie as tie
 

@@ -1,4 +1,4 @@
-use Rattle.nodes.specs.Laws.Scan.{finishing}
+use Rattle.nodes.proofs.Laws.Scan.{finishing}
 use Rattle.elements.proofs.scan.finish_at.Statement.{statement}
 use Rattle.elements.proofs.scan.finish_at.Tie as tie
 

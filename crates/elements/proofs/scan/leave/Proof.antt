@@ -1,4 +1,4 @@
-use Rattle.nodes.specs.Laws.Skip.{leaving}
+use Rattle.nodes.proofs.Laws.Skip.{leaving}
 use borrow.Author.Rules.{rules}
 use Rattle.elements.proofs.scan.leave.Statement.{statement}
 use Rattle.elements.proofs.scan.leave.Tie as tie

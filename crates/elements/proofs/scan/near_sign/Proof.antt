@@ -1,5 +1,5 @@
 use Prim.Native.Nat.{◌-◌}
-use Rattle.elements.specs.Laws.Tags.{Nearing, nearing}
+use Rattle.elements.proofs.Laws.Tags.{Nearing, nearing}
 use Rattle.elements.proofs.scan.near_sign.Statement.{statement}
 use Rattle.elements.proofs.scan.near_sign.Tie as tie
 

@@ -1,7 +1,7 @@
 use Prim.Native.Nat.{◌-◌}
 use lib.ListN.{length}
 use Rattle.steps.specs.Blocks.{Through, other}
-use Rattle.steps.specs.Laws.Blocks.{through_on, by_blocks}
+use Rattle.steps.proofs.Laws.Blocks.{through_on, by_blocks}
 use Rattle.elements.proofs.scan.past_blocks.Statement.{statement}
 use Rattle.elements.proofs.scan.past_blocks.Tie as tie
 

@@ -1,6 +1,6 @@
 use Prim.Native.Nat.{◌-◌}
 use lib.ListN.{length}
-use Rattle.nodes.specs.Laws.Scan.{Passing, passing}
+use Rattle.nodes.proofs.Laws.Scan.{Passing, passing}
 use Rattle.elements.proofs.scan.past_tag.Statement.{statement}
 use Rattle.elements.proofs.scan.past_tag.Tie as tie
 

@@ -1,4 +1,4 @@
-use Rattle.nodes.specs.Laws.Signs.{signing}
+use Rattle.nodes.proofs.Laws.Signs.{signing}
 use Rattle.elements.proofs.scan.sign_at.Statement.{statement}
 use Rattle.elements.proofs.scan.sign_at.Tie as tie
 

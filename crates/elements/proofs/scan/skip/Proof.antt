@@ -1,4 +1,4 @@
-use Rattle.nodes.specs.Laws.Skip.{skipping}
+use Rattle.nodes.proofs.Laws.Skip.{skipping}
 use borrow.Author.Rules.{rules}
 use Rattle.elements.proofs.scan.skip.Statement.{statement}
 use Rattle.elements.proofs.scan.skip.Tie as tie

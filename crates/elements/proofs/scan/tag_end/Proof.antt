@@ -1,4 +1,4 @@
-use Rattle.nodes.specs.Laws.Scan.{whole-tag}
+use Rattle.nodes.proofs.Laws.Scan.{whole-tag}
 use Rattle.elements.proofs.scan.tag_end.Statement.{statement}
 use Rattle.elements.proofs.scan.tag_end.Tie as tie
 

@@ -1,4 +1,4 @@
-use Rattle.elements.specs.Laws.Tags.{tag-now}
+use Rattle.elements.proofs.Laws.Tags.{tag-now}
 use Rattle.elements.proofs.scan.tag_left.Statement.{statement}
 use Rattle.elements.proofs.scan.tag_left.Tie as tie
 

@@ -1,7 +1,7 @@
 use Prim.Native.Nat.{◌-◌}
 use lib.ListN.{length}
-use Rattle.nodes.specs.Laws.Scan.{Tagging}
-use Rattle.elements.specs.Laws.Tags.{tag-turns}
+use Rattle.nodes.proofs.Laws.Scan.{Tagging}
+use Rattle.elements.proofs.Laws.Tags.{tag-turns}
 use Rattle.elements.proofs.scan.tag_rest.Statement.{statement}
 use Rattle.elements.proofs.scan.tag_rest.Tie as tie
 

@@ -1,6 +1,6 @@
 use native.Mathlib.Omega.{arith}
 use borrow.Author.Rules.{rules}
-use Rattle.elements.specs.Laws.Tags.{near-then-far, near_far}
+use Rattle.elements.proofs.Laws.Tags.{near-then-far, near_far}
 use Rattle.elements.proofs.scan.to_quote.Statement.{statement}
 use Rattle.elements.proofs.scan.to_quote.Tie as tie
 

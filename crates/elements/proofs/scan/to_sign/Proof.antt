@@ -1,4 +1,4 @@
-use Rattle.elements.specs.Laws.Tags.{near-then-far}
+use Rattle.elements.proofs.Laws.Tags.{near-then-far}
 use Rattle.elements.proofs.scan.to_sign.Statement.{statement}
 use Rattle.elements.proofs.scan.to_sign.Tie as tie
 

@@ -1,6 +1,6 @@
 use Prim.Native.Nat.{◌-◌}
 use lib.ListN.{length}
-use Rattle.nodes.specs.Laws.Scan.{Seeking, seeking}
+use Rattle.nodes.proofs.Laws.Scan.{Seeking, seeking}
 use Rattle.elements.proofs.scan.to_tag.Statement.{statement}
 use Rattle.elements.proofs.scan.to_tag.Tie as tie
 

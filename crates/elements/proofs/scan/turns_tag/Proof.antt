@@ -1,4 +1,4 @@
-use Rattle.elements.specs.Laws.Tags.{byte-turns}
+use Rattle.elements.proofs.Laws.Tags.{byte-turns}
 use Rattle.elements.proofs.scan.turns_tag.Statement.{statement}
 use Rattle.elements.proofs.scan.turns_tag.Tie as tie
 

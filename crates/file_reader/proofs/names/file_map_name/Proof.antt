@@ -1,5 +1,5 @@
 use native.Mathlib.Omega.{arith}
-use Rattle.file_reader.specs.Laws.Reading.{naming-file, name_inside}
+use Rattle.file_reader.proofs.Laws.Reading.{naming-file, name_inside}
 use Rattle.file_reader.proofs.names.file_map_name.Statement.{statement}
 use Rattle.file_reader.proofs.names.file_map_name.Tie as tie
 

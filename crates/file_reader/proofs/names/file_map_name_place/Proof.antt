@@ -1,6 +1,6 @@
 use native.Mathlib.Omega.{arith}
-use Rattle.nifti.specs.Laws.Front.{part_inside}
-use Rattle.file_reader.specs.Laws.Reading.{naming-file}
+use Rattle.nifti.proofs.Laws.Front.{part_inside}
+use Rattle.file_reader.proofs.Laws.Reading.{naming-file}
 use Rattle.file_reader.proofs.names.file_map_name_place.Statement.{statement}
 use Rattle.file_reader.proofs.names.file_map_name_place.Tie as tie
 

@@ -1,4 +1,4 @@
-use Rattle.file_reader.specs.Laws.Reading.{naming-file}
+use Rattle.file_reader.proofs.Laws.Reading.{naming-file}
 use Rattle.file_reader.proofs.names.moved.Statement.{statement}
 use Rattle.file_reader.proofs.names.moved.Tie as tie
 

@@ -1,6 +1,6 @@
 use native.Mathlib.Omega.{arith}
-use Rattle.nifti.specs.Laws.Front.{part_inside}
-use Rattle.file_reader.specs.Laws.Reading.{reading-file}
+use Rattle.nifti.proofs.Laws.Front.{part_inside}
+use Rattle.file_reader.proofs.Laws.Reading.{reading-file}
 use Rattle.file_reader.proofs.reading.read_file.Statement.{statement}
 use Rattle.file_reader.proofs.reading.read_file.Tie as tie
 

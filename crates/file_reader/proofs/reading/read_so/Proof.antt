@@ -1,4 +1,4 @@
-use Rattle.file_reader.specs.Laws.Reading.{cut_count}
+use Rattle.file_reader.proofs.Laws.Reading.{cut_count}
 use borrow.Author.Rules.{rules}
 use Rattle.file_reader.proofs.reading.read_so.Statement.{statement}
 use Rattle.file_reader.proofs.reading.read_so.Tie as tie

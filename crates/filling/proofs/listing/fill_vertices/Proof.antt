@@ -1,7 +1,7 @@
 -- The invariant: what is written so far, with the rest of the list written behind it, is the whole list written.
 use mathlib.Core.Bool.{false}
 use Rattle.nodes.specs.Texts.{left}
-use Rattle.table.specs.Laws.Listing.{Writing, overVertices}
+use Rattle.table.proofs.Laws.Listing.{Writing, overVertices}
 use Rattle.filling.proofs.listing.fill_vertices.Statement.{statement}
 use Rattle.filling.proofs.listing.fill_vertices.Tie as tie
 

@@ -1,7 +1,7 @@
 -- The invariant is that of `fill_vertices`.
 use mathlib.Core.Bool.{true}
 use Rattle.nodes.specs.Texts.{left}
-use Rattle.table.specs.Laws.Listing.{Writing, overVoxels}
+use Rattle.table.proofs.Laws.Listing.{Writing, overVoxels}
 use Rattle.filling.proofs.listing.fill_voxels.Statement.{statement}
 use Rattle.filling.proofs.listing.fill_voxels.Tie as tie
 

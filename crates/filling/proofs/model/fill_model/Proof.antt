@@ -1,4 +1,4 @@
-use Rattle.table.specs.Laws.Model.{fillingModel, fill_voxels_can}
+use Rattle.table.proofs.Laws.Model.{fillingModel, fill_voxels_can}
 use Rattle.filling.proofs.model.fill_model.Statement.{statement}
 use Rattle.filling.proofs.model.fill_model.Tie as tie
 

@@ -7,7 +7,7 @@ use Rattle.records.specs.Fill.{wrote}
 use Rattle.maps.specs.Table.{model_records}
 use Rattle.models.specs.declared.gather.Models.{Models}
 use Rattle.table.specs.Placing.{nth_model}
-use Rattle.table.specs.Laws.Placing.{PlacedTo, placing, placed_offset, placed_sum, placed_can, placed_on, placed_done}
+use Rattle.table.proofs.Laws.Placing.{PlacedTo, placing, placed_offset, placed_sum, placed_can, placed_on, placed_done}
 use native.Mathlib.Omega.{arith}
 use Rattle.filling.proofs.placing.fill_models.Statement.{statement}
 use Rattle.filling.proofs.placing.fill_models.Tie as tie

@@ -1,7 +1,7 @@
-use Rattle.table.specs.Laws.Stretches.{filling, Fill, fill_start, fill_one}
+use Rattle.table.proofs.Laws.Stretches.{filling, Fill, fill_start, fill_one}
 use Prim.Native.Nat.{◌-◌}
 use Rattle.maps.specs.Ready.{maps_at}
-use Rattle.models.specs.Laws.Judged.{OverHeld}
+use Rattle.models.proofs.Laws.Judged.{OverHeld}
 use Rattle.filling.proofs.stretches.fill_all.Statement.{statement}
 use Rattle.filling.proofs.stretches.fill_all.Tie as tie
 

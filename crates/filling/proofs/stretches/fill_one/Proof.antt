@@ -1,4 +1,4 @@
-use Rattle.table.specs.Laws.Stretch.{stretching}
+use Rattle.table.proofs.Laws.Stretch.{stretching}
 use Rattle.filling.proofs.stretches.fill_one.Statement.{statement}
 use Rattle.filling.proofs.stretches.fill_one.Tie as tie
 

@@ -1,7 +1,7 @@
-use Rattle.table.specs.Laws.Twice.{looking, Look}
+use Rattle.table.proofs.Laws.Twice.{looking, Look}
 use Prim.Native.Nat.{◌-◌}
 use Rattle.maps.specs.Ready.{maps_at}
-use Rattle.models.specs.Laws.Judged.{OverHeld}
+use Rattle.models.proofs.Laws.Judged.{OverHeld}
 use Rattle.filling.proofs.twice.any_twice.Statement.{statement}
 use Rattle.filling.proofs.twice.any_twice.Tie as tie
 

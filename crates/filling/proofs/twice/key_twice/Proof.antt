@@ -1,4 +1,4 @@
-use Rattle.table.specs.Laws.Twice.{key_twice, key_told}
+use Rattle.table.proofs.Laws.Twice.{key_twice, key_told}
 use Rattle.filling.proofs.twice.key_twice.Statement.{statement}
 use Rattle.filling.proofs.twice.key_twice.Tie as tie
 

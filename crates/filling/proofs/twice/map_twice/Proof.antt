@@ -1,4 +1,4 @@
-use Rattle.table.specs.Laws.Twice.{telling}
+use Rattle.table.proofs.Laws.Twice.{telling}
 use Rattle.filling.proofs.twice.map_twice.Statement.{statement}
 use Rattle.filling.proofs.twice.map_twice.Tie as tie
 

@@ -1,6 +1,6 @@
 -- The invariant: the first i are keys, the others as they were.
 use Prim.Native.Nat.{◌-◌}
-use Rattle.table.specs.Laws.Twice.{Keying, keying}
+use Rattle.table.proofs.Laws.Twice.{Keying, keying}
 use Rattle.filling.proofs.twice.to_keys.Statement.{statement}
 use Rattle.filling.proofs.twice.to_keys.Tie as tie
 

@@ -1,4 +1,4 @@
-use Rattle.flat.specs.Laws.Flat.{less_fits, less_cast, less_room, less_complement, whole_cast, whole_complement}
+use Rattle.flat.proofs.Laws.Flat.{less_fits, less_cast, less_room, less_complement, whole_cast, whole_complement}
 use Rattle.flat.proofs.slices.complement.Statement.{statement}
 use Rattle.flat.proofs.slices.complement.Tie as tie
 

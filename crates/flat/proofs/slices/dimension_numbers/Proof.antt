@@ -3,7 +3,7 @@ use mir.Syntax.{w64}
 use mir.Val.{to_z, of_z}
 use Rattle.flat.specs.Flat.{complement}
 use borrow.Author.Rules.{rules}
-use Rattle.flat.specs.Laws.Flat.{dimension_stored}
+use Rattle.flat.proofs.Laws.Flat.{dimension_stored}
 use Rattle.flat.proofs.slices.dimension_numbers.Statement.{statement}
 use Rattle.flat.proofs.slices.dimension_numbers.Tie as tie
 

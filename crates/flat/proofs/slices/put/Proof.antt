@@ -2,7 +2,7 @@ use Prim.Native.Nat.{◌-◌}
 use lib.ListN.{length}
 use native.Mathlib.Omega.{arith}
 use borrow.Author.Rules.{rules}
-use Rattle.flat.specs.Laws.Flat.{Putting, put_room, putSteps}
+use Rattle.flat.proofs.Laws.Flat.{Putting, put_room, putSteps}
 use Rattle.flat.proofs.slices.put.Statement.{statement}
 use Rattle.flat.proofs.slices.put.Tie as tie
 

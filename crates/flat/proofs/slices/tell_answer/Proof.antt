@@ -2,7 +2,7 @@ use mathlib.Core.Path.{refl}
 use native.Mathlib.Omega.{arith}
 use borrow.Author.Rules.{rules}
 use Rattle.flat.specs.Flat.{answer_numbers}
-use Rattle.flat.specs.Laws.Flat.{told_short, answer_stored}
+use Rattle.flat.proofs.Laws.Flat.{told_short, answer_stored}
 use Rattle.flat.proofs.slices.tell_answer.Statement.{statement}
 use Rattle.flat.proofs.slices.tell_answer.Tie as tie
 

@@ -1,6 +1,6 @@
 use mathlib.Core.Path.{◌∙◌}
 use Rattle.records.specs.Fill.{wrote_one}
-use Rattle.flat.specs.Laws.Flat.{told_all, told_short}
+use Rattle.flat.proofs.Laws.Flat.{told_all, told_short}
 use native.Mathlib.Omega.{arith}
 use borrow.Author.Rules.{rules}
 use Rattle.flat.proofs.slices.tell_one.Statement.{statement}

@@ -1,5 +1,5 @@
 use borrow.Author.Rules.{rules}
-use Rattle.flat.specs.Laws.Flat.{told_short, told_row}
+use Rattle.flat.proofs.Laws.Flat.{told_short, told_row}
 use Rattle.flat.proofs.slices.tell_row.Statement.{statement}
 use Rattle.flat.proofs.slices.tell_row.Tie as tie
 

@@ -1,7 +1,7 @@
 use mathlib.Core.Path.{◌∙◌}
 use mathlib.Core.List.{[], ◌∷◌}
 use lib.Seq.{sets-eq}
-use Rattle.flat.specs.Laws.Flat.{told_short, told_all}
+use Rattle.flat.proofs.Laws.Flat.{told_short, told_all}
 use native.Mathlib.Omega.{arith}
 use borrow.Author.Rules.{rules}
 use Rattle.flat.proofs.slices.tell_two.Statement.{statement}

@@ -1,5 +1,5 @@
 use borrow.Author.Rules.{rules}
-use Rattle.nifti.specs.Laws.Header.{eight_most, eight_least}
+use Rattle.nifti.proofs.Laws.Header.{eight_most, eight_least}
 use Rattle.front.proofs.fields.eight.Statement.{statement}
 use Rattle.front.proofs.fields.eight.Tie as tie
 

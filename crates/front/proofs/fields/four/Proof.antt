@@ -1,5 +1,5 @@
 use borrow.Author.Rules.{rules}
-use Rattle.nifti.specs.Laws.Header.{four_most, four_least}
+use Rattle.nifti.proofs.Laws.Header.{four_most, four_least}
 use Rattle.front.proofs.fields.four.Statement.{statement}
 use Rattle.front.proofs.fields.four.Tie as tie
 

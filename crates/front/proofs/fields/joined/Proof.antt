@@ -1,5 +1,5 @@
 use borrow.Author.Rules.{rules}
-use Rattle.nifti.specs.Laws.Header.{four_joined, four_below}
+use Rattle.nifti.proofs.Laws.Header.{four_joined, four_below}
 use Rattle.front.proofs.fields.joined.Statement.{statement}
 use Rattle.front.proofs.fields.joined.Tie as tie
 

@@ -1,5 +1,5 @@
 use borrow.Author.Rules.{rules}
-use Rattle.nifti.specs.Laws.Header.{counted_so, dims_none, dims_ones, dims_rest}
+use Rattle.nifti.proofs.Laws.Header.{counted_so, dims_none, dims_ones, dims_rest}
 use Rattle.front.proofs.header.dims_stand.Statement.{statement}
 use Rattle.front.proofs.header.dims_stand.Tie as tie
 

@@ -1,5 +1,5 @@
 use borrow.Author.Rules.{rules}
-use Rattle.nifti.specs.Laws.Header.{front_unsized, front_unmagic, front_rest}
+use Rattle.nifti.proofs.Laws.Header.{front_unsized, front_unmagic, front_rest}
 use Rattle.front.proofs.header.front_stands.Statement.{statement}
 use Rattle.front.proofs.header.front_stands.Tie as tie
 

@@ -1,5 +1,5 @@
 use borrow.Author.Rules.{rules}
-use Rattle.nifti.specs.Laws.Header.{length_there, length_negative, length_none}
+use Rattle.nifti.proofs.Laws.Header.{length_there, length_negative, length_none}
 use Rattle.front.proofs.header.length_at.Statement.{statement}
 use Rattle.front.proofs.header.length_at.Tie as tie
 

@@ -1,5 +1,5 @@
 use borrow.Author.Rules.{rules}
-use Rattle.nifti.specs.Laws.Header.{count_six, count_seven, count_other}
+use Rattle.nifti.proofs.Laws.Header.{count_six, count_seven, count_other}
 use Rattle.front.proofs.header.length_count.Statement.{statement}
 use Rattle.front.proofs.header.length_count.Tie as tie
 

@@ -1,5 +1,5 @@
 use borrow.Author.Rules.{rules}
-use Rattle.nifti.specs.Laws.Header.{length_low, length_high}
+use Rattle.nifti.proofs.Laws.Header.{length_low, length_high}
 use Rattle.front.proofs.header.length_stands.Statement.{statement}
 use Rattle.front.proofs.header.length_stands.Tie as tie
 

@@ -1,5 +1,5 @@
 use borrow.Author.Rules.{rules}
-use Rattle.nifti.specs.Laws.Header.{Down, counting-down, asked_so, told_yes, told_no}
+use Rattle.nifti.proofs.Laws.Header.{Down, counting-down, asked_so, told_yes, told_no}
 use Rattle.nifti.specs.File.{length_stands}
 use Rattle.front.proofs.header.lengths_stand.Statement.{statement}
 use Rattle.front.proofs.header.lengths_stand.Tie as tie

@@ -1,5 +1,5 @@
 use borrow.Author.Rules.{rules}
-use Rattle.nifti.specs.Laws.Header.{Down, counting-down, magic_yes, magic_no}
+use Rattle.nifti.proofs.Laws.Header.{Down, counting-down, magic_yes, magic_no}
 use Rattle.nifti.specs.File.{magic_at}
 use Rattle.front.proofs.header.magic_stands.Statement.{statement}
 use Rattle.front.proofs.header.magic_stands.Tie as tie

@@ -1,5 +1,5 @@
 use borrow.Author.Rules.{rules}
-use Rattle.nifti.specs.Laws.Header.{offset_low, offset_high}
+use Rattle.nifti.proofs.Laws.Header.{offset_low, offset_high}
 use Rattle.front.proofs.header.offset_stands.Statement.{statement}
 use Rattle.front.proofs.header.offset_stands.Tie as tie
 

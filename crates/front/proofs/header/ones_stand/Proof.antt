@@ -1,5 +1,5 @@
 use borrow.Author.Rules.{rules}
-use Rattle.nifti.specs.Laws.Header.{Down, counting-down, one_yes, one_no}
+use Rattle.nifti.proofs.Laws.Header.{Down, counting-down, one_yes, one_no}
 use Rattle.nifti.specs.File.{one_at}
 use Rattle.front.proofs.header.ones_stand.Statement.{statement}
 use Rattle.front.proofs.header.ones_stand.Tie as tie

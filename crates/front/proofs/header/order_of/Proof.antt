@@ -1,5 +1,5 @@
 use borrow.Author.Rules.{rules}
-use Rattle.nifti.specs.Laws.Header.{order_most, order_least}
+use Rattle.nifti.proofs.Laws.Header.{order_most, order_least}
 use Rattle.front.proofs.header.order_of.Statement.{statement}
 use Rattle.front.proofs.header.order_of.Tie as tie
 

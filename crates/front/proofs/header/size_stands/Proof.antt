@@ -1,5 +1,5 @@
 use borrow.Author.Rules.{rules}
-use Rattle.nifti.specs.Laws.Header.{size_test}
+use Rattle.nifti.proofs.Laws.Header.{size_test}
 use Rattle.front.proofs.header.size_stands.Statement.{statement}
 use Rattle.front.proofs.header.size_stands.Tie as tie
 

@@ -1,5 +1,5 @@
 use borrow.Author.Rules.{rules}
-use Rattle.nifti.specs.Laws.Walk.{sizing}
+use Rattle.nifti.proofs.Laws.Walk.{sizing}
 use Rattle.front.proofs.list.good_size.Statement.{statement}
 use Rattle.front.proofs.list.good_size.Tie as tie
 

@@ -1,5 +1,5 @@
 use borrow.Author.Rules.{rules}
-use Rattle.nifti.specs.Laws.Zeros.{Left, stripping}
+use Rattle.nifti.proofs.Laws.Zeros.{Left, stripping}
 use Rattle.front.proofs.list.kept.Statement.{statement}
 use Rattle.front.proofs.list.kept.Tie as tie
 

@@ -1,5 +1,5 @@
 use borrow.Author.Rules.{rules}
-use Rattle.nifti.specs.Laws.Front.{beginning, list_empty, list_past, list_walked}
+use Rattle.nifti.proofs.Laws.Front.{beginning, list_empty, list_past, list_walked}
 use Rattle.front.proofs.list.listed.Statement.{statement}
 use Rattle.front.proofs.list.listed.Tie as tie
 

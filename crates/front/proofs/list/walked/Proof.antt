@@ -1,5 +1,5 @@
 use borrow.Author.Rules.{rules}
-use Rattle.nifti.specs.Laws.Walk.{Walking, walking, walk_ends, walk_takes, walk_other, walk_past}
+use Rattle.nifti.proofs.Laws.Walk.{Walking, walking, walk_ends, walk_takes, walk_other, walk_past}
 use Rattle.front.proofs.list.walked.Statement.{statement}
 use Rattle.front.proofs.list.walked.Tie as tie
 

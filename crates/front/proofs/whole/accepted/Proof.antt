@@ -1,6 +1,6 @@
 use borrow.Author.Rules.{rules}
-use Rattle.nifti.specs.Laws.Header.{looked}
-use Rattle.nifti.specs.Laws.Front.{accepted_so}
+use Rattle.nifti.proofs.Laws.Header.{looked}
+use Rattle.nifti.proofs.Laws.Front.{accepted_so}
 use Rattle.front.proofs.whole.accepted.Statement.{statement}
 use Rattle.front.proofs.whole.accepted.Tie as tie
 

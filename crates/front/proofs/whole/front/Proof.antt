@@ -1,6 +1,6 @@
 use borrow.Author.Rules.{rules}
-use Rattle.nifti.specs.Laws.Front.{fronting}
-use Rattle.nifti.specs.Laws.Header.{told_yes, told_no}
+use Rattle.nifti.proofs.Laws.Front.{fronting}
+use Rattle.nifti.proofs.Laws.Header.{told_yes, told_no}
 use Rattle.front.proofs.whole.front.Statement.{statement}
 use Rattle.front.proofs.whole.front.Tie as tie
 

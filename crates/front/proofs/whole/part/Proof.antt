@@ -1,6 +1,6 @@
 use native.Mathlib.Omega.{arith}
 use borrow.Author.Rules.{rules}
-use Rattle.nifti.specs.Laws.Front.{part_inside, part_cut}
+use Rattle.nifti.proofs.Laws.Front.{part_inside, part_cut}
 use Rattle.front.proofs.whole.part.Statement.{statement}
 use Rattle.front.proofs.whole.part.Tie as tie
 

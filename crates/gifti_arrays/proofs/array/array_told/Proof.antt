@@ -1,5 +1,5 @@
 use borrow.Author.Rules.{rules}
-use Rattle.gifti_arrays.specs.Laws.Array.{array_so}
+use Rattle.gifti_arrays.proofs.Laws.Array.{array_so}
 use Rattle.gifti_arrays.proofs.array.array_told.Statement.{statement}
 use Rattle.gifti_arrays.proofs.array.array_told.Tie as tie
 

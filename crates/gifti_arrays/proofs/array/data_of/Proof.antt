@@ -1,4 +1,4 @@
-use Rattle.gifti_arrays.specs.Laws.Array.{placing}
+use Rattle.gifti_arrays.proofs.Laws.Array.{placing}
 use Rattle.gifti_arrays.proofs.array.data_of.Statement.{statement}
 use Rattle.gifti_arrays.proofs.array.data_of.Tie as tie
 

@@ -1,4 +1,4 @@
-use Rattle.gifti_arrays.specs.Laws.Array.{encoding}
+use Rattle.gifti_arrays.proofs.Laws.Array.{encoding}
 use Rattle.gifti_arrays.proofs.array.encoding_of.Statement.{statement}
 use Rattle.gifti_arrays.proofs.array.encoding_of.Tie as tie
 

@@ -1,5 +1,5 @@
 use borrow.Author.Rules.{rules}
-use Rattle.gifti_arrays.specs.Laws.Array.{noted_so}
+use Rattle.gifti_arrays.proofs.Laws.Array.{noted_so}
 use Rattle.gifti_arrays.proofs.array.noted.Statement.{statement}
 use Rattle.gifti_arrays.proofs.array.noted.Tie as tie
 

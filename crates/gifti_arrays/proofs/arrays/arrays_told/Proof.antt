@@ -1,6 +1,6 @@
 use Rattle.nodes.specs.Places.{the}
-use Rattle.nodes.specs.Laws.Children.{left}
-use Rattle.gifti_arrays.specs.Laws.Arrays.{walking, walking_more, Walking}
+use Rattle.nodes.proofs.Laws.Children.{left}
+use Rattle.gifti_arrays.proofs.Laws.Arrays.{walking, walking_more, Walking}
 use Rattle.gifti_arrays.proofs.arrays.arrays_told.Statement.{statement}
 use Rattle.gifti_arrays.proofs.arrays.arrays_told.Tie as tie
 

@@ -3,7 +3,7 @@ use native.Mathlib.Omega.{arith}
 use lib.ListN.{length}
 use borrow.Author.Rules.{rules}
 use Rattle.array_keys.specs.Ahead.{keys_left, keys_start}
-use Rattle.gifti_arrays.specs.Laws.Tally.{counting, counting_done, Counting, counting_prefix, counting_long}
+use Rattle.gifti_arrays.proofs.Laws.Tally.{counting, counting_done, Counting, counting_prefix, counting_long}
 use Rattle.gifti_arrays.proofs.tally.count_rows.Statement.{statement}
 use Rattle.gifti_arrays.proofs.tally.count_rows.Tie as tie
 

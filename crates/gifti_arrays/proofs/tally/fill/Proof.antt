@@ -1,4 +1,4 @@
-use Rattle.gifti_arrays.specs.Laws.Tally.{writing, writing_so}
+use Rattle.gifti_arrays.proofs.Laws.Tally.{writing, writing_so}
 use Rattle.gifti_arrays.proofs.tally.fill.Statement.{statement}
 use Rattle.gifti_arrays.proofs.tally.fill.Tie as tie
 

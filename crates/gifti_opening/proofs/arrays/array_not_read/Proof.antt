@@ -1,5 +1,5 @@
-use Rattle.gifti_opening.specs.Laws.Arrays.{reading-arrays, Reading}
-use Rattle.nodes.specs.Laws.Children.{left}
+use Rattle.gifti_opening.proofs.Laws.Arrays.{reading-arrays, Reading}
+use Rattle.nodes.proofs.Laws.Children.{left}
 use Rattle.gifti_opening.proofs.arrays.array_not_read.Statement.{statement}
 use Rattle.gifti_opening.proofs.arrays.array_not_read.Tie as tie
 

@@ -1,4 +1,4 @@
-use Rattle.gifti_opening.specs.Laws.Arrays.{reading, read_coded}
+use Rattle.gifti_opening.proofs.Laws.Arrays.{reading, read_coded}
 use Rattle.gifti_opening.proofs.arrays.encoding_read.Statement.{statement}
 use Rattle.gifti_opening.proofs.arrays.encoding_read.Tie as tie
 

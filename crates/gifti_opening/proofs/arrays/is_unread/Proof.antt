@@ -1,4 +1,4 @@
-use Rattle.gifti_opening.specs.Laws.Arrays.{reading}
+use Rattle.gifti_opening.proofs.Laws.Arrays.{reading}
 use Rattle.gifti_opening.proofs.arrays.is_unread.Statement.{statement}
 use Rattle.gifti_opening.proofs.arrays.is_unread.Tie as tie
 

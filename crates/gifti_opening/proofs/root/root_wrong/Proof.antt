@@ -1,4 +1,4 @@
-use Rattle.gifti_opening.specs.Laws.Arrays.{rooting, root_version}
+use Rattle.gifti_opening.proofs.Laws.Arrays.{rooting, root_version}
 use Rattle.gifti_opening.proofs.root.root_wrong.Statement.{statement}
 use Rattle.gifti_opening.proofs.root.root_wrong.Tie as tie
 

@@ -1,4 +1,4 @@
-use Rattle.gifti_reader.specs.Laws.Keys.{opening}
+use Rattle.gifti_reader.proofs.Laws.Keys.{opening}
 use Rattle.gifti_reader.proofs.keys.gifti_keys.Statement.{statement}
 use Rattle.gifti_reader.proofs.keys.gifti_keys.Tie as tie
 

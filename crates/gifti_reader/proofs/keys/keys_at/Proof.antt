@@ -1,4 +1,4 @@
-use Rattle.gifti_reader.specs.Laws.Keys.{writing, wrote_all}
+use Rattle.gifti_reader.proofs.Laws.Keys.{writing, wrote_all}
 use borrow.Author.Rules.{rules}
 use Rattle.gifti_reader.proofs.keys.keys_at.Statement.{statement}
 use Rattle.gifti_reader.proofs.keys.keys_at.Tie as tie

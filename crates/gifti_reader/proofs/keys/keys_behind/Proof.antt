@@ -1,4 +1,4 @@
-use Rattle.gifti_reader.specs.Laws.Keys.{behind}
+use Rattle.gifti_reader.proofs.Laws.Keys.{behind}
 use Rattle.gifti_reader.proofs.keys.keys_behind.Statement.{statement}
 use Rattle.gifti_reader.proofs.keys.keys_behind.Tie as tie
 

@@ -1,4 +1,4 @@
-use Rattle.gifti_reader.specs.Laws.Keys.{passing}
+use Rattle.gifti_reader.proofs.Laws.Keys.{passing}
 use Rattle.gifti_reader.proofs.keys.keys_passed.Statement.{statement}
 use Rattle.gifti_reader.proofs.keys.keys_passed.Tie as tie
 

@@ -1,4 +1,4 @@
-use Rattle.gifti_reader.specs.Laws.Number.{numbering}
+use Rattle.gifti_reader.proofs.Laws.Number.{numbering}
 use Rattle.gifti_reader.proofs.number.number_of.Statement.{statement}
 use Rattle.gifti_reader.proofs.number.number_of.Tie as tie
 

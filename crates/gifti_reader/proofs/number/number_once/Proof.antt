@@ -1,6 +1,6 @@
 use borrow.Author.Rules.{rules}
 use borrow.Author.Tests.{not-true, not-false}
-use Rattle.gifti_reader.specs.Laws.Number.{table_here, said_so, once_nine, once_eighteen, once_thirty, once_unknown, once_none}
+use Rattle.gifti_reader.proofs.Laws.Number.{table_here, said_so, once_nine, once_eighteen, once_thirty, once_unknown, once_none}
 use Rattle.gifti_reader.proofs.number.number_once.Statement.{statement}
 use Rattle.gifti_reader.proofs.number.number_once.Tie as tie
 

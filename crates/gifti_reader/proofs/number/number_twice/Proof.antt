@@ -1,5 +1,5 @@
 use borrow.Author.Rules.{rules}
-use Rattle.gifti_reader.specs.Laws.Number.{nothing_asked, said_so, twice_nine, twice_other}
+use Rattle.gifti_reader.proofs.Laws.Number.{nothing_asked, said_so, twice_nine, twice_other}
 use Rattle.gifti_reader.proofs.number.number_twice.Statement.{statement}
 use Rattle.gifti_reader.proofs.number.number_twice.Tie as tie
 

@@ -1,4 +1,4 @@
-use Rattle.gifti_reader.specs.Laws.Number.{tabling}
+use Rattle.gifti_reader.proofs.Laws.Number.{tabling}
 use Rattle.gifti_reader.proofs.number.table_of.Statement.{statement}
 use Rattle.gifti_reader.proofs.number.table_of.Tie as tie
 

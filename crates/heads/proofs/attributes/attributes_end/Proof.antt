@@ -7,7 +7,7 @@ use lib.ListN.{length, drop}
 use Rattle.grammar.specs.Parser.{attributes_at, ends, closing}
 use Rattle.steps.specs.Step.{stepped}
 use Rattle.steps.specs.declared.Step.TheVariants.{To}
-use Rattle.steps.specs.Laws.Attributes.{list_start_lem, list_ends}
+use Rattle.steps.proofs.Laws.Attributes.{list_start_lem, list_ends}
 use Rattle.heads.proofs.attributes.attributes_end.Statement.{statement}
 use Rattle.heads.proofs.attributes.attributes_end.Tie as tie
 

@@ -1,5 +1,5 @@
 use borrow.Author.Rules.{rules}
-use Rattle.steps.specs.Laws.Heads.{head_none, head_other, head_no_name, head_no_list, head_all}
+use Rattle.steps.proofs.Laws.Heads.{head_none, head_other, head_no_name, head_no_list, head_all}
 use Rattle.heads.proofs.attributes.head_end.Statement.{statement}
 use Rattle.heads.proofs.attributes.head_end.Tie as tie
 

@@ -1,6 +1,6 @@
 use borrow.Author.Rules.{rules}
 use Prim.Native.Nat.{◌-◌}
-use Rattle.steps.specs.Laws.Noted.{noting_start, noting_end, noting_hit, noting_miss, place_ahead, place_inside, Noting}
+use Rattle.steps.proofs.Laws.Noted.{noting_start, noting_end, noting_hit, noting_miss, place_ahead, place_inside, Noting}
 use Rattle.heads.proofs.attributes.is_noted.Statement.{statement}
 use Rattle.heads.proofs.attributes.is_noted.Tie as tie
 

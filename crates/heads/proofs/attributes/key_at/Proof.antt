@@ -1,5 +1,5 @@
 use borrow.Author.Rules.{rules}
-use Rattle.steps.specs.Laws.Keys.{key_no_gap, key_no_name, key_no_equals, key_all}
+use Rattle.steps.proofs.Laws.Keys.{key_no_gap, key_no_name, key_no_equals, key_all}
 use Rattle.heads.proofs.attributes.key_at.Statement.{statement}
 use Rattle.heads.proofs.attributes.key_at.Tie as tie
 

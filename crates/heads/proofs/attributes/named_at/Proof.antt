@@ -1,5 +1,5 @@
 use borrow.Author.Rules.{rules}
-use Rattle.steps.specs.Laws.Keys.{named_no_key, named_no_value, named_all}
+use Rattle.steps.proofs.Laws.Keys.{named_no_key, named_no_value, named_all}
 use Rattle.heads.proofs.attributes.named_at.Statement.{statement}
 use Rattle.heads.proofs.attributes.named_at.Tie as tie
 

@@ -1,5 +1,5 @@
 use borrow.Author.Rules.{rules}
-use Rattle.steps.specs.Laws.Attributes.{list_start_lem, list_within, list_ends, list_many, list_bad, list_twice, list_more, Listing, list_less}
+use Rattle.steps.proofs.Laws.Attributes.{list_start_lem, list_within, list_ends, list_many, list_bad, list_twice, list_more, Listing, list_less}
 use Prim.Native.Nat.{◌-◌}
 use lib.ListN.{length}
 use Rattle.heads.proofs.attributes.some_attributes_end.Statement.{statement}

@@ -1,5 +1,5 @@
 use borrow.Author.Rules.{rules}
-use Rattle.steps.specs.Laws.Comments.{comment_none, comment_some}
+use Rattle.steps.proofs.Laws.Comments.{comment_none, comment_some}
 use Rattle.heads.proofs.comments.comment_end.Statement.{statement}
 use Rattle.heads.proofs.comments.comment_end.Tie as tie
 

@@ -1,5 +1,5 @@
 use borrow.Author.Rules.{rules}
-use Rattle.steps.specs.Laws.Comments.{comment_start, comment_open, comment_closes, comment_stuck, comment_more, comment_less, InComment}
+use Rattle.steps.proofs.Laws.Comments.{comment_start, comment_open, comment_closes, comment_stuck, comment_more, comment_less, InComment}
 use Prim.Native.Nat.{◌-◌}
 use lib.ListN.{length}
 use Rattle.heads.proofs.comments.comment_rest_end.Statement.{statement}

@@ -1,5 +1,5 @@
 use borrow.Author.Rules.{rules}
-use Rattle.steps.specs.Laws.Comments.{dashes_none, dashes_other, dashes_last, dashes_two}
+use Rattle.steps.proofs.Laws.Comments.{dashes_none, dashes_other, dashes_last, dashes_two}
 use Rattle.heads.proofs.comments.dashes_at.Statement.{statement}
 use Rattle.heads.proofs.comments.dashes_at.Tie as tie
 

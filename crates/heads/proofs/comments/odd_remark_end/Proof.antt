@@ -1,5 +1,5 @@
 use borrow.Author.Rules.{rules}
-use Rattle.steps.specs.Laws.Comments.{remark_none, remark_other, remark_last, remark_two, remark_dashed}
+use Rattle.steps.proofs.Laws.Comments.{remark_none, remark_other, remark_last, remark_two, remark_dashed}
 use Rattle.heads.proofs.comments.odd_remark_end.Statement.{statement}
 use Rattle.heads.proofs.comments.odd_remark_end.Tie as tie
 

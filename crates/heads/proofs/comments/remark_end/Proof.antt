@@ -1,5 +1,5 @@
 use borrow.Author.Rules.{rules}
-use Rattle.steps.specs.Laws.Comments.{remark_none, remark_plainly}
+use Rattle.steps.proofs.Laws.Comments.{remark_none, remark_plainly}
 use Rattle.heads.proofs.comments.remark_end.Statement.{statement}
 use Rattle.heads.proofs.comments.remark_end.Tie as tie
 

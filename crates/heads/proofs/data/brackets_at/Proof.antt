@@ -1,4 +1,4 @@
-use Rattle.steps.specs.Laws.Data.{brackets-there}
+use Rattle.steps.proofs.Laws.Data.{brackets-there}
 use Rattle.heads.proofs.data.brackets_at.Statement.{statement}
 use Rattle.heads.proofs.data.brackets_at.Tie as tie
 

@@ -1,4 +1,4 @@
-use Rattle.steps.specs.Laws.Data.{data-characters}
+use Rattle.steps.proofs.Laws.Data.{data-characters}
 use Rattle.heads.proofs.data.data_character_end.Statement.{statement}
 use Rattle.heads.proofs.data.data_character_end.Tie as tie
 

@@ -1,4 +1,4 @@
-use Rattle.steps.specs.Laws.Data.{data-whole}
+use Rattle.steps.proofs.Laws.Data.{data-whole}
 use Rattle.heads.proofs.data.data_end.Statement.{statement}
 use Rattle.heads.proofs.data.data_end.Tie as tie
 

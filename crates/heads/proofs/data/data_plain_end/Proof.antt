@@ -1,5 +1,5 @@
-use Rattle.steps.specs.Laws.Steps.{Spanning, span_all}
-use Rattle.steps.specs.Laws.Blocks.{near-spanning}
+use Rattle.steps.proofs.Laws.Steps.{Spanning, span_all}
+use Rattle.steps.proofs.Laws.Blocks.{near-spanning}
 use Prim.Native.Nat.{◌-◌}
 use Rattle.steps.specs.Leaves.{data_plain}
 use Rattle.heads.proofs.data.data_plain_end.Statement.{statement}

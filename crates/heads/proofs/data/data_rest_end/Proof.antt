@@ -1,5 +1,5 @@
-use Rattle.steps.specs.Laws.Data.{in-data}
-use Rattle.steps.specs.Laws.Data.{InData}
+use Rattle.steps.proofs.Laws.Data.{in-data}
+use Rattle.steps.proofs.Laws.Data.{InData}
 use Prim.Native.Nat.{◌-◌}
 use lib.ListN.{length}
 use Rattle.heads.proofs.data.data_rest_end.Statement.{statement}

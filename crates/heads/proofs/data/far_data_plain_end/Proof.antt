@@ -1,5 +1,5 @@
-use Rattle.steps.specs.Laws.Steps.{Spanning}
-use Rattle.steps.specs.Laws.Blocks.{far-data-spanning}
+use Rattle.steps.proofs.Laws.Steps.{Spanning}
+use Rattle.steps.proofs.Laws.Blocks.{far-data-spanning}
 use Prim.Native.Nat.{◌-◌}
 use lib.ListN.{length}
 use Rattle.steps.specs.Leaves.{data_plain}

@@ -1,5 +1,5 @@
 use borrow.Author.Rules.{rules}
-use Rattle.steps.specs.Laws.Values.{character_none, character_reference, character_return, character_blank, character_out, character_in}
+use Rattle.steps.proofs.Laws.Values.{character_none, character_reference, character_return, character_blank, character_out, character_in}
 use Rattle.heads.proofs.values.odd_in_value_end.Statement.{statement}
 use Rattle.heads.proofs.values.odd_in_value_end.Tie as tie
 

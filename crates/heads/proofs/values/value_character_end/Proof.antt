@@ -1,5 +1,5 @@
 use borrow.Author.Rules.{rules}
-use Rattle.steps.specs.Laws.Values.{character_none, character_plain}
+use Rattle.steps.proofs.Laws.Values.{character_none, character_plain}
 use Rattle.heads.proofs.values.value_character_end.Statement.{statement}
 use Rattle.heads.proofs.values.value_character_end.Tie as tie
 

@@ -1,5 +1,5 @@
 use borrow.Author.Rules.{rules}
-use Rattle.steps.specs.Laws.Values.{value_none, value_other, value_some}
+use Rattle.steps.proofs.Laws.Values.{value_none, value_other, value_some}
 use Rattle.heads.proofs.values.value_end.Statement.{statement}
 use Rattle.heads.proofs.values.value_end.Tie as tie
 

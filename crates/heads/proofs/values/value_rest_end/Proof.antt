@@ -1,5 +1,5 @@
 use borrow.Author.Rules.{rules}
-use Rattle.steps.specs.Laws.Values.{value_start, value_open, value_closes, value_stuck, value_more, value_less, InValue}
+use Rattle.steps.proofs.Laws.Values.{value_start, value_open, value_closes, value_stuck, value_more, value_less, InValue}
 use Prim.Native.Nat.{◌-◌}
 use lib.ListN.{length}
 use Rattle.heads.proofs.values.value_rest_end.Statement.{statement}

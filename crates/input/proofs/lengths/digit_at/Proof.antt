@@ -1,4 +1,4 @@
-use Rattle.input.specs.Laws.Parts.{digitSteps}
+use Rattle.input.proofs.Laws.Parts.{digitSteps}
 use borrow.Author.Rules.{rules}
 use Rattle.input.proofs.lengths.digit_at.Statement.{statement}
 use Rattle.input.proofs.lengths.digit_at.Tie as tie

@@ -1,5 +1,5 @@
 use Prim.Native.Nat.{◌-◌}
-use Rattle.input.specs.Laws.Parts.{Running, runSteps, run_low, run_room}
+use Rattle.input.proofs.Laws.Parts.{Running, runSteps, run_low, run_room}
 use native.Mathlib.Omega.{arith}
 use Rattle.input.proofs.lengths.digits_at.Statement.{statement}
 use Rattle.input.proofs.lengths.digits_at.Tie as tie

@@ -1,4 +1,4 @@
-use Rattle.input.specs.Laws.Line.{lineSteps}
+use Rattle.input.proofs.Laws.Line.{lineSteps}
 use borrow.Author.Rules.{rules}
 use Rattle.input.proofs.lengths.first_line.Statement.{statement}
 use Rattle.input.proofs.lengths.first_line.Tie as tie

@@ -1,4 +1,4 @@
-use Rattle.input.specs.Laws.Line.{firstSteps}
+use Rattle.input.proofs.Laws.Line.{firstSteps}
 use borrow.Author.Rules.{rules}
 use Rattle.input.proofs.lengths.lengths_in.Statement.{statement}
 use Rattle.input.proofs.lengths.lengths_in.Tie as tie

@@ -1,4 +1,4 @@
-use Rattle.input.specs.Laws.Parts.{partSteps}
+use Rattle.input.proofs.Laws.Parts.{partSteps}
 use borrow.Author.Rules.{rules}
 use Rattle.input.proofs.lengths.part_at.Statement.{statement}
 use Rattle.input.proofs.lengths.part_at.Tie as tie

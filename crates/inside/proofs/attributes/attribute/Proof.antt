@@ -1,4 +1,4 @@
-use Rattle.nodes.specs.Laws.Attributes.{attributing}
+use Rattle.nodes.proofs.Laws.Attributes.{attributing}
 use Rattle.inside.proofs.attributes.attribute.Statement.{statement}
 use Rattle.inside.proofs.attributes.attribute.Tie as tie
 

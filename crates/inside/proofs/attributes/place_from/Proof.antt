@@ -1,7 +1,7 @@
 use Prim.Native.Nat.{◌-◌}
 use borrow.Author.Rules.{rules}
 use lib.ListN.{length}
-use Rattle.nodes.specs.Laws.Attributes.{Placing, placing, placing_hit}
+use Rattle.nodes.proofs.Laws.Attributes.{Placing, placing, placing_hit}
 use Rattle.inside.proofs.attributes.place_from.Statement.{statement}
 use Rattle.inside.proofs.attributes.place_from.Tie as tie
 

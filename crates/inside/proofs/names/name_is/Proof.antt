@@ -1,4 +1,4 @@
-use Rattle.nodes.specs.Laws.Names.{naming}
+use Rattle.nodes.proofs.Laws.Names.{naming}
 use Rattle.inside.proofs.names.name_is.Statement.{statement}
 use Rattle.inside.proofs.names.name_is.Tie as tie
 

@@ -1,4 +1,4 @@
-use Rattle.nodes.specs.Laws.Texts.{lettering, letter_reference, letter_return}
+use Rattle.nodes.proofs.Laws.Texts.{lettering, letter_reference, letter_return}
 use Rattle.inside.proofs.texts.letter_at.Statement.{statement}
 use Rattle.inside.proofs.texts.letter_at.Tie as tie
 

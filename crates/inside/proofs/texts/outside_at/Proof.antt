@@ -1,5 +1,5 @@
 use native.Mathlib.Omega.{arith}
-use Rattle.nodes.specs.Laws.Texts.{stepping, ends_inside}
+use Rattle.nodes.proofs.Laws.Texts.{stepping, ends_inside}
 use Rattle.inside.proofs.texts.outside_at.Statement.{statement}
 use Rattle.inside.proofs.texts.outside_at.Tie as tie
 

@@ -1,4 +1,4 @@
-use Rattle.nodes.specs.Laws.Texts.{placing}
+use Rattle.nodes.proofs.Laws.Texts.{placing}
 use Rattle.inside.proofs.texts.text_at.Statement.{statement}
 use Rattle.inside.proofs.texts.text_at.Tie as tie
 

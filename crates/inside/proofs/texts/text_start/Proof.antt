@@ -1,4 +1,4 @@
-use Rattle.nodes.specs.Laws.Texts.{beginning}
+use Rattle.nodes.proofs.Laws.Texts.{beginning}
 use Rattle.inside.proofs.texts.text_start.Statement.{statement}
 use Rattle.inside.proofs.texts.text_start.Tie as tie
 

@@ -1,6 +1,6 @@
 use mathlib.Core.Path.{refl}
 use native.Mathlib.Omega.{arith}
-use Rattle.nodes.specs.Laws.Texts.{within-data, ends_inside, within_out, within_letter}
+use Rattle.nodes.proofs.Laws.Texts.{within-data, ends_inside, within_out, within_letter}
 use Rattle.inside.proofs.texts.within_at.Statement.{statement}
 use Rattle.inside.proofs.texts.within_at.Tie as tie
 

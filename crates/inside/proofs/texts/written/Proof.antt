@@ -1,4 +1,4 @@
-use Rattle.nodes.specs.Laws.Texts.{writing}
+use Rattle.nodes.proofs.Laws.Texts.{writing}
 use Rattle.inside.proofs.texts.written.Statement.{statement}
 use Rattle.inside.proofs.texts.written.Tie as tie
 

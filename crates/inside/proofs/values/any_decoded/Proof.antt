@@ -1,4 +1,4 @@
-use Rattle.nodes.specs.Laws.Values.{decoding, decode_ampersand, decode_blank}
+use Rattle.nodes.proofs.Laws.Values.{decoding, decode_ampersand, decode_blank}
 use Rattle.inside.proofs.values.any_decoded.Statement.{statement}
 use Rattle.inside.proofs.values.any_decoded.Tie as tie
 

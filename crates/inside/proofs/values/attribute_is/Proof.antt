@@ -1,4 +1,4 @@
-use Rattle.nodes.specs.Laws.Values.{having}
+use Rattle.nodes.proofs.Laws.Values.{having}
 use Rattle.inside.proofs.values.attribute_is.Statement.{statement}
 use Rattle.inside.proofs.values.attribute_is.Tie as tie
 

@@ -1,6 +1,6 @@
 use Prim.Native.Nat.{◌-◌}
 use lib.ListN.{length}
-use Rattle.nodes.specs.Laws.Fronts.{Fronting, fronting, front_start}
+use Rattle.nodes.proofs.Laws.Fronts.{Fronting, fronting, front_start}
 use Rattle.inside.proofs.values.begins.Statement.{statement}
 use Rattle.inside.proofs.values.begins.Tie as tie
 

@@ -1,4 +1,4 @@
-use Rattle.nodes.specs.Laws.Fronts.{valued}
+use Rattle.nodes.proofs.Laws.Fronts.{valued}
 use Rattle.inside.proofs.values.behind_quote.Statement.{statement}
 use Rattle.inside.proofs.values.behind_quote.Tie as tie
 

@@ -3,9 +3,9 @@ use mathlib.Core.List.{List}
 use Prim.Native.Nat.{ℕ, ◌+◌, ◌<◌}
 use native.Mathlib.Omega.{arith}
 use lib.ListN.{length, get_or}
-use Rattle.grammar.specs.Laws.Tokens.{high_no_blank}
+use Rattle.grammar.proofs.Laws.Tokens.{high_no_blank}
 use Rattle.nodes.specs.Values.{decoded_at}
-use Rattle.nodes.specs.Laws.Values.{decoding, decode_plain}
+use Rattle.nodes.proofs.Laws.Values.{decoding, decode_plain}
 use Rattle.nodes.specs.declared.Char.TheVariants.{Byte}
 use Rattle.inside.proofs.values.decoded.Statement.{statement}
 use Rattle.inside.proofs.values.decoded.Tie as tie

@@ -1,6 +1,6 @@
 use Prim.Native.Nat.{◌-◌}
 use lib.ListN.{length}
-use Rattle.nodes.specs.Laws.Values.{Wording, wording, word_yes}
+use Rattle.nodes.proofs.Laws.Values.{Wording, wording, word_yes}
 use Rattle.inside.proofs.values.rest_is.Statement.{statement}
 use Rattle.inside.proofs.values.rest_is.Tie as tie
 

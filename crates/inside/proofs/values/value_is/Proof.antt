@@ -1,4 +1,4 @@
-use Rattle.nodes.specs.Laws.Fronts.{valued}
+use Rattle.nodes.proofs.Laws.Fronts.{valued}
 use Rattle.inside.proofs.values.value_is.Statement.{statement}
 use Rattle.inside.proofs.values.value_is.Tie as tie
 

@@ -1,5 +1,5 @@
 use Rattle.inside.specs.Treads.{called}
-use Rattle.inside.specs.Laws.Treads.{seeking, Seeking, ahead, seeking_start}
+use Rattle.inside.proofs.Laws.Treads.{seeking, Seeking, ahead, seeking_start}
 use Rattle.inside.proofs.ways.child_named.Statement.{statement}
 use Rattle.inside.proofs.ways.child_named.Tie as tie
 

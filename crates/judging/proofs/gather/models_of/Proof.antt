@@ -1,6 +1,6 @@
-use Rattle.nodes.specs.Laws.Along.{Along}
-use Rattle.nodes.specs.Laws.Children.{left}
-use Rattle.models.specs.Laws.Gathering.{Gathering, gathering, gathering_room}
+use Rattle.nodes.proofs.Laws.Along.{Along}
+use Rattle.nodes.proofs.Laws.Children.{left}
+use Rattle.models.proofs.Laws.Gathering.{Gathering, gathering, gathering_room}
 use Rattle.judging.proofs.gather.models_of.Statement.{statement}
 use Rattle.judging.proofs.gather.models_of.Tie as tie
 

@@ -1,4 +1,4 @@
-use Rattle.models.specs.Laws.Judged.{choosing}
+use Rattle.models.proofs.Laws.Judged.{choosing}
 use Rattle.judging.proofs.judge.first_of.Statement.{statement}
 use Rattle.judging.proofs.judge.first_of.Tie as tie
 

@@ -1,5 +1,5 @@
 use Prim.Native.Nat.{◌-◌}
-use Rattle.models.specs.Laws.Judged.{judging, Judging}
+use Rattle.models.proofs.Laws.Judged.{judging, Judging}
 use Rattle.judging.proofs.judge.judged.Statement.{statement}
 use Rattle.judging.proofs.judge.judged.Tie as tie
 

@@ -1,4 +1,4 @@
-use Rattle.models.specs.Laws.Judged.{ruling}
+use Rattle.models.proofs.Laws.Judged.{ruling}
 use Rattle.judging.proofs.judge.map_rule.Statement.{statement}
 use Rattle.judging.proofs.judge.map_rule.Tie as tie
 

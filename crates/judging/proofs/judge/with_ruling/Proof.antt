@@ -1,4 +1,4 @@
-use Rattle.models.specs.Laws.Judged.{with-ruling}
+use Rattle.models.proofs.Laws.Judged.{with-ruling}
 use Rattle.judging.proofs.judge.with_ruling.Statement.{statement}
 use Rattle.judging.proofs.judge.with_ruling.Tie as tie
 

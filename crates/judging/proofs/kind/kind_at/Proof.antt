@@ -1,4 +1,4 @@
-use Rattle.models.specs.Laws.Kind.{kinding}
+use Rattle.models.proofs.Laws.Kind.{kinding}
 use borrow.Author.Rules.{rules}
 use Rattle.judging.proofs.kind.kind_at.Statement.{statement}
 use Rattle.judging.proofs.kind.kind_at.Tie as tie

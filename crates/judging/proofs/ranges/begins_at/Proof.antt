@@ -1,5 +1,5 @@
 use Prim.Native.Nat.{◌-◌}
-use Rattle.models.specs.Laws.Ranges.{Beginning, beginning}
+use Rattle.models.proofs.Laws.Ranges.{Beginning, beginning}
 use Rattle.judging.proofs.ranges.begins_at.Statement.{statement}
 use Rattle.judging.proofs.ranges.begins_at.Tie as tie
 

@@ -1,5 +1,5 @@
 use Prim.Native.Nat.{◌-◌}
-use Rattle.models.specs.Laws.Chaining.{Chaining, chaining}
+use Rattle.models.proofs.Laws.Chaining.{Chaining, chaining}
 use Rattle.judging.proofs.ranges.ranges_tile.Statement.{statement}
 use Rattle.judging.proofs.ranges.ranges_tile.Tie as tie
 

@@ -1,5 +1,5 @@
 use Prim.Native.Nat.{◌-◌}
-use Rattle.models.specs.Laws.Ranges.{Adding, adding}
+use Rattle.models.proofs.Laws.Ranges.{Adding, adding}
 use Rattle.judging.proofs.ranges.sum.Statement.{statement}
 use Rattle.judging.proofs.ranges.sum.Tie as tie
 

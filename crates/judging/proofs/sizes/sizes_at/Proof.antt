@@ -1,4 +1,4 @@
-use Rattle.models.specs.Laws.Sizes.{sizing}
+use Rattle.models.proofs.Laws.Sizes.{sizing}
 use borrow.Author.Rules.{rules}
 use Rattle.judging.proofs.sizes.sizes_at.Statement.{statement}
 use Rattle.judging.proofs.sizes.sizes_at.Tie as tie

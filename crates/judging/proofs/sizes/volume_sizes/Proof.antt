@@ -1,4 +1,4 @@
-use Rattle.models.specs.Laws.Sizes.{volumes}
+use Rattle.models.proofs.Laws.Sizes.{volumes}
 use Rattle.judging.proofs.sizes.volume_sizes.Statement.{statement}
 use Rattle.judging.proofs.sizes.volume_sizes.Tie as tie
 

@@ -1,4 +1,4 @@
-use Rattle.models.specs.Laws.Structures.{structured}
+use Rattle.models.proofs.Laws.Structures.{structured}
 use borrow.Author.Rules.{rules}
 use Rattle.judging.proofs.structures.structure_number.Statement.{statement}
 use Rattle.judging.proofs.structures.structure_number.Tie as tie

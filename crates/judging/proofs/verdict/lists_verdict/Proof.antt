@@ -1,4 +1,4 @@
-use Rattle.marked_lists.specs.Laws.Models.{rulingLists}
+use Rattle.marked_lists.proofs.Laws.Models.{rulingLists}
 use Rattle.judging.proofs.verdict.lists_verdict.Statement.{statement}
 use Rattle.judging.proofs.verdict.lists_verdict.Tie as tie
 

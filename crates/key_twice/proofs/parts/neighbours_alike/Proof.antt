@@ -1,7 +1,7 @@
 use Prim.Native.Nat.{◌-◌}
 use lib.ListN.{length}
 use native.Mathlib.Omega.{arith}
-use Rattle.key_twice.specs.Laws.Parts.{looking, Looking}
+use Rattle.key_twice.proofs.Laws.Parts.{looking, Looking}
 use Rattle.key_twice.proofs.parts.neighbours_alike.Statement.{statement}
 use Rattle.key_twice.proofs.parts.neighbours_alike.Tie as tie
 

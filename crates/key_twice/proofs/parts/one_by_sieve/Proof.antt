@@ -1,4 +1,4 @@
-use Rattle.key_twice.specs.Laws.Parts.{sieved}
+use Rattle.key_twice.proofs.Laws.Parts.{sieved}
 use Rattle.key_twice.proofs.parts.one_by_sieve.Statement.{statement}
 use Rattle.key_twice.proofs.parts.one_by_sieve.Tie as tie
 

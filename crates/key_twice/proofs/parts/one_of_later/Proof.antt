@@ -1,4 +1,4 @@
-use Rattle.key_twice.specs.Laws.Parts.{sieved}
+use Rattle.key_twice.proofs.Laws.Parts.{sieved}
 use Rattle.key_twice.proofs.parts.one_of_later.Statement.{statement}
 use Rattle.key_twice.proofs.parts.one_of_later.Tie as tie
 

@@ -1,4 +1,4 @@
-use Rattle.key_twice.specs.Laws.Parts.{parting, part_later}
+use Rattle.key_twice.proofs.Laws.Parts.{parting, part_later}
 use Rattle.key_twice.proofs.parts.part_twice.Statement.{statement}
 use Rattle.key_twice.proofs.parts.part_twice.Tie as tie
 

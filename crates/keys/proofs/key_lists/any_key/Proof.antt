@@ -1,4 +1,4 @@
-use Rattle.keys.specs.Laws.KeyLists.{key-signs}
+use Rattle.keys.proofs.Laws.KeyLists.{key-signs}
 use Rattle.keys.proofs.key_lists.any_key.Statement.{statement}
 use Rattle.keys.proofs.key_lists.any_key.Tie as tie
 

@@ -1,4 +1,4 @@
-use Rattle.keys.specs.Laws.KeyLists.{key-texts, keys_there, keys_missing}
+use Rattle.keys.proofs.Laws.KeyLists.{key-texts, keys_there, keys_missing}
 use Rattle.keys.proofs.key_lists.are_keys.Statement.{statement}
 use Rattle.keys.proofs.key_lists.are_keys.Tie as tie
 

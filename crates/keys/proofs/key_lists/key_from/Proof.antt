@@ -1,5 +1,5 @@
 use native.Mathlib.Omega.{arith}
-use Rattle.keys.specs.Laws.KeyLists.{key-digits, from_great, from_small, from_fits, from_key}
+use Rattle.keys.proofs.Laws.KeyLists.{key-digits, from_great, from_small, from_fits, from_key}
 use Rattle.keys.proofs.key_lists.key_from.Statement.{statement}
 use Rattle.keys.proofs.key_lists.key_from.Tie as tie
 

@@ -1,4 +1,4 @@
-use Rattle.keys.specs.Laws.KeyLists.{Listing, key-listing}
+use Rattle.keys.proofs.Laws.KeyLists.{Listing, key-listing}
 use Rattle.nodes.specs.Texts.{left}
 use Rattle.keys.proofs.key_lists.keys_from.Statement.{statement}
 use Rattle.keys.proofs.key_lists.keys_from.Tie as tie

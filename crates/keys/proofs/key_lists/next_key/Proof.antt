@@ -1,4 +1,4 @@
-use Rattle.keys.specs.Laws.KeyLists.{key-quick}
+use Rattle.keys.proofs.Laws.KeyLists.{key-quick}
 use Rattle.keys.proofs.key_lists.next_key.Statement.{statement}
 use Rattle.keys.proofs.key_lists.next_key.Tie as tie
 

@@ -1,5 +1,5 @@
-use Rattle.numbers.specs.Laws.InValue.{amount_cast}
-use Rattle.numbers.specs.Laws.Colours.{shade_less, shade_above, shade_bound}
+use Rattle.numbers.proofs.Laws.InValue.{amount_cast}
+use Rattle.numbers.proofs.Laws.Colours.{shade_less, shade_above, shade_bound}
 use mir.Syntax.{w64}
 use mir.ValLaws.{to_z-of_z}
 use Rattle.keys.proofs.shade.in_shade.Statement.{statement}

@@ -1,4 +1,4 @@
-use Rattle.numbers.specs.Laws.Colours.{shade_zero, shade_much, shade_few, shade_places, shade_little}
+use Rattle.numbers.proofs.Laws.Colours.{shade_zero, shade_much, shade_few, shade_places, shade_little}
 use borrow.Author.Rules.{rules}
 use Rattle.keys.proofs.shade.shade_above.Statement.{statement}
 use Rattle.keys.proofs.shade.shade_above.Tie as tie

@@ -1,4 +1,4 @@
-use Rattle.known_keys.specs.Laws.Sieve.{sifting}
+use Rattle.known_keys.proofs.Laws.Sieve.{sifting}
 use Rattle.known_keys.proofs.among.known_among.Statement.{statement}
 use Rattle.known_keys.proofs.among.known_among.Tie as tie
 

@@ -1,6 +1,6 @@
 use lib.ListN.{length}
 use Prim.Native.Nat.{◌-◌}
-use Rattle.known_keys.specs.Laws.Among.{counting, Counting}
+use Rattle.known_keys.proofs.Laws.Among.{counting, Counting}
 use Rattle.known_keys.proofs.among.known_sifted.Statement.{statement}
 use Rattle.known_keys.proofs.among.known_sifted.Tie as tie
 

@@ -1,6 +1,6 @@
 use Prim.Native.Nat.{◌-◌}
 use native.Mathlib.Omega.{arith}
-use Rattle.known_keys.specs.Laws.Search.{halving, Halfway}
+use Rattle.known_keys.proofs.Laws.Search.{halving, Halfway}
 use Rattle.known_keys.proofs.search.nearest.Statement.{statement}
 use Rattle.known_keys.proofs.search.nearest.Tie as tie
 

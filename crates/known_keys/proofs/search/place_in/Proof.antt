@@ -1,5 +1,5 @@
 use native.Mathlib.Omega.{arith}
-use Rattle.known_keys.specs.Laws.Search.{placing}
+use Rattle.known_keys.proofs.Laws.Search.{placing}
 use Rattle.known_keys.proofs.search.place_in.Statement.{statement}
 use Rattle.known_keys.proofs.search.place_in.Tie as tie
 

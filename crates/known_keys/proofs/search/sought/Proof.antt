@@ -1,5 +1,5 @@
 use native.Mathlib.Omega.{arith}
-use Rattle.known_keys.specs.Laws.Search.{placing}
+use Rattle.known_keys.proofs.Laws.Search.{placing}
 use Rattle.known_keys.proofs.search.sought.Statement.{statement}
 use Rattle.known_keys.proofs.search.sought.Tie as tie
 

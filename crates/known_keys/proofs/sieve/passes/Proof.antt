@@ -1,4 +1,4 @@
-use Rattle.known_keys.specs.Laws.Sieve.{passing}
+use Rattle.known_keys.proofs.Laws.Sieve.{passing}
 use Rattle.known_keys.proofs.sieve.passes.Statement.{statement}
 use Rattle.known_keys.proofs.sieve.passes.Tie as tie
 

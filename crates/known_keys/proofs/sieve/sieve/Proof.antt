@@ -1,6 +1,6 @@
 use lib.ListN.{length}
 use Prim.Native.Nat.{◌-◌}
-use Rattle.known_keys.specs.Laws.Sieve.{sieving, Sieving}
+use Rattle.known_keys.proofs.Laws.Sieve.{sieving, Sieving}
 use Rattle.known_keys.proofs.sieve.sieve.Statement.{statement}
 use Rattle.known_keys.proofs.sieve.sieve.Tie as tie
 

@@ -1,6 +1,6 @@
 use lib.ListN.{length}
-use Rattle.label_table.specs.Laws.Labels.{row}
-use Rattle.known_keys.specs.Laws.Turns.{gathering, Gathering}
+use Rattle.label_table.proofs.Laws.Labels.{row}
+use Rattle.known_keys.proofs.Laws.Turns.{gathering, Gathering}
 use Rattle.known_keys.proofs.turns.gather.Statement.{statement}
 use Rattle.known_keys.proofs.turns.gather.Tie as tie
 

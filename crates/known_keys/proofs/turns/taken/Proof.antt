@@ -1,7 +1,7 @@
 use mathlib.Core.Path.{sym, ◌∙◌}
 use native.Mathlib.Omega.{arith}
 use lib.Seq.{length-take-le, length_front}
-use Rattle.known_keys.specs.Laws.Turns.{codes_small, taken_so}
+use Rattle.known_keys.proofs.Laws.Turns.{codes_small, taken_so}
 use Rattle.known_keys.proofs.turns.taken.Statement.{statement}
 use Rattle.known_keys.proofs.turns.taken.Tie as tie
 

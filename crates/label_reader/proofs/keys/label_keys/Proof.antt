@@ -1,4 +1,4 @@
-use Rattle.label_reader.specs.Laws.Keys.{keying, keys_found}
+use Rattle.label_reader.proofs.Laws.Keys.{keying, keys_found}
 use Rattle.label_reader.proofs.keys.label_keys.Statement.{statement}
 use Rattle.label_reader.proofs.keys.label_keys.Tie as tie
 

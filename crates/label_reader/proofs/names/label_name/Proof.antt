@@ -1,4 +1,4 @@
-use Rattle.label_reader.specs.Laws.Names.{taking-label}
+use Rattle.label_reader.proofs.Laws.Names.{taking-label}
 use Rattle.label_reader.proofs.names.label_name.Statement.{statement}
 use Rattle.label_reader.proofs.names.label_name.Tie as tie
 

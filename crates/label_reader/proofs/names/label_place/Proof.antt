@@ -1,5 +1,5 @@
 use mathlib.Core.Path.{refl}
-use Rattle.label_reader.specs.Laws.Names.{naming-label, label_refused}
+use Rattle.label_reader.proofs.Laws.Names.{naming-label, label_refused}
 use Rattle.label_reader.proofs.names.label_place.Statement.{statement}
 use Rattle.label_reader.proofs.names.label_place.Tie as tie
 

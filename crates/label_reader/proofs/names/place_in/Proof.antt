@@ -1,5 +1,5 @@
 use borrow.Author.Rules.{rules}
-use Rattle.label_reader.specs.Laws.Names.{in_table, in_found}
+use Rattle.label_reader.proofs.Laws.Names.{in_table, in_found}
 use Rattle.label_reader.proofs.names.place_in.Statement.{statement}
 use Rattle.label_reader.proofs.names.place_in.Tie as tie
 

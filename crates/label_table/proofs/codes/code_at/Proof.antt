@@ -1,7 +1,7 @@
 use mir.Syntax.{w32}
 use mir.Val.{SFits}
 use borrow.Author.Rules.{rules}
-use Rattle.label_table.specs.Laws.Codes.{code_here_lem}
+use Rattle.label_table.proofs.Laws.Codes.{code_here_lem}
 use Rattle.label_table.proofs.codes.code_at.Statement.{statement}
 use Rattle.label_table.proofs.codes.code_at.Tie as tie
 

@@ -1,4 +1,4 @@
-use Rattle.label_table.specs.Laws.Codes.{coding}
+use Rattle.label_table.proofs.Laws.Codes.{coding}
 use Rattle.label_table.proofs.codes.code_of.Statement.{statement}
 use Rattle.label_table.proofs.codes.code_of.Tie as tie
 

@@ -1,4 +1,4 @@
-use Rattle.label_table.specs.Laws.Labels.{stepping}
+use Rattle.label_table.proofs.Laws.Labels.{stepping}
 use Rattle.label_table.proofs.labels.first_label.Statement.{statement}
 use Rattle.label_table.proofs.labels.first_label.Tie as tie
 

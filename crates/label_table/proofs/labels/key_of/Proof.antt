@@ -1,4 +1,4 @@
-use Rattle.label_table.specs.Laws.Labels.{keying}
+use Rattle.label_table.proofs.Laws.Labels.{keying}
 use Rattle.label_table.proofs.labels.key_of.Statement.{statement}
 use Rattle.label_table.proofs.labels.key_of.Tie as tie
 

@@ -1,5 +1,5 @@
-use Rattle.inside.specs.Laws.Treads.{ahead}
-use Rattle.label_table.specs.Laws.Labels.{searching, Searching}
+use Rattle.inside.proofs.Laws.Treads.{ahead}
+use Rattle.label_table.proofs.Laws.Labels.{searching, Searching}
 use Rattle.label_table.proofs.labels.label_from.Statement.{statement}
 use Rattle.label_table.proofs.labels.label_from.Tie as tie
 

@@ -1,5 +1,5 @@
 use lib.ListN.{length}
-use Rattle.label_table.specs.Laws.Labels.{writing, Writing, row}
+use Rattle.label_table.proofs.Laws.Labels.{writing, Writing, row}
 use Rattle.label_table.proofs.listed.fill_keys.Statement.{statement}
 use Rattle.label_table.proofs.listed.fill_keys.Tie as tie
 

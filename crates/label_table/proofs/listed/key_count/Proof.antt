@@ -1,6 +1,6 @@
 use lib.ListN.{length}
 use native.Mathlib.Omega.{arith}
-use Rattle.label_table.specs.Laws.Labels.{counting, Counting, counting_room, row}
+use Rattle.label_table.proofs.Laws.Labels.{counting, Counting, counting_room, row}
 use Rattle.label_table.proofs.listed.key_count.Statement.{statement}
 use Rattle.label_table.proofs.listed.key_count.Tie as tie
 

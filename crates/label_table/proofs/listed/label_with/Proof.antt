@@ -1,5 +1,5 @@
 use lib.ListN.{length}
-use Rattle.label_table.specs.Laws.Labels.{finding, Finding, row}
+use Rattle.label_table.proofs.Laws.Labels.{finding, Finding, row}
 use Rattle.label_table.proofs.listed.label_with.Statement.{statement}
 use Rattle.label_table.proofs.listed.label_with.Tie as tie
 

@@ -1,8 +1,8 @@
-use Rattle.labels.specs.Laws.Dimensions.{tallying, tally_done}
+use Rattle.labels.proofs.Laws.Dimensions.{tallying, tally_done}
 use Prim.Native.Nat.{◌-◌}
 use Rattle.maps.specs.Ready.{maps_at}
-use Rattle.maps.specs.Laws.Over.{Over}
-use Rattle.labels.specs.Laws.Dimensions.{Tally}
+use Rattle.maps.proofs.Laws.Over.{Over}
+use Rattle.labels.proofs.Laws.Dimensions.{Tally}
 use Rattle.labels.proofs.dimensions.labels_twice.Statement.{statement}
 use Rattle.labels.proofs.dimensions.labels_twice.Tie as tie
 

@@ -1,6 +1,6 @@
-use Rattle.labels.specs.Laws.Dimensions.{adding}
+use Rattle.labels.proofs.Laws.Dimensions.{adding}
 use Prim.Native.Nat.{◌-◌}
-use Rattle.labels.specs.Laws.Dimensions.{Adding}
+use Rattle.labels.proofs.Laws.Dimensions.{Adding}
 use Rattle.labels.proofs.dimensions.listed.Statement.{statement}
 use Rattle.labels.proofs.dimensions.listed.Tie as tie
 

@@ -1,4 +1,4 @@
-use Rattle.labels.specs.Laws.Dimensions.{labelling}
+use Rattle.labels.proofs.Laws.Dimensions.{labelling}
 use Rattle.labels.proofs.dimensions.listed_by_labels.Statement.{statement}
 use Rattle.labels.proofs.dimensions.listed_by_labels.Tie as tie
 

@@ -1,8 +1,8 @@
-use Rattle.labels.specs.Laws.Twice.{twicing}
+use Rattle.labels.proofs.Laws.Twice.{twicing}
 use Prim.Native.Nat.{◌-◌}
 use Rattle.maps.specs.Ready.{maps_at}
-use Rattle.maps.specs.Laws.Over.{Over}
-use Rattle.labels.specs.Laws.Twice.{Twice}
+use Rattle.maps.proofs.Laws.Over.{Over}
+use Rattle.labels.proofs.Laws.Twice.{Twice}
 use Rattle.labels.proofs.twice.key_twice.Statement.{statement}
 use Rattle.labels.proofs.twice.key_twice.Tie as tie
 

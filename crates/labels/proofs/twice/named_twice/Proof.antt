@@ -1,9 +1,9 @@
-use Rattle.labels.specs.Laws.Lent.{Lent, lending}
-use Rattle.labels.specs.Laws.Twice.{asking}
+use Rattle.labels.proofs.Laws.Lent.{Lent, lending}
+use Rattle.labels.proofs.Laws.Twice.{asking}
 use Rattle.grammar.specs.Bytes.{ascii}
-use Rattle.inside.specs.Laws.Treads.{ahead}
+use Rattle.inside.proofs.Laws.Treads.{ahead}
 use Rattle.label_table.specs.Labels.{twice_at}
-use Rattle.labels.specs.Laws.Twice.{Asking}
+use Rattle.labels.proofs.Laws.Twice.{Asking}
 use Rattle.labels.proofs.twice.named_twice.Statement.{statement}
 use Rattle.labels.proofs.twice.named_twice.Tie as tie
 

@@ -1,5 +1,5 @@
 use borrow.Author.Rules.{rules}
-use Rattle.steps.specs.Laws.Steps.{ends_none, asking_some}
+use Rattle.steps.proofs.Laws.Steps.{ends_none, asking_some}
 use Rattle.letters.proofs.blanks.asks.Statement.{statement}
 use Rattle.letters.proofs.blanks.asks.Tie as tie
 

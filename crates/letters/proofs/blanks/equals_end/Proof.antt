@@ -1,5 +1,5 @@
 use borrow.Author.Rules.{rules}
-use Rattle.steps.specs.Laws.Steps.{equals_none, equals_other, equals_some}
+use Rattle.steps.proofs.Laws.Steps.{equals_none, equals_other, equals_some}
 use Rattle.letters.proofs.blanks.equals_end.Statement.{statement}
 use Rattle.letters.proofs.blanks.equals_end.Tie as tie
 

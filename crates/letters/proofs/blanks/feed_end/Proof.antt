@@ -1,4 +1,4 @@
-use Rattle.steps.specs.Laws.Feeds.{feeding}
+use Rattle.steps.proofs.Laws.Feeds.{feeding}
 use Rattle.letters.proofs.blanks.feed_end.Statement.{statement}
 use Rattle.letters.proofs.blanks.feed_end.Tie as tie
 

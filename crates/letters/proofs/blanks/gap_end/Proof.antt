@@ -1,5 +1,5 @@
 use borrow.Author.Rules.{rules}
-use Rattle.steps.specs.Laws.Steps.{gap_none, gap_other, gap_some}
+use Rattle.steps.proofs.Laws.Steps.{gap_none, gap_other, gap_some}
 use Rattle.letters.proofs.blanks.gap_end.Statement.{statement}
 use Rattle.letters.proofs.blanks.gap_end.Tie as tie
 

@@ -1,5 +1,5 @@
 use borrow.Author.Rules.{rules}
-use Rattle.steps.specs.Laws.Steps.{mark_start, mark_far, mark_all, mark_short, mark_unlike, mark_more, Marking}
+use Rattle.steps.proofs.Laws.Steps.{mark_start, mark_far, mark_all, mark_short, mark_unlike, mark_more, Marking}
 use Prim.Native.Nat.{◌-◌}
 use lib.ListN.{length}
 use Rattle.letters.proofs.blanks.mark_end.Statement.{statement}

@@ -1,5 +1,5 @@
 use borrow.Author.Rules.{rules}
-use Rattle.steps.specs.Laws.Characters.{starts_so, starts_not}
+use Rattle.steps.proofs.Laws.Characters.{starts_so, starts_not}
 use Rattle.letters.proofs.blanks.starts.Statement.{statement}
 use Rattle.letters.proofs.blanks.starts.Tie as tie
 

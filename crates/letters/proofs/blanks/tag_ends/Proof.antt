@@ -1,5 +1,5 @@
 use borrow.Author.Rules.{rules}
-use Rattle.steps.specs.Laws.Steps.{ends_none, closing_some}
+use Rattle.steps.proofs.Laws.Steps.{ends_none, closing_some}
 use Rattle.letters.proofs.blanks.tag_ends.Statement.{statement}
 use Rattle.letters.proofs.blanks.tag_ends.Tie as tie
 

@@ -1,6 +1,6 @@
 use Prim.Native.Nat.{◌-◌}
 use Rattle.steps.specs.Blocks.{other}
-use Rattle.steps.specs.Laws.Blocks.{Blocking, blocking, block_start, other_on}
+use Rattle.steps.proofs.Laws.Blocks.{Blocking, blocking, block_start, other_on}
 use Rattle.letters.proofs.blocks.block_lacks.Statement.{statement}
 use Rattle.letters.proofs.blocks.block_lacks.Tie as tie
 

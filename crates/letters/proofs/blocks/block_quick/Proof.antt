@@ -1,4 +1,4 @@
-use Rattle.steps.specs.Laws.Blocks.{quick-blocks}
+use Rattle.steps.proofs.Laws.Blocks.{quick-blocks}
 use Rattle.letters.proofs.blocks.block_quick.Statement.{statement}
 use Rattle.letters.proofs.blocks.block_quick.Tie as tie
 

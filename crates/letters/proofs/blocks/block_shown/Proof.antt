@@ -1,6 +1,6 @@
 use Prim.Native.Nat.{◌-◌}
 use Rattle.steps.specs.Blocks.{shown}
-use Rattle.steps.specs.Laws.Blocks.{Blocking, blocking, shown_on}
+use Rattle.steps.proofs.Laws.Blocks.{Blocking, blocking, shown_on}
 use Rattle.letters.proofs.blocks.block_shown.Statement.{statement}
 use Rattle.letters.proofs.blocks.block_shown.Tie as tie
 

@@ -2,7 +2,7 @@ use Prim.Native.Nat.{◌-◌}
 use native.Mathlib.Omega.{arith}
 use lib.ListN.{length}
 use Rattle.steps.specs.Blocks.{Through, quick}
-use Rattle.steps.specs.Laws.Blocks.{by_blocks, through_on}
+use Rattle.steps.proofs.Laws.Blocks.{by_blocks, through_on}
 use Rattle.letters.proofs.blocks.past_quick.Statement.{statement}
 use Rattle.letters.proofs.blocks.past_quick.Tie as tie
 

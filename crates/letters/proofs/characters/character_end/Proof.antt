@@ -1,5 +1,5 @@
 use borrow.Author.Rules.{rules}
-use Rattle.steps.specs.Laws.Characters.{character_none, plain_step}
+use Rattle.steps.proofs.Laws.Characters.{character_none, plain_step}
 use Rattle.letters.proofs.characters.character_end.Statement.{statement}
 use Rattle.letters.proofs.characters.character_end.Tie as tie
 

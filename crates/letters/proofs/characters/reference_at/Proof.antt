@@ -1,5 +1,5 @@
 use borrow.Author.Rules.{rules}
-use Rattle.steps.specs.Laws.References.{is_amp, is_lt, is_gt, is_quot, is_apos, is_none}
+use Rattle.steps.proofs.Laws.References.{is_amp, is_lt, is_gt, is_quot, is_apos, is_none}
 use Rattle.letters.proofs.characters.reference_at.Statement.{statement}
 use Rattle.letters.proofs.characters.reference_at.Tie as tie
 

@@ -1,5 +1,5 @@
 use borrow.Author.Rules.{rules}
-use Rattle.steps.specs.Laws.References.{behind, missing}
+use Rattle.steps.proofs.Laws.References.{behind, missing}
 use Rattle.letters.proofs.characters.reference_end.Statement.{statement}
 use Rattle.letters.proofs.characters.reference_end.Tie as tie
 

@@ -1,5 +1,5 @@
 use borrow.Author.Rules.{rules}
-use Rattle.steps.specs.Laws.Characters.{four_none, four_bad, four_short, four_broken, four_cut, four_no, four_good}
+use Rattle.steps.proofs.Laws.Characters.{four_none, four_bad, four_short, four_broken, four_cut, four_no, four_good}
 use Rattle.letters.proofs.characters.rest_of_four.Statement.{statement}
 use Rattle.letters.proofs.characters.rest_of_four.Tie as tie
 

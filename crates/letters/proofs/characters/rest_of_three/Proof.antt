@@ -1,5 +1,5 @@
 use borrow.Author.Rules.{rules}
-use Rattle.steps.specs.Laws.Characters.{three_none, three_bad, three_short, three_broken, three_no, three_good}
+use Rattle.steps.proofs.Laws.Characters.{three_none, three_bad, three_short, three_broken, three_no, three_good}
 use Rattle.letters.proofs.characters.rest_of_three.Statement.{statement}
 use Rattle.letters.proofs.characters.rest_of_three.Tie as tie
 

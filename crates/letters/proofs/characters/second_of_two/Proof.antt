@@ -1,5 +1,5 @@
 use borrow.Author.Rules.{rules}
-use Rattle.steps.specs.Laws.Characters.{two_other, two_none, two_bad, two_good}
+use Rattle.steps.proofs.Laws.Characters.{two_other, two_none, two_bad, two_good}
 use Rattle.letters.proofs.characters.second_of_two.Statement.{statement}
 use Rattle.letters.proofs.characters.second_of_two.Tie as tie
 

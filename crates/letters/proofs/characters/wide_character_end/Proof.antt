@@ -1,5 +1,5 @@
 use borrow.Author.Rules.{rules}
-use Rattle.steps.specs.Laws.Characters.{character_none, one_good, one_bad, as_two, as_three, as_four}
+use Rattle.steps.proofs.Laws.Characters.{character_none, one_good, one_bad, as_two, as_three, as_four}
 use Rattle.letters.proofs.characters.wide_character_end.Statement.{statement}
 use Rattle.letters.proofs.characters.wide_character_end.Tie as tie
 

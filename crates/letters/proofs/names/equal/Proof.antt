@@ -1,5 +1,5 @@
 use borrow.Author.Rules.{rules}
-use Rattle.steps.specs.Laws.Steps.{equal_long, equal_start, equal_all, equal_other, equal_more, Matching}
+use Rattle.steps.proofs.Laws.Steps.{equal_long, equal_start, equal_all, equal_other, equal_more, Matching}
 use Prim.Native.Nat.{◌-◌}
 use lib.ListN.{length}
 use Rattle.letters.proofs.names.equal.Statement.{statement}

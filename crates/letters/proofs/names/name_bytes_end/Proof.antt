@@ -1,5 +1,5 @@
 use borrow.Author.Rules.{rules}
-use Rattle.steps.specs.Laws.Steps.{span_start, span_all, span_more, span_stops, Spanning}
+use Rattle.steps.proofs.Laws.Steps.{span_start, span_all, span_more, span_stops, Spanning}
 use Rattle.grammar.specs.Bytes.{name_byte}
 use Prim.Native.Nat.{◌-◌}
 use lib.ListN.{length}

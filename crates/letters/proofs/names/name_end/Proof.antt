@@ -1,5 +1,5 @@
 use borrow.Author.Rules.{rules}
-use Rattle.steps.specs.Laws.Steps.{name_none, name_other, name_ahead, name_long, name_some}
+use Rattle.steps.proofs.Laws.Steps.{name_none, name_other, name_ahead, name_long, name_some}
 use Rattle.letters.proofs.names.name_end.Statement.{statement}
 use Rattle.letters.proofs.names.name_end.Tie as tie
 

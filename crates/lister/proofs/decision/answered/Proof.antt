@@ -1,7 +1,7 @@
 use mathlib.Core.Path.{sym}
 use lib.Seq.{length-take-le}
 use native.Mathlib.Omega.{arith}
-use Rattle.lister.specs.Laws.Choosing.{chooseSteps}
+use Rattle.lister.proofs.Laws.Choosing.{chooseSteps}
 use borrow.Author.Rules.{rules}
 use Rattle.lister.proofs.decision.answered.Statement.{statement}
 use Rattle.lister.proofs.decision.answered.Tie as tie

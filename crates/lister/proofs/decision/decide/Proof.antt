@@ -1,4 +1,4 @@
-use Rattle.lister.specs.Laws.Choosing.{decideSteps}
+use Rattle.lister.proofs.Laws.Choosing.{decideSteps}
 use borrow.Author.Rules.{rules}
 use Rattle.lister.proofs.decision.decide.Statement.{statement}
 use Rattle.lister.proofs.decision.decide.Tie as tie

@@ -1,4 +1,4 @@
-use Rattle.schema.specs.Laws.Lines.{by_word}
+use Rattle.schema.proofs.Laws.Lines.{by_word}
 use Rattle.lookup.proofs.lines.chosen.Statement.{statement}
 use Rattle.lookup.proofs.lines.chosen.Tie as tie
 

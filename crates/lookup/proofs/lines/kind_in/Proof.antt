@@ -1,4 +1,4 @@
-use Rattle.schema.specs.Laws.Lines.{choosing-kind, Choosing}
+use Rattle.schema.proofs.Laws.Lines.{choosing-kind, Choosing}
 use Prim.Native.Nat.{◌-◌}
 use Rattle.nodes.specs.Values.{value_there}
 use Rattle.lookup.proofs.lines.kind_in.Statement.{statement}

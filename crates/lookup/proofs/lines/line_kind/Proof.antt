@@ -1,4 +1,4 @@
-use Rattle.schema.specs.Laws.Lines.{of-line}
+use Rattle.schema.proofs.Laws.Lines.{of-line}
 use Rattle.lookup.proofs.lines.line_kind.Statement.{statement}
 use Rattle.lookup.proofs.lines.line_kind.Tie as tie
 

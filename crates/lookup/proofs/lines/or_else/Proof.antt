@@ -1,4 +1,4 @@
-use Rattle.schema.specs.Laws.Lines.{or_else_lem}
+use Rattle.schema.proofs.Laws.Lines.{or_else_lem}
 use Rattle.lookup.proofs.lines.or_else_lem.Statement.{statement}
 use Rattle.lookup.proofs.lines.or_else_lem.Tie as tie
 

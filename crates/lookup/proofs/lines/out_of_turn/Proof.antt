@@ -1,4 +1,4 @@
-use Rattle.schema.specs.Laws.Lines.{turning}
+use Rattle.schema.proofs.Laws.Lines.{turning}
 use Rattle.lookup.proofs.lines.out_of_turn.Statement.{statement}
 use Rattle.lookup.proofs.lines.out_of_turn.Tie as tie
 

@@ -1,4 +1,4 @@
-use Rattle.schema.specs.Laws.Table.{celling}
+use Rattle.schema.proofs.Laws.Table.{celling}
 use Rattle.lookup.proofs.table.cell.Statement.{statement}
 use Rattle.lookup.proofs.table.cell.Tie as tie
 

@@ -1,4 +1,4 @@
-use Rattle.schema.specs.Laws.Table.{celling}
+use Rattle.schema.proofs.Laws.Table.{celling}
 use Rattle.lookup.proofs.table.entry_cell.Statement.{statement}
 use Rattle.lookup.proofs.table.entry_cell.Tie as tie
 

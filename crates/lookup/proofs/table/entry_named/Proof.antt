@@ -1,5 +1,5 @@
 use Rattle.schema.specs.Table.{entry_word}
-use Rattle.schema.specs.Laws.Searches.{searching-entries, Searching}
+use Rattle.schema.proofs.Laws.Searches.{searching-entries, Searching}
 use Prim.Native.Nat.{◌-◌}
 use Rattle.lookup.proofs.table.entry_named.Statement.{statement}
 use Rattle.lookup.proofs.table.entry_named.Tie as tie

@@ -1,4 +1,4 @@
-use Rattle.schema.specs.Laws.Table.{fronting}
+use Rattle.schema.proofs.Laws.Table.{fronting}
 use Rattle.lookup.proofs.table.front.Statement.{statement}
 use Rattle.lookup.proofs.table.front.Tie as tie
 

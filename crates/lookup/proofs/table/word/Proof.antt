@@ -1,7 +1,7 @@
 use Prim.Native.Nat.{ℕ, ◌<◌}
 use native.Mathlib.Omega.{arith}
 use lib.ListN.{get_or}
-use Rattle.schema.specs.Laws.Table.{wording}
+use Rattle.schema.proofs.Laws.Table.{wording}
 use Rattle.lookup.proofs.table.word.Statement.{statement}
 use Rattle.lookup.proofs.table.word.Tie as tie
 

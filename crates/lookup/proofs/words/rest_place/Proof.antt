@@ -1,7 +1,7 @@
 use Rattle.nodes.specs.Values.{tells}
 use lib.ListN.{drop}
 use Rattle.schema.specs.Table.{word_at}
-use Rattle.schema.specs.Laws.Searches.{searching-words, Searching}
+use Rattle.schema.proofs.Laws.Searches.{searching-words, Searching}
 use Prim.Native.Nat.{◌-◌}
 use Rattle.lookup.proofs.words.rest_place.Statement.{statement}
 use Rattle.lookup.proofs.words.rest_place.Tie as tie

@@ -1,4 +1,4 @@
-use Rattle.schema.specs.Laws.Words.{placing}
+use Rattle.schema.proofs.Laws.Words.{placing}
 use Rattle.lookup.proofs.words.word_place.Statement.{statement}
 use Rattle.lookup.proofs.words.word_place.Tie as tie
 

@@ -1,4 +1,4 @@
-use Rattle.maps.specs.Laws.Fields.{is_word_lem}
+use Rattle.maps.proofs.Laws.Fields.{is_word_lem}
 use borrow.Author.Rules.{rules}
 use Rattle.maps.proofs.fields.attribute_is.Statement.{statement}
 use Rattle.maps.proofs.fields.attribute_is.Tie as tie

@@ -1,5 +1,5 @@
 use borrow.Author.Rules.{rules}
-use Rattle.maps.specs.Laws.Over.{noting-at}
+use Rattle.maps.proofs.Laws.Over.{noting-at}
 use Rattle.maps.proofs.survey.nth.Statement.{statement}
 use Rattle.maps.proofs.survey.nth.Tie as tie
 

@@ -1,4 +1,4 @@
-use Rattle.marked_lists.specs.Laws.Listing.{overModel}
+use Rattle.marked_lists.proofs.Laws.Listing.{overModel}
 use Rattle.marked_lists.proofs.listing.marked_list.Statement.{statement}
 use Rattle.marked_lists.proofs.listing.marked_list.Tie as tie
 

@@ -1,5 +1,5 @@
 use Rattle.nodes.specs.Texts.{left}
-use Rattle.marked_lists.specs.Laws.Listing.{VerticesRead, overVertices}
+use Rattle.marked_lists.proofs.Laws.Listing.{VerticesRead, overVertices}
 use Rattle.marked_lists.proofs.listing.marked_vertices.Statement.{statement}
 use Rattle.marked_lists.proofs.listing.marked_vertices.Tie as tie
 

@@ -1,6 +1,6 @@
 use Rattle.nodes.specs.Texts.{left}
 use Rattle.models.specs.Verdicts.{volume_from}
-use Rattle.marked_lists.specs.Laws.Listing.{VoxelsRead, overVoxels}
+use Rattle.marked_lists.proofs.Laws.Listing.{VoxelsRead, overVoxels}
 use Rattle.marked_lists.proofs.listing.marked_voxels.Statement.{statement}
 use Rattle.marked_lists.proofs.listing.marked_voxels.Tie as tie
 

@@ -1,4 +1,4 @@
-use Rattle.models.specs.Laws.Verdicts.{byTests}
+use Rattle.models.proofs.Laws.Verdicts.{byTests}
 use Rattle.marked_lists.proofs.listing.verdict_by.Statement.{statement}
 use Rattle.marked_lists.proofs.listing.verdict_by.Tie as tie
 

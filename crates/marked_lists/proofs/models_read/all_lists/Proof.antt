@@ -1,6 +1,6 @@
 use Rattle.std.proofs.Common.{◌-◌}
 use Rattle.models.specs.Verdicts.{volume_from}
-use Rattle.marked_lists.specs.Laws.Models.{ModelsRead, overModels}
+use Rattle.marked_lists.proofs.Laws.Models.{ModelsRead, overModels}
 use Rattle.marked_lists.proofs.models_read.all_lists.Statement.{statement}
 use Rattle.marked_lists.proofs.models_read.all_lists.Tie as tie
 

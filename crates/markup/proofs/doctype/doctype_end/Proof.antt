@@ -1,4 +1,4 @@
-use Rattle.steps.specs.Laws.Doctype.{doctypes}
+use Rattle.steps.proofs.Laws.Doctype.{doctypes}
 use Rattle.markup.proofs.doctype.doctype_end.Statement.{statement}
 use Rattle.markup.proofs.doctype.doctype_end.Tie as tie
 

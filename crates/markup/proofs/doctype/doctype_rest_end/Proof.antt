@@ -1,5 +1,5 @@
-use Rattle.steps.specs.Laws.Doctype.{in-doctype}
-use Rattle.steps.specs.Laws.Doctype.{InDoctype}
+use Rattle.steps.proofs.Laws.Doctype.{in-doctype}
+use Rattle.steps.proofs.Laws.Doctype.{InDoctype}
 use Prim.Native.Nat.{◌-◌}
 use lib.ListN.{length}
 use Rattle.markup.proofs.doctype.doctype_rest_end.Statement.{statement}

@@ -1,4 +1,4 @@
-use Rattle.steps.specs.Laws.Doctype.{skipping}
+use Rattle.steps.proofs.Laws.Doctype.{skipping}
 use Rattle.markup.proofs.doctype.skipped_end.Statement.{statement}
 use Rattle.markup.proofs.doctype.skipped_end.Tie as tie
 

@@ -1,7 +1,7 @@
 use native.Mathlib.Omega.{arith}
 use Prim.Native.Nat.{ℕ, ◌<◌, ◌+◌, ◌-◌}
 use lib.ListN.{length, drop}
-use Rattle.steps.specs.Laws.Elements.{Reading, reading, elements}
+use Rattle.steps.proofs.Laws.Elements.{Reading, reading, elements}
 use borrow.Fn.Kinds.{In}
 use borrow.Fn.PlainCycle.{Measures, is, falls, and}
 use Rattle.markup.proofs.elements.contents_end.Reads as contents-end

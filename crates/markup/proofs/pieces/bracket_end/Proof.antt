@@ -1,4 +1,4 @@
-use Rattle.steps.specs.Laws.Pieces.{brackets}
+use Rattle.steps.proofs.Laws.Pieces.{brackets}
 use Rattle.markup.proofs.pieces.bracket_end.Statement.{statement}
 use Rattle.markup.proofs.pieces.bracket_end.Tie as tie
 

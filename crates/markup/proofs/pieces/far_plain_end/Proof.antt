@@ -1,5 +1,5 @@
-use Rattle.steps.specs.Laws.Steps.{Spanning}
-use Rattle.steps.specs.Laws.Blocks.{far-spanning}
+use Rattle.steps.proofs.Laws.Steps.{Spanning}
+use Rattle.steps.proofs.Laws.Blocks.{far-spanning}
 use Prim.Native.Nat.{◌-◌}
 use lib.ListN.{length}
 use Rattle.steps.specs.Pieces.{plain}

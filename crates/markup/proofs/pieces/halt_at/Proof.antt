@@ -1,4 +1,4 @@
-use Rattle.steps.specs.Laws.Pieces.{halting-at}
+use Rattle.steps.proofs.Laws.Pieces.{halting-at}
 use Rattle.markup.proofs.pieces.halt_at.Statement.{statement}
 use Rattle.markup.proofs.pieces.halt_at.Tie as tie
 

@@ -1,4 +1,4 @@
-use Rattle.steps.specs.Laws.Pieces.{marked-fronts}
+use Rattle.steps.proofs.Laws.Pieces.{marked-fronts}
 use Rattle.markup.proofs.pieces.marked_front.Statement.{statement}
 use Rattle.markup.proofs.pieces.marked_front.Tie as tie
 

@@ -1,4 +1,4 @@
-use Rattle.steps.specs.Laws.Pieces.{pieces}
+use Rattle.steps.proofs.Laws.Pieces.{pieces}
 use Rattle.markup.proofs.pieces.piece_end.Statement.{statement}
 use Rattle.markup.proofs.pieces.piece_end.Tie as tie
 

@@ -1,4 +1,4 @@
-use Rattle.steps.specs.Laws.Pieces.{texts}
+use Rattle.steps.proofs.Laws.Pieces.{texts}
 use Rattle.markup.proofs.pieces.text_end.Statement.{statement}
 use Rattle.markup.proofs.pieces.text_end.Tie as tie
 

@@ -1,4 +1,4 @@
-use Rattle.steps.specs.Laws.Prologue.{asides, Asides}
+use Rattle.steps.proofs.Laws.Prologue.{asides, Asides}
 use lib.ListN.{length, drop}
 use Rattle.markup.proofs.prolog.asides_end.Statement.{statement}
 use Rattle.markup.proofs.prolog.asides_end.Tie as tie

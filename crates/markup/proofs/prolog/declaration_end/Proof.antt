@@ -1,4 +1,4 @@
-use Rattle.steps.specs.Laws.Prologue.{declarations}
+use Rattle.steps.proofs.Laws.Prologue.{declarations}
 use Rattle.markup.proofs.prolog.declaration_end.Statement.{statement}
 use Rattle.markup.proofs.prolog.declaration_end.Tie as tie
 

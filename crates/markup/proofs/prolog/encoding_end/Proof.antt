@@ -1,4 +1,4 @@
-use Rattle.steps.specs.Laws.Prologue.{encodings}
+use Rattle.steps.proofs.Laws.Prologue.{encodings}
 use Rattle.markup.proofs.prolog.encoding_end.Statement.{statement}
 use Rattle.markup.proofs.prolog.encoding_end.Tie as tie
 

@@ -1,4 +1,4 @@
-use Rattle.steps.specs.Laws.Doctype.{prologues}
+use Rattle.steps.proofs.Laws.Doctype.{prologues}
 use Rattle.markup.proofs.prolog.prologue_end.Statement.{statement}
 use Rattle.markup.proofs.prolog.prologue_end.Tie as tie
 

@@ -1,4 +1,4 @@
-use Rattle.steps.specs.Laws.Prologue.{preambles}
+use Rattle.steps.proofs.Laws.Prologue.{preambles}
 use Rattle.markup.proofs.prolog.root_start.Statement.{statement}
 use Rattle.markup.proofs.prolog.root_start.Tie as tie
 

@@ -1,4 +1,4 @@
-use Rattle.steps.specs.Laws.Doctype.{typing}
+use Rattle.steps.proofs.Laws.Doctype.{typing}
 use Rattle.markup.proofs.prolog.typed_end.Statement.{statement}
 use Rattle.markup.proofs.prolog.typed_end.Tie as tie
 

@@ -1,4 +1,4 @@
-use Rattle.steps.specs.Laws.Tags.{ending}
+use Rattle.steps.proofs.Laws.Tags.{ending}
 use Rattle.markup.proofs.tags.close_end.Statement.{statement}
 use Rattle.markup.proofs.tags.close_end.Tie as tie
 

@@ -1,4 +1,4 @@
-use Rattle.steps.specs.Laws.Tags.{name_span, closing, closing_whole}
+use Rattle.steps.proofs.Laws.Tags.{name_span, closing, closing_whole}
 use native.Mathlib.Omega.{arith}
 use Rattle.markup.proofs.tags.closing_end.Statement.{statement}
 use Rattle.markup.proofs.tags.closing_end.Tie as tie

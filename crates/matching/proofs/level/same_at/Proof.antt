@@ -1,5 +1,5 @@
 -- `matching::level::same_at` meets its contract. Assumes nothing.
-use Rattle.matching.specs.Laws.Side.{within_first, within_second, same_there, same_past}
+use Rattle.matching.proofs.Laws.Side.{within_first, within_second, same_there, same_past}
 use Rattle.matching.proofs.level.same_at.Statement.{statement}
 use Rattle.matching.proofs.level.same_at.Tie as tie
 

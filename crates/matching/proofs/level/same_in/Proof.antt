@@ -1,7 +1,7 @@
 -- `matching::level::same_in` meets its contract. Assumes nothing.
 use Prim.Native.Nat.{◌-◌}
 use native.Mathlib.Omega.{arith}
-use Rattle.matching.specs.Laws.Side.{Level, level_start, level_few, level_yes, level_no, level_end}
+use Rattle.matching.proofs.Laws.Side.{Level, level_start, level_few, level_yes, level_no, level_end}
 use Rattle.matching.proofs.level.same_in.Statement.{statement}
 use Rattle.matching.proofs.level.same_in.Tie as tie
 

@@ -1,6 +1,6 @@
 -- `matching::taking::place_in` meets its contract. Assumes nothing.
 use borrow.Author.Rules.{rules}
-use Rattle.matching.specs.Laws.Side.{place_turned, place_straight}
+use Rattle.matching.proofs.Laws.Side.{place_turned, place_straight}
 use Rattle.matching.proofs.taking.place_in.Statement.{statement}
 use Rattle.matching.proofs.taking.place_in.Tie as tie
 

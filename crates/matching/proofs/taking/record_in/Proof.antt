@@ -1,6 +1,6 @@
 -- `matching::taking::record_in` meets its contract. Assumes nothing.
 use borrow.Author.Rules.{rules}
-use Rattle.matching.specs.Laws.Side.{first_byte, word_in, record_is}
+use Rattle.matching.proofs.Laws.Side.{first_byte, word_in, record_is}
 use Rattle.matching.proofs.taking.record_in.Statement.{statement}
 use Rattle.matching.proofs.taking.record_in.Tie as tie
 

@@ -3,7 +3,7 @@ use mathlib.Core.Path.{sym}
 use lib.Seq.{length-take-le}
 use native.Mathlib.Omega.{arith}
 use borrow.Author.Rules.{rules}
-use Rattle.matching.specs.Laws.Side.{few_first, walkable_by, shared, shared_few}
+use Rattle.matching.proofs.Laws.Side.{few_first, walkable_by, shared, shared_few}
 use Rattle.matching.proofs.walking.both_in.Statement.{statement}
 use Rattle.matching.proofs.walking.both_in.Tie as tie
 

@@ -1,7 +1,7 @@
 -- `matching::walking::first_goes` meets its contract. Assumes nothing.
 use native.Mathlib.Omega.{arith}
 use borrow.Author.Rules.{rules}
-use Rattle.matching.specs.Laws.Side.{few_first, few_second, within_first, turning_second}
+use Rattle.matching.proofs.Laws.Side.{few_first, few_second, within_first, turning_second}
 use Rattle.matching.proofs.walking.first_goes.Statement.{statement}
 use Rattle.matching.proofs.walking.first_goes.Tie as tie
 

@@ -1,7 +1,7 @@
 -- `matching::walking::next_step` meets its contract. Assumes nothing.
 use native.Mathlib.Omega.{arith}
 use borrow.Author.Rules.{rules}
-use Rattle.matching.specs.Laws.Side.{within_first, turning_second, step_first, step_second, step_pair}
+use Rattle.matching.proofs.Laws.Side.{within_first, turning_second, step_first, step_second, step_pair}
 use Rattle.matching.proofs.walking.next_step.Statement.{statement}
 use Rattle.matching.proofs.walking.next_step.Tie as tie
 

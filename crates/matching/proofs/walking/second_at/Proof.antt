@@ -3,7 +3,7 @@ use mathlib.Core.Path.{ap, ◌∙◌}
 use Prim.Native.Nat.{ℕ}
 use lib.ListN.{get_or}
 use Rattle.comparison.specs.Compare.{records_of}
-use Rattle.matching.specs.Laws.Side.{turned_within}
+use Rattle.matching.proofs.Laws.Side.{turned_within}
 use Rattle.matching.proofs.walking.second_at.Statement.{statement}
 use Rattle.matching.proofs.walking.second_at.Tie as tie
 

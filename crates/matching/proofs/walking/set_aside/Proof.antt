@@ -3,9 +3,9 @@
 use Prim.Native.Nat.{◌+◌, ◌-◌}
 use lib.ListN.{length}
 use native.Mathlib.Omega.{arith}
-use Rattle.matching.specs.Laws.Side.{few_first, few_second, within_first, turning_second, as_first, as_second}
-use Rattle.matching.specs.Laws.Side.{Going, going_start, going_first, going_second, going_few, going_on, going_room}
-use Rattle.matching.specs.Laws.Side.{going_pair, going_one, going_two, going_end}
+use Rattle.matching.proofs.Laws.Side.{few_first, few_second, within_first, turning_second, as_first, as_second}
+use Rattle.matching.proofs.Laws.Side.{Going, going_start, going_first, going_second, going_few, going_on, going_room}
+use Rattle.matching.proofs.Laws.Side.{going_pair, going_one, going_two, going_end}
 use Rattle.matching.proofs.walking.set_aside.Statement.{statement}
 use Rattle.matching.proofs.walking.set_aside.Tie as tie
 

@@ -1,7 +1,7 @@
 -- `matching::walking::way_of` meets its contract. Assumes nothing.
 use native.Mathlib.Omega.{arith}
 use borrow.Author.Rules.{rules}
-use Rattle.matching.specs.Laws.Side.{some_first, some_second, within_first, within_second}
+use Rattle.matching.proofs.Laws.Side.{some_first, some_second, within_first, within_second}
 use Rattle.matching.proofs.walking.way_of.Statement.{statement}
 use Rattle.matching.proofs.walking.way_of.Tie as tie
 

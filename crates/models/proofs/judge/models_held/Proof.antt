@@ -1,5 +1,5 @@
 use borrow.Author.Rules.{rules}
-use Rattle.models.specs.Laws.Judged.{holding}
+use Rattle.models.proofs.Laws.Judged.{holding}
 use Rattle.models.proofs.judge.models_held.Statement.{statement}
 use Rattle.models.proofs.judge.models_held.Tie as tie
 

@@ -1,4 +1,4 @@
-use Rattle.models.specs.Laws.Numbers.{inThrees}
+use Rattle.models.proofs.Laws.Numbers.{inThrees}
 use borrow.Author.Rules.{rules}
 use Rattle.models.proofs.listing.any_voxel.Statement.{statement}
 use Rattle.models.proofs.listing.any_voxel.Tie as tie

@@ -1,4 +1,4 @@
-use Rattle.models.specs.Laws.Listings.{starting}
+use Rattle.models.proofs.Laws.Listings.{starting}
 use borrow.Author.Rules.{rules}
 use Rattle.models.proofs.listing.list_start.Statement.{statement}
 use Rattle.models.proofs.listing.list_start.Tie as tie

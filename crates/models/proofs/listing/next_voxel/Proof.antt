@@ -1,4 +1,4 @@
-use Rattle.models.specs.Laws.Numbers.{quickThrees}
+use Rattle.models.proofs.Laws.Numbers.{quickThrees}
 use Rattle.models.proofs.listing.next_voxel.Statement.{statement}
 use Rattle.models.proofs.listing.next_voxel.Tie as tie
 

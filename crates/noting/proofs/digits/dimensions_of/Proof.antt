@@ -1,4 +1,4 @@
-use Rattle.maps.specs.Laws.Digits.{digits-of-map}
+use Rattle.maps.proofs.Laws.Digits.{digits-of-map}
 use Rattle.noting.proofs.digits.dimensions_of.Statement.{statement}
 use Rattle.noting.proofs.digits.dimensions_of.Tie as tie
 

@@ -1,4 +1,4 @@
-use Rattle.maps.specs.Laws.Seen.{growing}
+use Rattle.maps.proofs.Laws.Seen.{growing}
 use borrow.Author.Rules.{rules}
 use Rattle.noting.proofs.digits.one_more.Statement.{statement}
 use Rattle.noting.proofs.digits.one_more.Tie as tie

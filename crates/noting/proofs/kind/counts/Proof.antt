@@ -1,4 +1,4 @@
-use Rattle.maps.specs.Laws.Sums.{spelled, counted_told}
+use Rattle.maps.proofs.Laws.Sums.{spelled, counted_told}
 use borrow.Author.Rules.{rules}
 use Rattle.noting.proofs.kind.counts.Statement.{statement}
 use Rattle.noting.proofs.kind.counts.Tie as tie

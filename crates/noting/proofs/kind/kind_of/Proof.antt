@@ -1,4 +1,4 @@
-use Rattle.maps.specs.Laws.MapKind.{asking}
+use Rattle.maps.proofs.Laws.MapKind.{asking}
 use Rattle.noting.proofs.kind.kind_of.Statement.{statement}
 use Rattle.noting.proofs.kind.kind_of.Tie as tie
 

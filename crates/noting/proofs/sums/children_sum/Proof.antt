@@ -1,7 +1,7 @@
 use mathlib.Core.Bool.{true}
-use Rattle.maps.specs.Laws.Sums.{summing, Summing}
-use Rattle.nodes.specs.Laws.Along.{AlongAhead}
-use Rattle.nodes.specs.Laws.AheadElements.{left_ahead}
+use Rattle.maps.proofs.Laws.Sums.{summing, Summing}
+use Rattle.nodes.proofs.Laws.Along.{AlongAhead}
+use Rattle.nodes.proofs.Laws.AheadElements.{left_ahead}
 use Rattle.noting.proofs.sums.children_sum.Statement.{statement}
 use Rattle.noting.proofs.sums.children_sum.Tie as tie
 

@@ -1,4 +1,4 @@
-use Rattle.maps.specs.Laws.Sums.{measuring}
+use Rattle.maps.proofs.Laws.Sums.{measuring}
 use Rattle.noting.proofs.sums.map_measure.Statement.{statement}
 use Rattle.noting.proofs.sums.map_measure.Tie as tie
 

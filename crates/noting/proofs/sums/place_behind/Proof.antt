@@ -1,4 +1,4 @@
-use Rattle.maps.specs.Laws.Sums.{behind-so}
+use Rattle.maps.proofs.Laws.Sums.{behind-so}
 use Rattle.noting.proofs.sums.place_behind.Statement.{statement}
 use Rattle.noting.proofs.sums.place_behind.Tie as tie
 

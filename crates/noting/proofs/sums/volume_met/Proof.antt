@@ -1,4 +1,4 @@
-use Rattle.maps.specs.Laws.Sums.{meeting, met_here}
+use Rattle.maps.proofs.Laws.Sums.{meeting, met_here}
 use Rattle.noting.proofs.sums.volume_met.Statement.{statement}
 use Rattle.noting.proofs.sums.volume_met.Tie as tie
 

@@ -1,4 +1,4 @@
-use Rattle.maps.specs.Laws.Sums.{weighing}
+use Rattle.maps.proofs.Laws.Sums.{weighing}
 use Rattle.noting.proofs.sums.weight.Statement.{statement}
 use Rattle.noting.proofs.sums.weight.Tie as tie
 

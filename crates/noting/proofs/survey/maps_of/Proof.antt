@@ -1,6 +1,6 @@
-use Rattle.maps.specs.Laws.Survey.{surveying, Surveying}
-use Rattle.nodes.specs.Laws.Along.{Along}
-use Rattle.nodes.specs.Laws.Children.{left}
+use Rattle.maps.proofs.Laws.Survey.{surveying, Surveying}
+use Rattle.nodes.proofs.Laws.Along.{Along}
+use Rattle.nodes.proofs.Laws.Children.{left}
 use Rattle.noting.proofs.survey.maps_of.Statement.{statement}
 use Rattle.noting.proofs.survey.maps_of.Tie as tie
 

@@ -1,4 +1,4 @@
-use Rattle.maps.specs.Laws.Survey.{noting-one}
+use Rattle.maps.proofs.Laws.Survey.{noting-one}
 use Rattle.noting.proofs.survey.note_of.Statement.{statement}
 use Rattle.noting.proofs.survey.note_of.Tie as tie
 

@@ -1,4 +1,4 @@
-use Rattle.maps.specs.Laws.Survey.{noting}
+use Rattle.maps.proofs.Laws.Survey.{noting}
 use Rattle.noting.proofs.survey.noted.Statement.{statement}
 use Rattle.noting.proofs.survey.noted.Tie as tie
 

@@ -1,4 +1,4 @@
-use Rattle.numbers.specs.Laws.Read.{seeking}
+use Rattle.numbers.proofs.Laws.Read.{seeking}
 use Rattle.numbers.specs.Read.{Seeking}
 use Rattle.nodes.specs.Texts.{left}
 use Rattle.number_lists.proofs.chars.any_letter.Statement.{statement}

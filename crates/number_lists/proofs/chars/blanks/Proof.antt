@@ -1,4 +1,4 @@
-use Rattle.numbers.specs.Laws.Read.{passing, Passing}
+use Rattle.numbers.proofs.Laws.Read.{passing, Passing}
 use Rattle.nodes.specs.Texts.{left}
 use Rattle.number_lists.proofs.chars.blanks.Statement.{statement}
 use Rattle.number_lists.proofs.chars.blanks.Tie as tie

@@ -1,4 +1,4 @@
-use Rattle.numbers.specs.Laws.Read.{choosing}
+use Rattle.numbers.proofs.Laws.Read.{choosing}
 use Rattle.number_lists.proofs.chars.char_at.Statement.{statement}
 use Rattle.number_lists.proofs.chars.char_at.Tie as tie
 

@@ -1,4 +1,4 @@
-use Rattle.numbers.specs.Laws.Read.{running}
+use Rattle.numbers.proofs.Laws.Read.{running}
 use Rattle.numbers.specs.Read.{Running}
 use Prim.Native.Nat.{◌-◌}
 use Rattle.number_lists.proofs.chars.digits.Statement.{statement}

@@ -1,4 +1,4 @@
-use Rattle.number_lists.specs.Laws.Digits.{first-running}
+use Rattle.number_lists.proofs.Laws.Digits.{first-running}
 use Rattle.number_lists.proofs.chars.first_digits.Statement.{statement}
 use Rattle.number_lists.proofs.chars.first_digits.Tie as tie
 

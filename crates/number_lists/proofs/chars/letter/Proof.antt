@@ -1,5 +1,5 @@
 use mathlib.Core.Path.{refl}
-use Rattle.number_lists.specs.Laws.Letters.{reading-itself, itself}
+use Rattle.number_lists.proofs.Laws.Letters.{reading-itself, itself}
 use Rattle.number_lists.proofs.chars.letter.Statement.{statement}
 use Rattle.number_lists.proofs.chars.letter.Tie as tie
 

@@ -2,7 +2,7 @@ use mathlib.Core.Path.{refl}
 use Prim.Native.Nat.{◌-◌}
 use Rattle.numbers.specs.Read.{Running}
 use Rattle.numbers.specs.declared.Source.TheVariants.{Value}
-use Rattle.number_lists.specs.Laws.Digits.{plain-running, digit_on}
+use Rattle.number_lists.proofs.Laws.Digits.{plain-running, digit_on}
 use Rattle.number_lists.proofs.chars.plain_digits.Statement.{statement}
 use Rattle.number_lists.proofs.chars.plain_digits.Tie as tie
 

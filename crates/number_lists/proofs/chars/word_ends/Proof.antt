@@ -1,4 +1,4 @@
-use Rattle.numbers.specs.Laws.Read.{choosing, ends_end}
+use Rattle.numbers.proofs.Laws.Read.{choosing, ends_end}
 use Rattle.number_lists.proofs.chars.word_ends.Statement.{statement}
 use Rattle.number_lists.proofs.chars.word_ends.Tie as tie
 

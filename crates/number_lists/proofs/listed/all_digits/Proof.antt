@@ -1,4 +1,4 @@
-use Rattle.numbers.specs.Laws.Next.{going_on}
+use Rattle.numbers.proofs.Laws.Next.{going_on}
 use Rattle.number_lists.proofs.listed.all_digits.Statement.{statement}
 use Rattle.number_lists.proofs.listed.all_digits.Tie as tie
 

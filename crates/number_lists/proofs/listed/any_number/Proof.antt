@@ -1,5 +1,5 @@
-use Rattle.numbers.specs.Laws.Next.{slow}
-use Rattle.number_lists.specs.Laws.Within.{hurrying-on}
+use Rattle.numbers.proofs.Laws.Next.{slow}
+use Rattle.number_lists.proofs.Laws.Within.{hurrying-on}
 use Rattle.number_lists.proofs.listed.any_number.Statement.{statement}
 use Rattle.number_lists.proofs.listed.any_number.Tie as tie
 

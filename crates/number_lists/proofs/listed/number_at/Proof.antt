@@ -1,4 +1,4 @@
-use Rattle.number_lists.specs.Laws.Within.{starting-on}
+use Rattle.number_lists.proofs.Laws.Within.{starting-on}
 use Rattle.number_lists.proofs.listed.number_at.Statement.{statement}
 use Rattle.number_lists.proofs.listed.number_at.Tie as tie
 

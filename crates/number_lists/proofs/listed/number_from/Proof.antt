@@ -1,4 +1,4 @@
-use Rattle.numbers.specs.Laws.Next.{taking-time}
+use Rattle.numbers.proofs.Laws.Next.{taking-time}
 use Rattle.number_lists.proofs.listed.number_from.Statement.{statement}
 use Rattle.number_lists.proofs.listed.number_from.Tie as tie
 

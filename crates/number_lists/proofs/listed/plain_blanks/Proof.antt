@@ -1,5 +1,5 @@
 use Prim.Native.Nat.{◌-◌}
-use Rattle.numbers.specs.Laws.Next.{Skipping, skipping}
+use Rattle.numbers.proofs.Laws.Next.{Skipping, skipping}
 use Rattle.number_lists.proofs.listed.plain_blanks.Statement.{statement}
 use Rattle.number_lists.proofs.listed.plain_blanks.Tie as tie
 

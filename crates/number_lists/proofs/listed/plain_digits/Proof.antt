@@ -1,5 +1,5 @@
 use Prim.Native.Nat.{◌-◌}
-use Rattle.number_lists.specs.Laws.Within.{Reading, reading}
+use Rattle.number_lists.proofs.Laws.Within.{Reading, reading}
 use Rattle.number_lists.proofs.listed.plain_digits.Statement.{statement}
 use Rattle.number_lists.proofs.listed.plain_digits.Tie as tie
 

@@ -1,4 +1,4 @@
-use Rattle.numbers.specs.Laws.Quick.{spacing, by_feed}
+use Rattle.numbers.proofs.Laws.Quick.{spacing, by_feed}
 use Rattle.number_lists.proofs.quick.is_space_or_feed.Statement.{statement}
 use Rattle.number_lists.proofs.quick.is_space_or_feed.Tie as tie
 

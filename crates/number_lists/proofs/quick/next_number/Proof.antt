@@ -1,4 +1,4 @@
-use Rattle.numbers.specs.Laws.Quick.{telling-on, telling}
+use Rattle.numbers.proofs.Laws.Quick.{telling-on, telling}
 use Rattle.number_lists.proofs.quick.next_number.Statement.{statement}
 use Rattle.number_lists.proofs.quick.next_number.Tie as tie
 

@@ -1,5 +1,5 @@
 use native.Mathlib.Omega.{arith}
-use Rattle.numbers.specs.Laws.Quick.{packing, packed_sum}
+use Rattle.numbers.proofs.Laws.Quick.{packing, packed_sum}
 use Rattle.number_lists.proofs.quick.packed.Statement.{statement}
 use Rattle.number_lists.proofs.quick.packed.Tie as tie
 

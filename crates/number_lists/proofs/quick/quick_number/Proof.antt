@@ -1,5 +1,5 @@
 use borrow.Author.Rules.{rules}
-use Rattle.numbers.specs.Laws.Quick.{quickly, quickly_told}
+use Rattle.numbers.proofs.Laws.Quick.{quickly, quickly_told}
 use Rattle.number_lists.proofs.quick.quick_number.Statement.{statement}
 use Rattle.number_lists.proofs.quick.quick_number.Tie as tie
 

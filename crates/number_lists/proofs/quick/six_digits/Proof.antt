@@ -1,6 +1,6 @@
 use native.Mathlib.Omega.{arith}
 use Prim.Native.Nat.{◌-◌}
-use Rattle.numbers.specs.Laws.Quick.{Counted, counting, counted_times}
+use Rattle.numbers.proofs.Laws.Quick.{Counted, counting, counted_times}
 use Rattle.number_lists.proofs.quick.six_digits.Statement.{statement}
 use Rattle.number_lists.proofs.quick.six_digits.Tie as tie
 

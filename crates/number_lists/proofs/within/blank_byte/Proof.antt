@@ -1,4 +1,4 @@
-use Rattle.number_lists.specs.Laws.Within.{looking}
+use Rattle.number_lists.proofs.Laws.Within.{looking}
 use Rattle.number_lists.proofs.within.blank_byte.Statement.{statement}
 use Rattle.number_lists.proofs.within.blank_byte.Tie as tie
 

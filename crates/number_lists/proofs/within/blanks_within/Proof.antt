@@ -1,7 +1,7 @@
 use Prim.Native.Nat.{◌-◌}
 use lib.ListN.{length}
 use Rattle.number_lists.specs.Within.{Past}
-use Rattle.number_lists.specs.Laws.Within.{passing-within}
+use Rattle.number_lists.proofs.Laws.Within.{passing-within}
 use Rattle.number_lists.proofs.within.blanks_within.Statement.{statement}
 use Rattle.number_lists.proofs.within.blanks_within.Tie as tie
 

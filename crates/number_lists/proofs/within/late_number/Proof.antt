@@ -1,5 +1,5 @@
 use mathlib.Core.Path.{refl}
-use Rattle.number_lists.specs.Laws.Within.{coming-late, late_within}
+use Rattle.number_lists.proofs.Laws.Within.{coming-late, late_within}
 use Rattle.number_lists.proofs.within.late_number.Statement.{statement}
 use Rattle.number_lists.proofs.within.late_number.Tie as tie
 

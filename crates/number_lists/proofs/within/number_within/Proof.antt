@@ -1,4 +1,4 @@
-use Rattle.number_lists.specs.Laws.Within.{taking, within_number}
+use Rattle.number_lists.proofs.Laws.Within.{taking, within_number}
 use Rattle.number_lists.proofs.within.number_within.Statement.{statement}
 use Rattle.number_lists.proofs.within.number_within.Tie as tie
 

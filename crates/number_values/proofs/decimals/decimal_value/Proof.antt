@@ -1,4 +1,4 @@
-use Rattle.numbers.specs.Laws.Signs.{decimals-of}
+use Rattle.numbers.proofs.Laws.Signs.{decimals-of}
 use Rattle.number_values.proofs.decimals.decimal_value.Statement.{statement}
 use Rattle.number_values.proofs.decimals.decimal_value.Tie as tie
 

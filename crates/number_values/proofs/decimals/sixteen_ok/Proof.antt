@@ -1,4 +1,4 @@
-use Rattle.numbers.specs.Laws.Sixteen.{checking, Checking}
+use Rattle.numbers.proofs.Laws.Sixteen.{checking, Checking}
 use Prim.Native.Nat.{◌-◌}
 use Rattle.number_values.proofs.decimals.sixteen_ok.Statement.{statement}
 use Rattle.number_values.proofs.decimals.sixteen_ok.Tie as tie

@@ -1,4 +1,4 @@
-use Rattle.numbers.specs.Laws.InValue.{less_is_not, amount_cast, amount_same}
+use Rattle.numbers.proofs.Laws.InValue.{less_is_not, amount_cast, amount_same}
 use Rattle.number_values.proofs.in_value.amount_is.Statement.{statement}
 use Rattle.number_values.proofs.in_value.amount_is.Tie as tie
 

@@ -1,4 +1,4 @@
-use Rattle.numbers.specs.Laws.InValue.{one_few, one_value, not_one}
+use Rattle.numbers.proofs.Laws.InValue.{one_few, one_value, not_one}
 use borrow.Author.Rules.{rules}
 use mir.Syntax.{w64}
 use mir.Val.{SFits}

@@ -1,4 +1,4 @@
-use Rattle.numbers.specs.Laws.InValue.{power_above, power_below, opposite_fits, opposite_cast, opposite_places}
+use Rattle.numbers.proofs.Laws.InValue.{power_above, power_below, opposite_fits, opposite_cast, opposite_places}
 use Rattle.number_values.proofs.in_value.places_of.Statement.{statement}
 use Rattle.number_values.proofs.in_value.places_of.Tie as tie
 

@@ -1,4 +1,4 @@
-use Rattle.numbers.specs.Laws.Sixteen.{testing, right_near}
+use Rattle.numbers.proofs.Laws.Sixteen.{testing, right_near}
 use borrow.Author.Rules.{rules}
 use native.Mathlib.Omega.{arith}
 use mir.Syntax.{w64}

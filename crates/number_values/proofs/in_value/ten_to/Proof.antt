@@ -1,4 +1,4 @@
-use Rattle.numbers.specs.Laws.Sixteen.{shifting, Shifting}
+use Rattle.numbers.proofs.Laws.Sixteen.{shifting, Shifting}
 use Prim.Native.Nat.{◌-◌}
 use Rattle.number_values.proofs.in_value.ten_to.Statement.{statement}
 use Rattle.number_values.proofs.in_value.ten_to.Tie as tie

@@ -1,4 +1,4 @@
-use Rattle.numbers.specs.Laws.Powered.{mark_is}
+use Rattle.numbers.proofs.Laws.Powered.{mark_is}
 use Rattle.number_values.proofs.power.is_mark.Statement.{statement}
 use Rattle.number_values.proofs.power.is_mark.Tie as tie
 

@@ -1,4 +1,4 @@
-use Rattle.numbers.specs.Laws.Integers.{lessening}
+use Rattle.numbers.proofs.Laws.Integers.{lessening}
 use Rattle.number_values.proofs.power.less_places.Statement.{statement}
 use Rattle.number_values.proofs.power.less_places.Tie as tie
 

@@ -1,4 +1,4 @@
-use Rattle.numbers.specs.Laws.Powered.{powering, powered_mark}
+use Rattle.numbers.proofs.Laws.Powered.{powering, powered_mark}
 use borrow.Author.Rules.{rules}
 use mir.Syntax.{w64}
 use mir.Val.{SFits}

@@ -1,4 +1,4 @@
-use Rattle.numbers.specs.Laws.Raised.{raising}
+use Rattle.numbers.proofs.Laws.Raised.{raising}
 use Rattle.number_values.proofs.power.power_digits.Statement.{statement}
 use Rattle.number_values.proofs.power.power_digits.Tie as tie
 

@@ -1,4 +1,4 @@
-use Rattle.numbers.specs.Laws.Signs.{signs_of}
+use Rattle.numbers.proofs.Laws.Signs.{signs_of}
 use Rattle.number_values.proofs.power.sign_at.Statement.{statement}
 use Rattle.number_values.proofs.power.sign_at.Tie as tie
 

@@ -1,4 +1,4 @@
-use Rattle.numbers.specs.Laws.Integers.{limiting}
+use Rattle.numbers.proofs.Laws.Integers.{limiting}
 use Rattle.number_values.proofs.power.within.Statement.{statement}
 use Rattle.number_values.proofs.power.within.Tie as tie
 

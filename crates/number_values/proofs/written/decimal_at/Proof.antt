@@ -1,4 +1,4 @@
-use Rattle.numbers.specs.Laws.Signs.{reading-signs}
+use Rattle.numbers.proofs.Laws.Signs.{reading-signs}
 use Rattle.number_values.proofs.written.decimal_at.Statement.{statement}
 use Rattle.number_values.proofs.written.decimal_at.Tie as tie
 

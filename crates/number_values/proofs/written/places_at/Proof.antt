@@ -1,4 +1,4 @@
-use Rattle.numbers.specs.Laws.Decimal.{placing, point_room}
+use Rattle.numbers.proofs.Laws.Decimal.{placing, point_room}
 use Rattle.number_values.proofs.written.places_at.Statement.{statement}
 use Rattle.number_values.proofs.written.places_at.Tie as tie
 

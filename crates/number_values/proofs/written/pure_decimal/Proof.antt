@@ -1,4 +1,4 @@
-use Rattle.numbers.specs.Laws.Spelled.{purely, pure_other}
+use Rattle.numbers.proofs.Laws.Spelled.{purely, pure_other}
 use mathlib.Core.Path.{sym, ◌∙◌}
 use native.Mathlib.Omega.{arith}
 use borrow.Author.Rules.{rules}

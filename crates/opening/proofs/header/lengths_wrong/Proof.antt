@@ -1,4 +1,4 @@
-use Rattle.opening.specs.Laws.Opening.{measuring, Measuring}
+use Rattle.opening.proofs.Laws.Opening.{measuring, Measuring}
 use Prim.Native.Nat.{◌-◌}
 use lib.ListN.{length}
 use Rattle.opening.proofs.header.lengths_wrong.Statement.{statement}

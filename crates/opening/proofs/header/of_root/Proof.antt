@@ -1,4 +1,4 @@
-use Rattle.opening.specs.Laws.Opening.{rooted}
+use Rattle.opening.proofs.Laws.Opening.{rooted}
 use Rattle.opening.proofs.header.of_root.Statement.{statement}
 use Rattle.opening.proofs.header.of_root.Tie as tie
 

@@ -1,4 +1,4 @@
-use Rattle.maps.specs.Laws.Unread.{rooting}
+use Rattle.maps.proofs.Laws.Unread.{rooting}
 use Rattle.opening.proofs.root.root_wrong.Statement.{statement}
 use Rattle.opening.proofs.root.root_wrong.Tie as tie
 

@@ -1,5 +1,5 @@
-use Rattle.opening.specs.Laws.Unread.{levelling, Levelling}
-use Rattle.nodes.specs.Laws.Children.{left}
+use Rattle.opening.proofs.Laws.Unread.{levelling, Levelling}
+use Rattle.nodes.proofs.Laws.Children.{left}
 use Prim.Native.Nat.{ℕ, ◌<◌}
 use borrow.Fn.Kinds.{In}
 use borrow.Fn.PlainCycle.{Measures, is, falls, and}

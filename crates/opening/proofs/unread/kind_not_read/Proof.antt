@@ -1,4 +1,4 @@
-use Rattle.opening.specs.Laws.Unread.{levels}
+use Rattle.opening.proofs.Laws.Unread.{levels}
 use Rattle.opening.proofs.unread.kind_not_read.Statement.{statement}
 use Rattle.opening.proofs.unread.kind_not_read.Tie as tie
 

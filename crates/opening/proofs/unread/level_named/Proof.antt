@@ -1,4 +1,4 @@
-use Rattle.opening.specs.Laws.Unread.{level-names}
+use Rattle.opening.proofs.Laws.Unread.{level-names}
 use Rattle.opening.proofs.unread.level_named.Statement.{statement}
 use Rattle.opening.proofs.unread.level_named.Tie as tie
 

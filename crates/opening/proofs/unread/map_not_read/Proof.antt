@@ -1,4 +1,4 @@
-use Rattle.maps.specs.Laws.Unread.{unread-one}
+use Rattle.maps.proofs.Laws.Unread.{unread-one}
 use Rattle.opening.proofs.unread.map_not_read.Statement.{statement}
 use Rattle.opening.proofs.unread.map_not_read.Tie as tie
 

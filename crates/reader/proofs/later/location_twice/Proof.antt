@@ -1,4 +1,4 @@
-use Rattle.reader.specs.Laws.Later.{twicing, twice_apart}
+use Rattle.reader.proofs.Laws.Later.{twicing, twice_apart}
 use Rattle.reader.proofs.later.location_twice.Statement.{statement}
 use Rattle.reader.proofs.later.location_twice.Tie as tie
 

@@ -1,4 +1,4 @@
-use Rattle.reader.specs.Laws.Naming.{naming-map, name_part_lem}
+use Rattle.reader.proofs.Laws.Naming.{naming-map, name_part_lem}
 use Rattle.reader.proofs.names.map_name.Statement.{statement}
 use Rattle.reader.proofs.names.map_name.Tie as tie
 

@@ -1,4 +1,4 @@
-use Rattle.reader.specs.Laws.Reading.{reading, read_later}
+use Rattle.reader.proofs.Laws.Reading.{reading, read_later}
 use borrow.Author.Rules.{rules}
 use Rattle.reader.proofs.reading.read.Statement.{statement}
 use Rattle.reader.proofs.reading.read.Tie as tie

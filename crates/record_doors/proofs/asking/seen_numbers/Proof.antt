@@ -1,7 +1,7 @@
 -- `record_doors::asking::seen_numbers` meets its contract. Assumes nothing.
 use Prim.Native.Nat.{◌-◌, ◌/◌}
 use lib.ListN.{length}
-use Rattle.record_doors.specs.Laws.Numbers.{Taken, taken_none, not_whole, type_above, list_spoilt, taken_one, taken_all}
+use Rattle.record_doors.proofs.Laws.Numbers.{Taken, taken_none, not_whole, type_above, list_spoilt, taken_one, taken_all}
 use native.Mathlib.Omega.{arith}
 use Rattle.record_doors.proofs.asking.seen_numbers.Statement.{statement}
 use Rattle.record_doors.proofs.asking.seen_numbers.Tie as tie

@@ -1,5 +1,5 @@
 -- `record_doors::asking::sought_index` meets its contract. Assumes nothing.
-use Rattle.record_doors.specs.Laws.Numbers.{sought-indices}
+use Rattle.record_doors.proofs.Laws.Numbers.{sought-indices}
 use borrow.Author.Rules.{rules}
 use Rattle.record_doors.proofs.asking.sought_index.Statement.{statement}
 use Rattle.record_doors.proofs.asking.sought_index.Tie as tie

@@ -1,5 +1,5 @@
 -- `record_doors::asking::sought_number` meets its contract. Assumes nothing.
-use Rattle.record_doors.specs.Laws.Numbers.{sought-numbers}
+use Rattle.record_doors.proofs.Laws.Numbers.{sought-numbers}
 use borrow.Author.Rules.{rules}
 use Rattle.record_doors.proofs.asking.sought_number.Statement.{statement}
 use Rattle.record_doors.proofs.asking.sought_number.Tie as tie

@@ -1,5 +1,5 @@
 -- `record_doors::asking::structure_in` meets its contract. Assumes nothing.
-use Rattle.record_doors.specs.Laws.Numbers.{asking}
+use Rattle.record_doors.proofs.Laws.Numbers.{asking}
 use borrow.Author.Rules.{rules}
 use Rattle.record_doors.proofs.asking.structure_in.Statement.{statement}
 use Rattle.record_doors.proofs.asking.structure_in.Tie as tie

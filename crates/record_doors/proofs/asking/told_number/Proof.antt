@@ -1,5 +1,5 @@
 -- `record_doors::asking::told_number` meets its contract. Assumes nothing.
-use Rattle.record_doors.specs.Laws.Numbers.{told-numbers}
+use Rattle.record_doors.proofs.Laws.Numbers.{told-numbers}
 use borrow.Author.Rules.{rules}
 use Rattle.record_doors.proofs.asking.told_number.Statement.{statement}
 use Rattle.record_doors.proofs.asking.told_number.Tie as tie

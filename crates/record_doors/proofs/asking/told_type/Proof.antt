@@ -1,5 +1,5 @@
 -- `record_doors::asking::told_type` meets its contract. Assumes nothing.
-use Rattle.record_doors.specs.Laws.Numbers.{told-types}
+use Rattle.record_doors.proofs.Laws.Numbers.{told-types}
 use borrow.Author.Rules.{rules}
 use Rattle.record_doors.proofs.asking.told_type.Statement.{statement}
 use Rattle.record_doors.proofs.asking.told_type.Tie as tie

@@ -1,5 +1,5 @@
 -- `record_doors::making::list_numbers` meets its contract. Assumes nothing.
-use Rattle.record_doors.specs.Laws.Numbers.{lists_numbers}
+use Rattle.record_doors.proofs.Laws.Numbers.{lists_numbers}
 use borrow.Author.Rules.{rules}
 use Rattle.record_doors.proofs.making.list_numbers.Statement.{statement}
 use Rattle.record_doors.proofs.making.list_numbers.Tie as tie

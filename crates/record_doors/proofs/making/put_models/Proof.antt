@@ -1,7 +1,7 @@
 -- `record_doors::making::put_models` meets its contract. Assumes nothing.
 use mathlib.Core.Path.{◌≡◌}
 use Prim.Native.Nat.{◌-◌, ◌≤◌}
-use Rattle.record_doors.specs.Laws.Numbers.{written, writing}
+use Rattle.record_doors.proofs.Laws.Numbers.{written, writing}
 use native.Mathlib.Omega.{arith}
 use Rattle.record_doors.proofs.making.put_models.Statement.{statement}
 use Rattle.record_doors.proofs.making.put_models.Tie as tie

@@ -1,5 +1,5 @@
-use Rattle.records.specs.Laws.Record.{five_sound}
-use Rattle.record_fields.specs.Laws.Sums.{legal_sum}
+use Rattle.records.proofs.Laws.Record.{five_sound}
+use Rattle.record_fields.proofs.Laws.Sums.{legal_sum}
 use Rattle.record_fields.proofs.five.legal_five.Goals as goal
 
 pub returns : goal.returns

@@ -6,8 +6,8 @@ use Rattle.records.specs.Width.{five}
 use Rattle.records.specs.Fields.{bits, parts_of}
 use Rattle.records.specs.Record.{Location, on_surface, in_volume, record_of, wrapped, widened, location_in, is_voxel_in, structure_in, payload_in}
 use Rattle.records.specs.Record.{i_in, j_in, k_in}
-use Rattle.records.specs.Laws.Record.{within_fits, location_fits}
-use Rattle.records.specs.Laws.Widths.{seven_wider, fits_wider}
+use Rattle.records.proofs.Laws.Record.{within_fits, location_fits}
+use Rattle.records.proofs.Laws.Widths.{seven_wider, fits_wider}
 use Rattle.record_fields.proofs.five.widen.Goals as goal
 
 -- a location of five is not cut by the bits of seven

@@ -1,11 +1,11 @@
 use lib.Pow.{pow_pos}
-use Rattle.records.specs.Laws.Fields.{mod_both}
+use Rattle.records.proofs.Laws.Fields.{mod_both}
 use mathlib.Core.Path.{◌≡◌, sym, ◌∙◌}
 use Prim.Native.Nat.{ℕ, ◌+◌, ◌/◌, ◌%◌, ◌^◌, ◌≤◌, ◌<◌}
 use borrow.Author.Tests.{eq-eqb, ne_eqb}
 use Rattle.records.specs.Fields.{bits, parts_of}
 use Rattle.records.specs.Record.{is_voxel_in, key_of}
-use Rattle.records.specs.Laws.Record.{seven_sound, key_surface, key_voxel}
+use Rattle.records.proofs.Laws.Record.{seven_sound, key_surface, key_voxel}
 use native.Mathlib.Omega.{arith}
 use Rattle.record_fields.proofs.record.key.Goals as goal
 

@@ -1,5 +1,5 @@
-use Rattle.records.specs.Laws.Record.{seven_sound}
-use Rattle.record_fields.specs.Laws.Sums.{legal_sum}
+use Rattle.records.proofs.Laws.Record.{seven_sound}
+use Rattle.record_fields.proofs.Laws.Sums.{legal_sum}
 use Rattle.record_fields.proofs.record.legal.Goals as goal
 
 pub returns : goal.returns

@@ -5,9 +5,9 @@ use Prim.Native.Nat.{ℕ, ◌<◌}
 use lib.Dec.{eqb}
 use lib.ListN.{length, get_or}
 use borrow.Author.Tests.{eq-eqb, eqb-true}
-use Rattle.lists.specs.Laws.Booleans.{refute}
+use Rattle.lists.proofs.Laws.Booleans.{refute}
 use Rattle.lists.specs.Lists.{any}
-use Rattle.lists.specs.Laws.Quantifiers.{any_iff}
+use Rattle.lists.proofs.Laws.Quantifiers.{any_iff}
 use Rattle.records.specs.Outcome.{ends, applies, passes, gives_first}
 use Rattle.records.specs.Find.{AbsentBelow, FirstPlace, find_refusal}
 use native.Mathlib.Omega.{arith}

@@ -8,9 +8,9 @@ use borrow.Author.Rules.{rules}
 use borrow.Author.Tests.{not-true, not-false}
 use Rattle.records.specs.Width.{width_said}
 use Rattle.records.specs.Bytes.{number_written, numbers_in}
-use Rattle.records.specs.Laws.Bytes.{number_behind, length_numbers_in}
+use Rattle.records.proofs.Laws.Bytes.{number_behind, length_numbers_in}
 use Rattle.records.specs.Sheet.{good_word, all_good}
-use Rattle.records.specs.Laws.Computed.{all_step, all_end, word_inside}
+use Rattle.records.proofs.Laws.Computed.{all_step, all_end, word_inside}
 use native.Mathlib.Omega.{arith}
 use Rattle.sheets.proofs.sheet.all_good.Statement.{statement}
 use Rattle.sheets.proofs.sheet.all_good.Tie as tie

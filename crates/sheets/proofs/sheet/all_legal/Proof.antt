@@ -7,7 +7,7 @@ use borrow.Author.Tests.{not-true, not-false}
 use Rattle.records.specs.Width.{seven}
 use Rattle.records.specs.Record.{legal_record}
 use Rattle.records.specs.Sheet.{all_legal}
-use Rattle.records.specs.Laws.Computed.{all_step, all_end}
+use Rattle.records.proofs.Laws.Computed.{all_step, all_end}
 use native.Mathlib.Omega.{arith}
 use Rattle.sheets.proofs.sheet.all_legal.Statement.{statement}
 use Rattle.sheets.proofs.sheet.all_legal.Tie as tie

@@ -1,5 +1,5 @@
 -- `sheets::sheet::count_at` meets its contract. Assumes nothing.
-use Rattle.records.specs.Laws.Computed.{count_three}
+use Rattle.records.proofs.Laws.Computed.{count_three}
 use native.Mathlib.Omega.{arith}
 use Rattle.sheets.proofs.sheet.count_at.Statement.{statement}
 use Rattle.sheets.proofs.sheet.count_at.Tie as tie

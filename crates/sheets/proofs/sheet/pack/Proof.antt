@@ -1,6 +1,6 @@
 -- `sheets::sheet::pack` meets its contract. Assumes nothing.
 use native.Mathlib.Omega.{arith}
-use Rattle.records.specs.Laws.Packing.{packing, pack_lawful}
+use Rattle.records.proofs.Laws.Packing.{packing, pack_lawful}
 use Rattle.sheets.proofs.sheet.pack.Statement.{statement}
 use Rattle.sheets.proofs.sheet.pack.Tie as tie
 

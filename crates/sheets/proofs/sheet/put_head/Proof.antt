@@ -3,7 +3,7 @@ use lib.ListN.{length-set}
 use lib.Seq.{sets-eq}
 use mathlib.Core.List.{[], ◌∷◌}
 use Prim.Native.Nat.{◌/◌, ◌%◌}
-use Rattle.records.specs.Laws.Computed.{head_bytes}
+use Rattle.records.proofs.Laws.Computed.{head_bytes}
 use native.Mathlib.Omega.{arith}
 use Rattle.sheets.proofs.sheet.put_head.Statement.{statement}
 use Rattle.sheets.proofs.sheet.put_head.Tie as tie

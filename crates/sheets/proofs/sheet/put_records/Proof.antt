@@ -8,11 +8,11 @@ use lib.Seq.{take-length}
 use Rattle.records.specs.Width.{seven}
 use Rattle.records.specs.Record.{legal_in}
 use Rattle.records.specs.Sheet.{word_of, with_ends, all_legal}
-use Rattle.records.specs.Laws.Mapped.{all_at}
-use Rattle.records.specs.Laws.Widths.{legal_size}
+use Rattle.records.proofs.Laws.Mapped.{all_at}
+use Rattle.records.proofs.Laws.Widths.{legal_size}
 use Rattle.records.specs.Fill.{wrote, wrote_none, wrote_on}
 use Rattle.records.specs.Bytes.{bytes_of, body}
-use Rattle.records.specs.Laws.Bytes.{body_next, length_body_take}
+use Rattle.records.proofs.Laws.Bytes.{body_next, length_body_take}
 use native.Mathlib.Omega.{arith}
 use Rattle.sheets.proofs.sheet.put_records.Statement.{statement}
 use Rattle.sheets.proofs.sheet.put_records.Tie as tie

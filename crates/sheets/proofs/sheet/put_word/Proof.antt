@@ -4,7 +4,7 @@ use lib.ListN.{length-set}
 use lib.Seq.{sets-eq}
 use mathlib.Core.List.{[], ◌∷◌}
 use Prim.Native.Nat.{◌/◌, ◌%◌}
-use Rattle.records.specs.Laws.Computed.{word_bytes}
+use Rattle.records.proofs.Laws.Computed.{word_bytes}
 use native.Mathlib.Omega.{arith}
 use Rattle.sheets.proofs.sheet.put_word.Statement.{statement}
 use Rattle.sheets.proofs.sheet.put_word.Tie as tie

@@ -1,5 +1,5 @@
 -- `sheets::sheet::sheet_width` meets its contract. Assumes nothing.
-use Rattle.records.specs.Laws.Packing.{measuring}
+use Rattle.records.proofs.Laws.Packing.{measuring}
 use Rattle.sheets.proofs.sheet.sheet_width.Statement.{statement}
 use Rattle.sheets.proofs.sheet.sheet_width.Tie as tie
 

@@ -9,9 +9,9 @@ use Rattle.records.specs.Record.{carried}
 use Rattle.records.specs.Sheet.{bare, held_by}
 use Rattle.records.specs.Fill.{wrote, wrote_none, wrote_next}
 use Rattle.records.specs.Bytes.{number_written, numbers_in}
-use Rattle.records.specs.Laws.Bytes.{number_behind, length_numbers_in}
-use Rattle.records.specs.Laws.Mapped.{made_at}
-use Rattle.records.specs.Laws.Computed.{word_inside}
+use Rattle.records.proofs.Laws.Bytes.{number_behind, length_numbers_in}
+use Rattle.records.proofs.Laws.Mapped.{made_at}
+use Rattle.records.proofs.Laws.Computed.{word_inside}
 use native.Mathlib.Omega.{arith}
 use borrow.Author.Rules.{rules}
 use Rattle.sheets.proofs.sheet.take_records.Statement.{statement}

@@ -1,6 +1,6 @@
 -- `sheets::sheet::unpack` meets its contract. Assumes nothing.
 use native.Mathlib.Omega.{arith}
-use Rattle.records.specs.Laws.Packing.{unpacking}
+use Rattle.records.proofs.Laws.Packing.{unpacking}
 use Rattle.sheets.proofs.sheet.unpack.Statement.{statement}
 use Rattle.sheets.proofs.sheet.unpack.Tie as tie
 

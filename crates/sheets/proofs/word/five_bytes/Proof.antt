@@ -1,5 +1,5 @@
 -- `sheets::word::five_bytes` meets its contract. Assumes nothing.
-use Rattle.records.specs.Laws.Computed as laws
+use Rattle.records.proofs.Laws.Computed as laws
 use native.Mathlib.Omega.{arith}
 use Rattle.sheets.proofs.word.five_bytes.Statement.{statement}
 use Rattle.sheets.proofs.word.five_bytes.Tie as tie

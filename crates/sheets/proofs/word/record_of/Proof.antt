@@ -7,7 +7,7 @@ use borrow.Author.Tests.{eq-eqb, ne_eqb}
 use Rattle.records.specs.Width.{seven, width_said}
 use Rattle.records.specs.Record.{carried, widened}
 use Rattle.records.specs.Sheet.{bare}
-use Rattle.records.specs.Laws.Record.{seven_sound, record_whole}
+use Rattle.records.proofs.Laws.Record.{seven_sound, record_whole}
 use Rattle.sheets.proofs.word.record_of.Statement.{statement}
 use Rattle.sheets.proofs.word.record_of.Tie as tie
 

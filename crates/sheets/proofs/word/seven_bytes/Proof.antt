@@ -1,5 +1,5 @@
 -- `sheets::word::seven_bytes` meets its contract. Assumes nothing.
-use Rattle.records.specs.Laws.Computed as laws
+use Rattle.records.proofs.Laws.Computed as laws
 use native.Mathlib.Omega.{arith}
 use borrow.Author.Rules.{rules}
 use Rattle.sheets.proofs.word.seven_bytes.Statement.{statement}

@@ -43,7 +43,7 @@ use denote.Triple.Clauses.{ensured, lasts}
 use Rattle.shortlist.specs.Runs.{kind_of}
 use Rattle.shortlist.specs.Asking.{Seeks}
 use Rattle.shortlist.specs.Search.{begun, next_of, folded, Finding}
-use Rattle.shortlist.specs.Laws.Answers.{seeks_seen}
+use Rattle.shortlist.proofs.Laws.Answers.{seeks_seen}
 use Rattle.shortlist.specs.declared.answer.Model.{Model}
 use Rattle.shortlist.specs.declared.answer.Sought.{Sought}
 use Rattle.shortlist.specs.declared.state.Search.{Search}

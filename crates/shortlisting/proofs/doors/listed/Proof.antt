@@ -1,5 +1,5 @@
 -- `shortlisting::doors::listed` meets its contract. Assumes nothing.
-use Rattle.shortlist.specs.Laws.Made.{listing}
+use Rattle.shortlist.proofs.Laws.Made.{listing}
 use Rattle.shortlisting.proofs.doors.listed.Statement.{statement}
 use Rattle.shortlisting.proofs.doors.listed.Tie as tie
 

@@ -47,7 +47,7 @@ use denote.Exit.{yes}
 use denote.Triple.Clauses.{ensured, lasts}
 use Rattle.shortlist.specs.Making.{Lists}
 use Rattle.shortlist.specs.Made.{model_at, entries_filled, list_answer, MadeOf}
-use Rattle.shortlist.specs.Laws.Made.{lists_made}
+use Rattle.shortlist.proofs.Laws.Made.{lists_made}
 use Rattle.shortlist.specs.declared.answer.Model.{Model}
 use Rattle.shortlist.specs.declared.answer.Listed.{Listed}
 use Rattle.shortlist.specs.declared.state.Made.{Made}

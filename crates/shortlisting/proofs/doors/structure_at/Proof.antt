@@ -41,7 +41,7 @@ use Rattle.records.specs.contracts.counters.Index as I
 use Rattle.records.proofs.counters.Index.TheLaws as I'
 use Rattle.shortlist.specs.Asking.{Tells}
 use Rattle.shortlist.specs.Search.{begun, next_of, folded, told_of}
-use Rattle.shortlist.specs.Laws.Answers.{tells_seen}
+use Rattle.shortlist.proofs.Laws.Answers.{tells_seen}
 use Rattle.shortlist.specs.declared.answer.Model.{Model}
 use Rattle.shortlist.specs.declared.answer.Told.{Told}
 use Rattle.shortlist.specs.declared.state.Search.{Search}

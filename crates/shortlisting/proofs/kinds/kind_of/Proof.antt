@@ -1,7 +1,7 @@
 -- `shortlisting::kinds::kind_of` meets its contract. Assumes nothing.
 use native.Mathlib.Omega.{arith}
 use borrow.Author.Rules.{rules}
-use Rattle.shortlist.specs.Laws.Runs.{structure_small, voxel_kind, surface_kind}
+use Rattle.shortlist.proofs.Laws.Runs.{structure_small, voxel_kind, surface_kind}
 use Rattle.shortlisting.proofs.kinds.kind_of.Statement.{statement}
 use Rattle.shortlisting.proofs.kinds.kind_of.Tie as tie
 

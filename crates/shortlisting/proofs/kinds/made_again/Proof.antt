@@ -1,5 +1,5 @@
 -- `shortlisting::kinds::made_again` meets its contract. Assumes nothing.
-use Rattle.shortlist.specs.Laws.Location.{voxel_again, surface_again}
+use Rattle.shortlist.proofs.Laws.Location.{voxel_again, surface_again}
 use borrow.Author.Rules.{rules}
 use Rattle.shortlisting.proofs.kinds.made_again.Statement.{statement}
 use Rattle.shortlisting.proofs.kinds.made_again.Tie as tie

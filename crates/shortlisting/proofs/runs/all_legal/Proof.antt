@@ -5,7 +5,7 @@ use Prim.Native.Nat.{◌-◌}
 use lib.ListN.{length, drop}
 use Rattle.lists.specs.Lists.{all}
 use Rattle.records.specs.Record.{legal_record}
-use Rattle.shortlist.specs.Laws.Walking.{legality}
+use Rattle.shortlist.proofs.Laws.Walking.{legality}
 use Rattle.shortlisting.proofs.runs.all_legal.Statement.{statement}
 use Rattle.shortlisting.proofs.runs.all_legal.Tie as tie
 use Rattle.shortlisting.proofs.runs.all_legal.Reads as reads

@@ -1,5 +1,5 @@
 -- `shortlisting::runs::made_of` meets its contract. Assumes nothing.
-use Rattle.shortlist.specs.Laws.Made.{making}
+use Rattle.shortlist.proofs.Laws.Made.{making}
 use borrow.Author.Rules.{rules}
 use Rattle.shortlisting.proofs.runs.made_of.Statement.{statement}
 use Rattle.shortlisting.proofs.runs.made_of.Tie as tie

@@ -2,7 +2,7 @@
 use native.Mathlib.Omega.{arith}
 use Prim.Native.Nat.{◌-◌}
 use lib.ListN.{length}
-use Rattle.shortlist.specs.Laws.Walking.{OfKind, of_kind_first, ending}
+use Rattle.shortlist.proofs.Laws.Walking.{OfKind, of_kind_first, ending}
 use Rattle.shortlisting.proofs.runs.run_end.Statement.{statement}
 use Rattle.shortlisting.proofs.runs.run_end.Tie as tie
 use Rattle.shortlisting.proofs.runs.run_end.Reads as reads

@@ -2,7 +2,7 @@
 use native.Mathlib.Omega.{arith}
 use Prim.Native.Nat.{◌-◌}
 use lib.ListN.{length}
-use Rattle.shortlist.specs.Laws.Walking.{Walked, walking}
+use Rattle.shortlist.proofs.Laws.Walking.{Walked, walking}
 use Rattle.shortlisting.proofs.runs.runs_of.Statement.{statement}
 use Rattle.shortlisting.proofs.runs.runs_of.Tie as tie
 use Rattle.shortlisting.proofs.runs.runs_of.Reads as reads

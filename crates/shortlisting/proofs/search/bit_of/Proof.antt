@@ -1,5 +1,5 @@
 -- `shortlisting::search::bit_of` meets its contract. Assumes nothing.
-use Rattle.lists.specs.Laws.Bits.{one_shifted}
+use Rattle.lists.proofs.Laws.Bits.{one_shifted}
 use borrow.Author.Rules.{rules}
 use Rattle.shortlisting.proofs.search.bit_of.Statement.{statement}
 use Rattle.shortlisting.proofs.search.bit_of.Tie as tie

@@ -1,5 +1,5 @@
 -- `shortlisting::search::follows` meets its contract. Assumes nothing.
-use Rattle.shortlist.specs.Laws.Entry.{entering}
+use Rattle.shortlist.proofs.Laws.Entry.{entering}
 use Rattle.shortlisting.proofs.search.follows.Statement.{statement}
 use Rattle.shortlisting.proofs.search.follows.Tie as tie
 use Rattle.shortlisting.proofs.search.follows.Reads as reads

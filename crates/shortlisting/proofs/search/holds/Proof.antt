@@ -1,5 +1,5 @@
 -- `shortlisting::search::holds` meets its contract. Assumes nothing.
-use Rattle.shortlist.specs.Laws.Entry.{entering}
+use Rattle.shortlist.proofs.Laws.Entry.{entering}
 use Rattle.shortlisting.proofs.search.holds.Statement.{statement}
 use Rattle.shortlisting.proofs.search.holds.Tie as tie
 use Rattle.shortlisting.proofs.search.holds.Reads as reads

@@ -1,5 +1,5 @@
 -- `shortlisting::search::is_bad` meets its contract. Assumes nothing.
-use Rattle.shortlist.specs.Laws.Entry.{judging}
+use Rattle.shortlist.proofs.Laws.Entry.{judging}
 use borrow.Author.Rules.{rules}
 use Rattle.shortlisting.proofs.search.is_bad.Statement.{statement}
 use Rattle.shortlisting.proofs.search.is_bad.Tie as tie

@@ -1,5 +1,5 @@
 -- `shortlisting::search::is_named` meets its contract. Assumes nothing.
-use Rattle.shortlist.specs.Laws.Bits.{bit_test}
+use Rattle.shortlist.proofs.Laws.Bits.{bit_test}
 use borrow.Author.Rules.{rules}
 use Rattle.shortlisting.proofs.search.is_named.Statement.{statement}
 use Rattle.shortlisting.proofs.search.is_named.Tie as tie

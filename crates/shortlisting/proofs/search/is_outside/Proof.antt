@@ -1,5 +1,5 @@
 -- `shortlisting::search::is_outside` meets its contract. Assumes nothing.
-use Rattle.shortlist.specs.Laws.Entry.{telling}
+use Rattle.shortlist.proofs.Laws.Entry.{telling}
 use borrow.Author.Rules.{rules}
 use Rattle.shortlisting.proofs.search.is_outside.Statement.{statement}
 use Rattle.shortlisting.proofs.search.is_outside.Tie as tie

@@ -1,5 +1,5 @@
 -- `shortlisting::search::is_past` meets its contract. Assumes nothing.
-use Rattle.shortlist.specs.Laws.Entry.{reaching}
+use Rattle.shortlist.proofs.Laws.Entry.{reaching}
 use Rattle.shortlisting.proofs.search.is_past.Statement.{statement}
 use Rattle.shortlisting.proofs.search.is_past.Tie as tie
 use Rattle.shortlisting.proofs.search.is_past.Reads as reads

@@ -1,5 +1,5 @@
 -- `shortlisting::search::kind_in` meets its contract. Assumes nothing.
-use Rattle.shortlist.specs.Laws.Entry.{entering}
+use Rattle.shortlist.proofs.Laws.Entry.{entering}
 use borrow.Author.Rules.{rules}
 use Rattle.shortlisting.proofs.search.kind_in.Statement.{statement}
 use Rattle.shortlisting.proofs.search.kind_in.Tie as tie

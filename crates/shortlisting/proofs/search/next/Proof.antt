@@ -1,5 +1,5 @@
 -- `shortlisting::search::next` meets its contract. Assumes nothing.
-use Rattle.shortlist.specs.Laws.Entry.{stepping}
+use Rattle.shortlist.proofs.Laws.Entry.{stepping}
 use borrow.Author.Rules.{rules}
 use Rattle.shortlisting.proofs.search.next.Statement.{statement}
 use Rattle.shortlisting.proofs.search.next.Tie as tie

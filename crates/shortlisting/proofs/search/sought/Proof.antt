@@ -1,7 +1,7 @@
 -- `shortlisting::search::sought` meets its contract. Assumes nothing.
 use native.Mathlib.Omega.{arith}
 use lib.ListN.{length}
-use Rattle.shortlist.specs.Laws.Entry.{seeking, inside, found_inside}
+use Rattle.shortlist.proofs.Laws.Entry.{seeking, inside, found_inside}
 use borrow.Author.Rules.{rules}
 use Rattle.shortlisting.proofs.search.sought.Statement.{statement}
 use Rattle.shortlisting.proofs.search.sought.Tie as tie

@@ -1,5 +1,5 @@
 -- `shortlisting::search::told` meets its contract. Assumes nothing.
-use Rattle.shortlist.specs.Laws.Entry.{telling}
+use Rattle.shortlist.proofs.Laws.Entry.{telling}
 use Rattle.shortlisting.proofs.search.told.Statement.{statement}
 use Rattle.shortlisting.proofs.search.told.Tie as tie
 use Rattle.shortlisting.proofs.search.told.Reads as reads

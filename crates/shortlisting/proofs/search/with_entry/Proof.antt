@@ -1,5 +1,5 @@
 -- `shortlisting::search::with_entry` meets its contract. Assumes nothing.
-use Rattle.shortlist.specs.Laws.Entry.{naming, taken_is}
+use Rattle.shortlist.proofs.Laws.Entry.{naming, taken_is}
 use borrow.Author.Rules.{rules}
 use Rattle.shortlisting.proofs.search.with_entry.Statement.{statement}
 use Rattle.shortlisting.proofs.search.with_entry.Tie as tie

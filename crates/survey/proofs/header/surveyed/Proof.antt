@@ -1,5 +1,5 @@
 use mathlib.Core.Path.{refl}
-use Rattle.survey.specs.Laws.Header.{surveyed, survey_unlisted, survey_passes}
+use Rattle.survey.proofs.Laws.Header.{surveyed, survey_unlisted, survey_passes}
 use Rattle.survey.proofs.header.surveyed.Statement.{statement}
 use Rattle.survey.proofs.header.surveyed.Tie as tie
 

@@ -1,4 +1,4 @@
-use Rattle.maps.specs.Laws.LengthsAgree.{differing}
+use Rattle.maps.proofs.Laws.LengthsAgree.{differing}
 use Rattle.survey.proofs.lengths_agree.dimension_differs.Statement.{statement}
 use Rattle.survey.proofs.lengths_agree.dimension_differs.Tie as tie
 

@@ -1,4 +1,4 @@
-use Rattle.maps.specs.Laws.LengthsAgree.{length_there}
+use Rattle.maps.proofs.Laws.LengthsAgree.{length_there}
 use Rattle.survey.proofs.lengths_agree.length_at.Statement.{statement}
 use Rattle.survey.proofs.lengths_agree.length_at.Tie as tie
 

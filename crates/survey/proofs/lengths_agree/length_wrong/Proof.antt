@@ -1,7 +1,7 @@
-use Rattle.maps.specs.Laws.LengthsAgree.{agreeing, Agree}
+use Rattle.maps.proofs.Laws.LengthsAgree.{agreeing, Agree}
 use Prim.Native.Nat.{◌-◌}
 use Rattle.maps.specs.Ready.{maps_at}
-use Rattle.maps.specs.Laws.Over.{Over}
+use Rattle.maps.proofs.Laws.Over.{Over}
 use Rattle.survey.proofs.lengths_agree.length_wrong.Statement.{statement}
 use Rattle.survey.proofs.lengths_agree.length_wrong.Tie as tie
 

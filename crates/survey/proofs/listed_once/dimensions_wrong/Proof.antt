@@ -1,4 +1,4 @@
-use Rattle.maps.specs.Laws.ListedOnce.{listed_once, once_wrong, once_more, Judging}
+use Rattle.maps.proofs.Laws.ListedOnce.{listed_once, once_wrong, once_more, Judging}
 use Prim.Native.Nat.{◌-◌}
 use Rattle.survey.proofs.listed_once.dimensions_wrong.Statement.{statement}
 use Rattle.survey.proofs.listed_once.dimensions_wrong.Tie as tie

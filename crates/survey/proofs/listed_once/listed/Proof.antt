@@ -1,7 +1,7 @@
-use Rattle.maps.specs.Laws.ListedOnce.{tallying, Tally}
+use Rattle.maps.proofs.Laws.ListedOnce.{tallying, Tally}
 use Prim.Native.Nat.{◌-◌, ◌<◌}
 use Rattle.maps.specs.Ready.{maps_at}
-use Rattle.maps.specs.Laws.Over.{Over}
+use Rattle.maps.proofs.Laws.Over.{Over}
 use Rattle.survey.proofs.listed_once.listed.Statement.{statement}
 use Rattle.survey.proofs.listed_once.listed.Tie as tie
 

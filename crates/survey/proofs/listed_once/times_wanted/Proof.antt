@@ -1,4 +1,4 @@
-use Rattle.maps.specs.Laws.ListedOnce.{wanting}
+use Rattle.maps.proofs.Laws.ListedOnce.{wanting}
 use Rattle.survey.proofs.listed_once.times_wanted.Statement.{statement}
 use Rattle.survey.proofs.listed_once.times_wanted.Tie as tie
 

@@ -1,4 +1,4 @@
-use Rattle.values.specs.Laws.InTurn.{asking, asked_spared}
+use Rattle.values.proofs.Laws.InTurn.{asking, asked_spared}
 use Rattle.values.proofs.attributes.attribute_fault.Statement.{statement}
 use Rattle.values.proofs.attributes.attribute_fault.Tie as tie
 

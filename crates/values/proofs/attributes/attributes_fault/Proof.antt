@@ -1,4 +1,4 @@
-use Rattle.values.specs.Laws.InTurn.{walking, Walking}
+use Rattle.values.proofs.Laws.InTurn.{walking, Walking}
 use Prim.Native.Nat.{◌-◌}
 use Rattle.values.proofs.attributes.attributes_fault.Statement.{statement}
 use Rattle.values.proofs.attributes.attributes_fault.Tie as tie

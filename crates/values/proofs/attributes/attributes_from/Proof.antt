@@ -1,4 +1,4 @@
-use Rattle.values.specs.Laws.InTurn.{beginning, unnamed_begin}
+use Rattle.values.proofs.Laws.InTurn.{beginning, unnamed_begin}
 use Rattle.values.proofs.attributes.attributes_from.Statement.{statement}
 use Rattle.values.proofs.attributes.attributes_from.Tie as tie
 

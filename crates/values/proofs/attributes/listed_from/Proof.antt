@@ -1,4 +1,4 @@
-use Rattle.schema.specs.Laws.Keys.{listing, listing_end, Listing}
+use Rattle.schema.proofs.Laws.Keys.{listing, listing_end, Listing}
 use Prim.Native.Nat.{◌-◌}
 use lib.ListN.{length}
 use Rattle.lists.specs.Lists.{count_up}

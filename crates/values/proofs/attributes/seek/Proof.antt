@@ -1,4 +1,4 @@
-use Rattle.values.specs.Laws.InTurn.{seeking, sought_met}
+use Rattle.values.proofs.Laws.InTurn.{seeking, sought_met}
 use Rattle.values.proofs.attributes.seek.Statement.{statement}
 use Rattle.values.proofs.attributes.seek.Tie as tie
 

@@ -1,4 +1,4 @@
-use Rattle.schema.specs.Laws.Faults.{choosing}
+use Rattle.schema.proofs.Laws.Faults.{choosing}
 use Rattle.values.proofs.faults.sooner.Statement.{statement}
 use Rattle.values.proofs.faults.sooner.Tie as tie
 

@@ -1,4 +1,4 @@
-use Rattle.schema.specs.Laws.Values.{texting}
+use Rattle.schema.proofs.Laws.Values.{texting}
 use Rattle.values.proofs.text.text_fault.Statement.{statement}
 use Rattle.values.proofs.text.text_fault.Tie as tie
 

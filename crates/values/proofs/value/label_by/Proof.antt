@@ -1,4 +1,4 @@
-use Rattle.schema.specs.Laws.Values.{labelling}
+use Rattle.schema.proofs.Laws.Values.{labelling}
 use Rattle.values.proofs.value.label_by.Statement.{statement}
 use Rattle.values.proofs.value.label_by.Tie as tie
 

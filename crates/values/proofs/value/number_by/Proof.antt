@@ -1,4 +1,4 @@
-use Rattle.schema.specs.Laws.Values.{forming}
+use Rattle.schema.proofs.Laws.Values.{forming}
 use Rattle.values.proofs.value.number_by.Statement.{statement}
 use Rattle.values.proofs.value.number_by.Tie as tie
 

@@ -1,4 +1,4 @@
-use Rattle.values.specs.Laws.Numbers.{numbering, right_label}
+use Rattle.values.proofs.Laws.Numbers.{numbering, right_label}
 use Rattle.values.proofs.value.number_right.Statement.{statement}
 use Rattle.values.proofs.value.number_right.Tie as tie
 

@@ -1,4 +1,4 @@
-use Rattle.schema.specs.Laws.Values.{faulting}
+use Rattle.schema.proofs.Laws.Values.{faulting}
 use Rattle.values.proofs.value.value_fault.Statement.{statement}
 use Rattle.values.proofs.value.value_fault.Tie as tie
 

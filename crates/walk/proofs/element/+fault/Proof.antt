@@ -1,9 +1,9 @@
-use Rattle.schema.specs.Laws.Walk.{walking, Walking, walking_deeper, walking_tallying}
+use Rattle.schema.proofs.Laws.Walk.{walking, Walking, walking_deeper, walking_tallying}
 use Prim.Native.Nat.{◌-◌}
 use lib.ListN.{length}
 use native.Mathlib.Omega.{arith}
 use borrow.Author.Rules.{rules}
-use Rattle.nodes.specs.Laws.AheadElements.{left_ahead}
+use Rattle.nodes.proofs.Laws.AheadElements.{left_ahead}
 use Prim.Native.Nat.{ℕ, ◌<◌}
 use borrow.Fn.Kinds.{In}
 use borrow.Fn.PlainCycle.{Measures, is, falls, and}

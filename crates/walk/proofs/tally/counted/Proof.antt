@@ -1,4 +1,4 @@
-use Rattle.schema.specs.Laws.Times.{raising, Raising}
+use Rattle.schema.proofs.Laws.Times.{raising, Raising}
 use Prim.Native.Nat.{◌-◌}
 use Rattle.walk.proofs.tally.counted.Statement.{statement}
 use Rattle.walk.proofs.tally.counted.Tie as tie

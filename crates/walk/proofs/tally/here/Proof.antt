@@ -1,4 +1,4 @@
-use Rattle.schema.specs.Laws.Times.{hereabout}
+use Rattle.schema.proofs.Laws.Times.{hereabout}
 use Rattle.walk.proofs.tally.here.Statement.{statement}
 use Rattle.walk.proofs.tally.here.Tie as tie
 

@@ -1,4 +1,4 @@
-use Rattle.schema.specs.Laws.Times.{watching}
+use Rattle.schema.proofs.Laws.Times.{watching}
 use Rattle.walk.proofs.tally.is_watched.Statement.{statement}
 use Rattle.walk.proofs.tally.is_watched.Tie as tie
 

@@ -1,4 +1,4 @@
-use Rattle.schema.specs.Laws.Times.{standing}
+use Rattle.schema.proofs.Laws.Times.{standing}
 use Rattle.walk.proofs.tally.stands_so.Statement.{statement}
 use Rattle.walk.proofs.tally.stands_so.Tie as tie
 

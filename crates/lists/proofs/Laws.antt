@@ -1,0 +1,12 @@
+pub mod Booleans
+pub mod Lists
+pub mod Refusals
+pub mod Tables
+pub mod Permuted
+pub mod Quantifiers
+pub mod Tiled
+pub mod Ranges
+pub mod Filling
+pub mod Bits
+pub mod Numbers
+pub mod Reordered

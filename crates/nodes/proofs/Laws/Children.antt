@@ -1,0 +1,369 @@
+-- The walk over children, at a position of the text: one law for each way through the code.
+use Rattle.std.specs.Prelude.{◌≡◌, List, [], ◌∷◌, ◌++◌, Bool, true, false, drop}
+use Rattle.std.proofs.Math.Path.{refl, sym, ap}
+use Rattle.std.proofs.Common.{◌∙◌, arith, rules}
+use Prim.Native.Nat.{ℕ, zero, suc, ◌+◌, ◌-◌, ◌≤◌, ◌<◌}
+use Rattle.std.proofs.Math.ListN.{length, length-drop}
+use Rattle.grammar.specs.Bytes.{blank}
+use Rattle.grammar.specs.Document.{Attribute, Element, Contents, nothing, child, run, merged}
+use Rattle.grammar.specs.Look.{contents_of, elements}
+use Rattle.grammar.specs.Read.{Read, fail, got}
+use Rattle.grammar.proofs.Laws.Read.{Ok, good}
+use Rattle.grammar.specs.Parser.{Look, at_close, at_comment, at_data, at_element, at_text, look, comment_at, data_at_lem}
+use Rattle.grammar.proofs.Laws.Sound.{comment_sound, data_sound, attributes_sound}
+use Rattle.grammar.specs.Unfuelled.{contents}
+use Rattle.steps.proofs.Laws.Step.{tails}
+use Rattle.steps.proofs.Laws.Leaves.{name_tails, span_tails}
+use Rattle.nodes.specs.Places.{element₁₆, the, Stands}
+use Rattle.nodes.proofs.Laws.Places.{stands_read, the_read, Tail, tail_of, tail_more, tail_read}
+use Rattle.nodes.proofs.Laws.Depth.{comment_eats, data_eats, element_tails}
+use Rattle.nodes.proofs.Laws.ReadSteps.{Ending, bare, filled, Spelled, spelled, eats_child, Induction, induction}
+use Rattle.nodes.specs.Scan.{to_tag, tag_from, tag_at, skip_at}
+use Rattle.nodes.proofs.Laws.Scanned.{to_tag_short, tag_less, Less}
+use Rattle.nodes.proofs.Laws.ScanEnds.{to_tag_free, text_free}
+use Rattle.nodes.proofs.Laws.Skipping.{tag_here, no_text, no_text_comment, no_text_data, no_text_element, tag_read, tag_bare}
+use Rattle.nodes.proofs.Laws.Skipping.{tag_filled}
+use Rattle.nodes.proofs.Laws.Skipping.{skip_element}
+use Rattle.nodes.specs.declared.Kid.{Kid}
+use Rattle.nodes.specs.declared.Kid.TheVariants.{Child, Done}
+use Rattle.nodes.specs.Children.{kid_then, kid_by, kid_within, kid_at, first_by, first_child, next}
+use Rattle.lists.proofs.Laws.Booleans.{clash}
+use Rattle.grammar.specs.Read.{Reader}
+use Rattle.grammar.proofs.Laws.Read.{ok_got}
+use Rattle.steps.specs.Step.{stepped, Went}
+use Rattle.steps.proofs.Laws.Step.{fell, Tails, went}
+use Rattle.steps.specs.declared.Step.{Step}
+use Rattle.steps.specs.declared.Step.TheVariants.{To, No}
+use Rattle.nodes.proofs.Laws.Scanned.{skip_less, less_tails}
+use Rattle.nodes.specs.ScanSteps.{tag_told}
+use Rattle.steps.specs.Prologue.{preamble_at}
+use Rattle.nodes.specs.Root.{root, root_by}
+use Rattle.steps.specs.Pieces.{front}
+use Rattle.steps.specs.declared.pieces.Front.{Front}
+use Rattle.steps.specs.declared.pieces.Front.TheVariants as front_is
+use Rattle.nodes.specs.declared.scan.Tag.{Tag}
+use Rattle.nodes.specs.declared.scan.Tag.TheVariants as tag_is
+use Rattle.nodes.proofs.Laws.Scan.{looks_close, looks_comment, looks_data, looks_start, looks_text}
+use Rattle.nodes.proofs.Laws.Skip.{tag_lies, tag_short, opens_at, bare_at_lem, no_tag}
+
+-- how much is left of a row: falls from each child to the next
+unfoldable pub left : List ℕ → Kid → ℕ
+left text Done = 0
+left text (Child k) = length text - k
+
+-- A ROW: the elements from a cursor on
+pub data Siblings (text : List ℕ) : Kid → List Element → Type 0 where
+  no_more : Siblings text Done []
+  one_more : {k : ℕ} {l : List Element} → Stands text k → left text (next text k) < left text (Child k) → Siblings text (next text k) l
+      → Siblings text (Child k) (the text k ∷ l)
+
+-- fuel changes nothing
+then_same : {A : Type 0} (m : Read A) (f g : List ℕ → Kid) (s : List ℕ) → Ok (λ _ r. length r < length s) m
+    → ((r : List ℕ) → length r < length s → f r ≡ g r) → kid_then m f ≡ kid_then m g
+unfolding kid_then
+then_same fail f g s h k = refl
+then_same (got u r) f g s (good h) k = k r h
+
+by_same : (f g : List ℕ → Kid) (l : Look) (n : ℕ) (s : List ℕ) → ((r : List ℕ) → length r < length s → f r ≡ g r)
+    → kid_by l f n s ≡ kid_by l g n s
+unfolding kid_by
+by_same f g at_close n s h = refl
+by_same f g at_comment n s h = then_same (comment_at s) f g s (comment_eats s) h
+by_same f g at_data n s h = then_same (data_at_lem s) f g s (data_eats s) h
+by_same f g at_element n s h = refl
+by_same f g at_text n s h = refl
+
+kid_suc : (m n : ℕ) (s : List ℕ) → kid_within (suc m) n s ≡ kid_by (look (to_tag s)) (kid_within m n) n (to_tag s)
+unfolding kid_within
+kid_suc m n s = refl
+
+kid_enough : (m k n : ℕ) (s : List ℕ) → length s < m → length s < k → kid_within m n s ≡ kid_within k n s
+kid_enough zero k n s h j = absurd (omega arith)
+kid_enough (suc m) zero n s h j = absurd (omega arith)
+kid_enough (suc m) (suc k) n s h j =
+    rw (kid_suc m n s, kid_suc k n s)
+    (by_same (kid_within m n) (kid_within k n) (look (to_tag s)) n (to_tag s)
+    (λ r l. kid_enough m k n r (omega (arith, to_tag_short s)) (omega (arith, to_tag_short s))))
+
+pub kid_step : (n : ℕ) (s : List ℕ) → kid_at n s ≡ kid_by (look (to_tag s)) (kid_at n) n (to_tag s)
+unfolding kid_at
+kid_step n s =
+    kid_suc (length s) n s
+    ∙ by_same (kid_within (length s) n) (kid_at n) (look (to_tag s)) n (to_tag s)
+    (λ r l. kid_enough (length s) (suc (length r)) n r (omega (arith, to_tag_short s)) (omega arith))
+
+pub kid_look : (n : ℕ) (s : List ℕ) (l : Look) → look s ≡ l → (l ≡ at_text → ⊥) → kid_at n s ≡ kid_by l (kid_at n) n s
+kid_look n s l e f = let z = tag_here s l e f in kid_step n s ∙ rw (z, e)
+
+-- a cursor that was found in the end `s` of a text is not before it
+then_left : {A : Type 0} (text : List ℕ) (m : Read A) (f : List ℕ → Kid) (s : List ℕ) → Ok (λ _ r. length r < length s) m
+    → ((r : List ℕ) → left text (f r) ≤ length r) → left text (kid_then m f) ≤ length s
+unfolding kid_then left
+then_left text fail f s h k = omega arith
+then_left text (got u r) f s (good h) k = omega (arith, k r)
+
+by_left : (text : List ℕ) (f : List ℕ → Kid) (l : Look) (s : List ℕ) → ((r : List ℕ) → left text (f r) ≤ length r)
+    → left text (kid_by l f (length text) s) ≤ length s
+unfolding kid_by left
+by_left text f at_close s k = omega arith
+by_left text f at_comment s k = then_left text (comment_at s) f s (comment_eats s) k
+by_left text f at_data s k = then_left text (data_at_lem s) f s (data_eats s) k
+by_left text f at_element s k = omega arith
+by_left text f at_text s k = omega arith
+
+kid_zero : (n : ℕ) (s : List ℕ) → kid_within zero n s ≡ Done
+unfolding kid_within
+kid_zero n s = refl
+
+within_left : (m : ℕ) (text s : List ℕ) → left text (kid_within m (length text) s) ≤ length s
+unfolding left
+within_left zero text s = rw (kid_zero (length text) s) (omega arith)
+within_left (suc m) text s = rw (kid_suc m (length text) s)
+    (omega (arith, to_tag_short s, by_left text (kid_within m (length text)) (look (to_tag s)) (to_tag s) (λ r. within_left m text r)))
+
+pub kid_left : (text s : List ℕ) → left text (kid_at (length text) s) ≤ length s
+unfolding kid_at
+kid_left text s = within_left (suc (length s)) text s
+
+left_child : (text : List ℕ) (k : ℕ) → left text (Child k) ≡ length text - k
+unfolding left
+left_child text k = refl
+
+pub next_read : (text : List ℕ) (at : ℕ) {e : Element} {r : List ℕ} → element₁₆ (drop at text) ≡ got e r
+    → next text at ≡ kid_at (length text) r
+unfolding next kid_then
+next_read text at {e} {r} k = rw (skip_element (drop at text) e r k)
+
+pub elements_joined : (b : List ℕ) (c : Contents) → elements (merged b c) ≡ elements c
+unfolding elements merged
+elements_joined [] c = refl
+elements_joined (a ∷ b) nothing = refl
+elements_joined (a ∷ b) (child e c) = refl
+elements_joined (a ∷ b) (run w c) = refl
+
+-- the row that contents hold
+module _ (text : List ℕ) where
+  record Rowed (s : List ℕ) (c : Contents) (t : List ℕ) : Type 0 where
+    row : Tail text s → Siblings text (kid_at (length text) s) (elements c)
+
+  row_closed : (s : List ℕ) → look s ≡ at_close → Siblings text (kid_at (length text) s) (elements nothing)
+  unfolding kid_by elements
+  row_closed s q = rw (kid_look (length text) s at_close q (no_text refl)) no_more
+
+  row_remarked : (s r : List ℕ) → look s ≡ at_comment → comment_at s ≡ got tt r → kid_at (length text) s ≡ kid_at (length text) r
+  unfolding kid_by kid_then
+  row_remarked s r q e = kid_look (length text) s at_comment q (no_text_comment refl) ∙ rw e
+
+  row_marked : (s r b : List ℕ) → look s ≡ at_data → data_at_lem s ≡ got b r → kid_at (length text) s ≡ kid_at (length text) r
+  unfolding kid_by kid_then
+  row_marked s r b q e = kid_look (length text) s at_data q (no_text_data refl) ∙ rw e
+
+  row_lettered : (w r : List ℕ) → to_tag (w ++ r) ≡ to_tag r → kid_at (length text) (w ++ r) ≡ kid_at (length text) r
+  row_lettered w r e = kid_step (length text) (w ++ r) ∙ rw e (sym (kid_step (length text) r))
+
+  row_here : (s : List ℕ) → look s ≡ at_element → kid_at (length text) s ≡ Child (length text - length s)
+  unfolding kid_by
+  row_here s q = kid_look (length text) s at_element q (no_text_element refl)
+
+  tail_child : (s r : List ℕ) (x : Element) → Tail text s → element₁₆ s ≡ got x r → Tail text r
+  unfolding element₁₆
+  tail_child s r x t e = tail_read (element_tails 16 s) e t
+
+  row_child : (s r : List ℕ) (x : Element) (c : Contents) → Tail text s → look s ≡ at_element → element₁₆ s ≡ got x r
+      → Siblings text (kid_at (length text) r) (elements c) → Siblings text (kid_at (length text) s) (elements (child x c))
+  unfolding elements
+  row_child s r x c tail q e₀ more =
+      let k : ℕ = length text - length s in
+      let e₁ : element₁₆ (drop k text) ≡ got x r = rw tail.stands e₀ in
+      let short : length r < length s = eats_child s e₀ in
+      let falls : left text (next text k) < left text (Child k) =
+      rw (next_read text k e₁, left_child text k) (omega (arith, kid_left text r, tail.fits)) in
+      let rest : Siblings text (next text k) (elements c) = rw (next_read text k e₁) more in
+      rw (row_here s q, ← the_read text k e₁) (one_more (stands_read text k (omega (arith, tail.fits)) e₁) falls rest)
+
+  rows : Induction Rowed
+  rows = record {
+    closed = λ s q. record { row = λ _. row_closed s q };
+    remarked = λ s r c t q e h. record { row = λ tail. rw (row_remarked s r q e) (h.row (tail_read (tails (comment_sound s)) e tail)) };
+    lettered = λ b w r c t k _ h. record {
+      row = λ tail. rw (row_lettered w r (to_tag_free (text_free k) r), elements_joined b c)
+          (h.row (tail_more w r refl tail));
+    };
+    marked = λ s r b c t q e h. record {
+      row = λ tail. rw (row_marked s r b q e, elements_joined b c) (h.row (tail_read (tails (data_sound s)) e tail));
+    };
+    childed = λ s r x c t q e inside h. record
+        { row = λ tail. row_child s r x c tail q e ((inside r c t (eats_child s e) h).row (tail_child s r x tail e)) };
+  }
+
+  contents_row : (s : List ℕ) → Tail text s → (c : Contents) (t : List ℕ) → contents 16 s ≡ got c t
+      → Siblings text (kid_at (length text) s) (elements c)
+  contents_row s tail c t e = (induction Rowed rows s c t e).row tail
+
+-- behind a tag: the element's children
+behind_row : (text n : List ℕ) {l : List Attribute} {s : List ℕ} {e : Element} {r : List ℕ} → Tail text s → Ending n l s e r
+    → Siblings text (first_by (length text) (tag_from 0 s)) (elements (contents_of e))
+unfolding first_by contents_of elements
+behind_row text n {r = r} tail (bare k q) = rw (k, tag_bare r, q) no_more
+behind_row text n tail (filled {t} {behind} {c} k h z q) =
+    rw (k, tag_filled t, q) (contents_row text t (tail_more (62 ∷ []) t k tail) c behind h)
+
+-- what stands behind the start tag's blanks is an end of the text
+pub tail_behind : {text s : List ℕ} {e : Element} {r : List ℕ} (p : Spelled s e r) → Tail text s → Tail text p.behind_blanks
+tail_behind {text} p t =
+    let t₁ = tail_more (60 ∷ []) p.behind_open p.opens t in
+    let t₂ = tail_read (name_tails p.behind_open) p.names t₁ in
+    let t₃ = tail_read (tails (attributes_sound p.behind_name)) p.lists t₂ in
+    tail_read (span_tails blank p.behind_all) p.blank_so t₃
+
+-- THE LAW OF CHILDREN: where an element stands, the row from its first child on is its children
+pub children : {text : List ℕ} {at : ℕ} → Stands text at → Siblings text (first_child text at) (elements (contents_of (the text at)))
+unfolding first_child
+children {text} {at} st =
+    let p = spelled (drop at text) (the text at) st.rest st.reads in
+    rw (tag_read p) (behind_row text p.name (tail_behind p (tail_of text at)) p.ending)
+
+-- a first child stands behind its parent: with the law of rows, a measure for walks over all levels
+first_left : (text s : List ℕ) (m : Read Bool) → Ok (Less s) m → 0 < length s → left text (first_by (length text) m) < length s
+unfolding first_by left
+first_left text s fail h k = k
+first_left text s (got true r) (good h) k = omega (arith, kid_left text r, h.falls)
+first_left text s (got false r) h k = k
+
+pub first_falls : {text : List ℕ} {at : ℕ} → Stands text at → left text (first_child text at) < left text (Child at)
+unfolding first_child
+first_falls {text} {at} st =
+    let h = st.here in
+    let n : length (drop at text) ≡ length text - at = length-drop at text in
+    rw (left_child text at) (omega (arith, first_left text (drop at text) (tag_at (drop at text)) (tag_less (drop at text)) (omega arith)))
+
+pub record Going (text : List ℕ) (at i : ℕ) : Type 0 where
+  same_kid : kid_at (length text) (drop at text) ≡ kid_at (length text) (drop i text)
+
+pub going_start : (text : List ℕ) (at : ℕ) → Going text at at
+going_start text at = record { same_kid = refl }
+
+module _ (text : List ℕ) (at i : ℕ) (go : Going text at i) {t : ℕ} (et : t ≡ length text - length (to_tag (drop i text))) {f : Front}
+    (ef : f ≡ front (look (drop t text))) where
+  stepped_by : (l : Look) → look (drop t text) ≡ l
+      → kid_at (length text) (drop at text) ≡ kid_by l (kid_at (length text)) (length text) (drop t text)
+  stepped_by l q = let z : to_tag (drop i text) ≡ drop t text = (tag_lies text i et).rest in go.same_kid
+      ∙ kid_step (length text) (drop i text) ∙ rw (z, q)
+
+  pub going_close : f ≡ front_is.Close → Done ≡ kid_at (length text) (drop at text)
+  unfolding kid_by
+  going_close q = sym (stepped_by at_close (looks_close (drop t text) ef q))
+
+  pub going_text : f ≡ front_is.Text → Done ≡ kid_at (length text) (drop at text)
+  unfolding kid_by
+  going_text q = sym (stepped_by at_text (looks_text (drop t text) ef q))
+
+  pub going_child : f ≡ front_is.Start → Child t ≡ kid_at (length text) (drop at text)
+  unfolding kid_by
+  going_child q =
+      let z : length text - length (drop t text) ≡ t = simp length-drop (omega (arith, (tag_lies text i et).inside)) in
+      sym (stepped_by at_element (looks_start (drop t text) ef q) ∙ ap Child z)
+
+  -- what is passed over, a comment or CDATA
+  module _ {A : Type 0} (p : Reader A) (l : Look) (q : look (drop t text) ≡ l)
+      (by : kid_by l (kid_at (length text)) (length text) (drop t text) ≡ kid_then (p (drop t text)) (kid_at (length text)))
+      (eats : (s : List ℕ) → Ok (λ _ r. length r < length s) (p s)) (leaves : (s : List ℕ) → Ok (Tails s) (p s))
+      {x : Step} (k : x ≡ stepped (length text) (p (drop t text))) where
+    over : kid_at (length text) (drop at text) ≡ kid_then (p (drop t text)) (kid_at (length text))
+    over = stepped_by l q ∙ by
+
+    over_stuck : x ≡ No → Done ≡ kid_at (length text) (drop at text)
+    unfolding kid_then
+    over_stuck z = sym (over ∙ rw (fell (length text) (p (drop t text)) (sym z ∙ k)))
+
+    module _ {j : ℕ} (z : x ≡ To j) where
+      passed : Went p text t j
+      passed = went p text t j (leaves (drop t text)) (sym z ∙ k)
+
+      over_on : Going text at j
+      unfolding kid_then
+      over_on = record { same_kid = over ∙ rw passed.reads }
+
+      over_less : length text - j < length text - i
+      over_less =
+          let h : length (drop j text) < length (drop t text) = ok_got (rw passed.reads at (eats (drop t text))) in
+          omega (arith, tag_short text i et, length-drop j text, length-drop t text)
+
+  module _ (q : f ≡ front_is.Comment) {x : Step} (k : x ≡ stepped (length text) (comment_at (drop t text))) where
+    pub going_stuck : x ≡ No → Done ≡ kid_at (length text) (drop at text)
+    unfolding kid_by
+    going_stuck z = over_stuck comment_at at_comment (looks_comment (drop t text) ef q) refl comment_eats (λ s. tails (comment_sound s)) k z
+
+    pub going_on : {j : ℕ} → x ≡ To j → Going text at j
+    unfolding kid_by
+    going_on z = over_on comment_at at_comment (looks_comment (drop t text) ef q) refl comment_eats (λ s. tails (comment_sound s)) k z
+
+    pub going_less : {j : ℕ} → x ≡ To j → length text - j < length text - i
+    unfolding kid_by
+    going_less z = over_less comment_at at_comment (looks_comment (drop t text) ef q) refl comment_eats (λ s. tails (comment_sound s)) k z
+
+  module _ (q : f ≡ front_is.Data) {x : Step} (k : x ≡ stepped (length text) (data_at_lem (drop t text))) where
+    pub data_stuck : x ≡ No → Done ≡ kid_at (length text) (drop at text)
+    unfolding kid_by
+    data_stuck z = over_stuck data_at_lem at_data (looks_data (drop t text) ef q) refl data_eats (λ s. tails (data_sound s)) k z
+
+    pub data_on : {j : ℕ} → x ≡ To j → Going text at j
+    unfolding kid_by
+    data_on z = over_on data_at_lem at_data (looks_data (drop t text) ef q) refl data_eats (λ s. tails (data_sound s)) k z
+
+    pub data_less : {j : ℕ} → x ≡ To j → length text - j < length text - i
+    unfolding kid_by
+    data_less z = over_less data_at_lem at_data (looks_data (drop t text) ef q) refl data_eats (λ s. tails (data_sound s)) k z
+
+pub ruleset going = (
+  going_start,
+  going_close,
+  going_text,
+  going_child,
+  going_stuck,
+  going_on,
+  going_less,
+  data_stuck,
+  data_on,
+  data_less,
+  rules,
+)
+
+module _ (text : List ℕ) (at : ℕ) {x : Tag} (k : x ≡ tag_told (length text) (tag_at (drop at text))) where
+  pub first_none : x ≡ tag_is.No → Done ≡ first_child text at
+  unfolding first_child first_by
+  first_none z = rw (no_tag text at k z)
+
+  pub first_bare : {j : ℕ} → x ≡ tag_is.Bare j → Done ≡ first_child text at
+  unfolding first_child first_by
+  first_bare z = rw (bare_at_lem text at k z).reads
+
+  pub first_open : {j : ℕ} → x ≡ tag_is.Open j → {r : Kid} → r ≡ kid_at (length text) (drop j text) → r ≡ first_child text at
+  unfolding first_child first_by
+  first_open z w = w ∙ sym (rw (opens_at text at k z).reads)
+
+module _ (text : List ℕ) (at : ℕ) {x : Step} (k : x ≡ stepped (length text) (skip_at (drop at text))) where
+  pub next_none : x ≡ No → Done ≡ next text at
+  unfolding next kid_then
+  next_none z = rw (fell (length text) (skip_at (drop at text)) (sym z ∙ k))
+
+  pub next_on : {j : ℕ} → x ≡ To j → {r : Kid} → r ≡ kid_at (length text) (drop j text) → r ≡ next text at
+  unfolding next kid_then
+  next_on {j} z w = w ∙ sym (rw (went skip_at text at j (less_tails (skip_less (drop at text))) (sym z ∙ k)).reads)
+
+module _ (text : List ℕ) {x : Step} (k : x ≡ stepped (length text) (preamble_at text)) where
+  pub root_none : x ≡ No → Done ≡ root text
+  unfolding root root_by
+  root_none z = rw (fell (length text) (preamble_at text) (sym z ∙ k))
+
+  pub root_there : {j : ℕ} → x ≡ To j → Child j ≡ root text
+  unfolding root root_by stepped
+  root_there {j} z = go (preamble_at text) (sym k ∙ z)
+    where
+      go : (m : Read (Unit {0})) → stepped (length text) m ≡ To j → Child j ≡ root_by (length text) m
+      go fail e = clash (cc)
+      go (got u r) e = let q : length text - length r ≡ j = cc in cc
+
+pub ruleset rooting = (root_none, root_there, rules)
+
+pub ruleset siblings = (first_none, first_bare, first_open, next_none, next_on, rules)
