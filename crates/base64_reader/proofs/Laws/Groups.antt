@@ -4,7 +4,7 @@ use Rattle.std.proofs.Math.Path.{refl, sym, ap}
 use Rattle.std.proofs.Common.{◌∙◌, append-nil, rules}
 use Rattle.std.proofs.Math.Option.{Option, some}
 use Rattle.std.proofs.Math.Option
-use Rattle.std.proofs.Math.Bool.{true, false, not, cond, and_false}
+use Rattle.std.proofs.Math.Bool.{true, false, not, cond, and-false}
 use native.Mathlib.Omega.{arith}
 use Rattle.std.proofs.Math.Dec.{eqb}
 use borrow.Author.Tests.{eq-eqb, ne_eqb, le-ltb, leb-true, leb-false}
@@ -79,7 +79,7 @@ module _ (p q r at : ℕ) where
 
   pub last_second : 64 ≤ q → LastTold (four_ending p q r []) at Bad
   unfolding four_ending
-  last_second h = last_bad (rw (no_value q h, and_false (is_value p)) refl)
+  last_second h = last_bad (rw (no_value q h, and-false (is_value p)) refl)
 
   module _ (hp : p < 64) (hq : q < 64) where
     pub last_one : r ≡ 65 → {g : Group} → LastTold (one_byte (p * 262144 + q * 4096)) at g → LastTold (four_ending p q r []) at g

@@ -5,7 +5,7 @@ use Rattle.std.proofs.Common.{◌∙◌, arith, rules, eq-eqb, ne_eqb, length-ta
 use mathlib.Core.List.{List, [], ◌∷◌}
 use Rattle.std.proofs.Math.Option.{Option, some}
 use Rattle.std.proofs.Math.Option
-use Rattle.std.proofs.Math.Bool.{and_false}
+use Rattle.std.proofs.Math.Bool.{and-false}
 use Rattle.std.proofs.Math.ListN.{length}
 use Rattle.lists.specs.Lists.{all, each}
 use Rattle.lists.proofs.Laws.Booleans.{clash}
@@ -74,11 +74,11 @@ wrong_first a l h = rw h refl
 
 wrong_second : (a b : Word) (l : List Word) → digits 1 7 b ≡ false → first (a ∷ b ∷ l) ≡ Other
 unfolding first wholes_of first_by all
-wrong_second a b l h = rw (h, and_false (digits 1 7 a)) refl
+wrong_second a b l h = rw (h, and-false (digits 1 7 a)) refl
 
 wrong_third : (a b c : Word) (l : List Word) → digits 1 7 c ≡ false → first (a ∷ b ∷ c ∷ l) ≡ Other
 unfolding first wholes_of first_by all
-wrong_third a b c l h = rw (h, and_false (digits 1 7 b), and_false (digits 1 7 a)) refl
+wrong_third a b c l h = rw (h, and-false (digits 1 7 b), and-false (digits 1 7 a)) refl
 
 only_one : (a : Word) → first (a ∷ []) ≡ Other
 unfolding first wholes_of first_by each

@@ -2,7 +2,7 @@
 use Rattle.std.specs.Prelude.{◌≡◌, [], ◌∷◌, ◌++◌, Bool, true, false, ℕ, ◌+◌, ◌*◌, ◌-◌, ◌^◌, ◌≤◌, ◌<◌, leb}
 use Rattle.std.proofs.Math.Path.{refl, sym}
 use Rattle.std.proofs.Common.{ap, ◌∙◌, append_assoc, append-nil, add-one, rules, drop_of_length-le}
-use Rattle.std.proofs.Math.Bool.{cond, and_false}
+use Rattle.std.proofs.Math.Bool.{cond, and-false}
 use native.Mathlib.Omega.{arith}
 use borrow.Author.Tests.{eq-eqb, ne_eqb, le-leb, lt-leb, leb-true, leb-false}
 use Rattle.std.proofs.Math.ListN.{length, get_or, drop, length-append}
@@ -32,7 +32,7 @@ module _ (w : Word) (at : ℕ) where
     pub digit_high : 57 < get_or w at 0 → FirstDigit w at 10
     unfolding digit_first digit
     digit_high h = record {
-      is = sym (rw (drop-cons w at 0 there, lt-leb (get_or w at 0) 57 h, and_false (leb 48 (get_or w at 0))) refl);
+      is = sym (rw (drop-cons w at 0 there, lt-leb (get_or w at 0) 57 h, and-false (leb 48 (get_or w at 0))) refl);
       small = omega arith;
     }
 

@@ -1,7 +1,7 @@
 -- Words cut into parts, as a reader that goes on byte by byte meets them; digits in a row.
 use Rattle.std.specs.Prelude.{◌≡◌, refl, List, [], ◌∷◌, ◌++◌, Bool, true, false, ℕ, suc, ◌+◌, ◌*◌, ◌-◌, ◌^◌, ◌<◌, ◌≤◌, leb, length}
 use Rattle.std.proofs.Common.{ap, append_assoc, arith, pow-suc, add-one, length-append, le-leb, leb-true, leb-false, ne_eqb}
-use Rattle.std.proofs.Math.Bool.{and_false}
+use Rattle.std.proofs.Math.Bool.{and-false}
 use Rattle.std.proofs.Math.Nat.{pow-le-pow_right}
 use Rattle.std.proofs.lemmas.Bool.{lt-leb}
 use Rattle.lists.proofs.Laws.Booleans.{and_left, and_right}
@@ -144,17 +144,17 @@ digits_are lo hi u h k l = rw (h, le-leb lo (length u) k, le-leb (length u) hi l
 
 pub digits_few : (lo hi : ℕ) (u : Word) → length u < lo → digits lo hi u ≡ false
 unfolding digits
-digits_few lo hi u h = rw (lt-leb lo (length u) h) (and_false (all digit u))
+digits_few lo hi u h = rw (lt-leb lo (length u) h) (and-false (all digit u))
 
 pub digits_many : (lo hi : ℕ) (u x : Word) → hi < length u → digits lo hi (u ++ x) ≡ false
 unfolding digits
 digits_many lo hi u x h =
     let k : hi < length (u ++ x) = omega (arith, length-append u x) in
-    rw (lt-leb (length (u ++ x)) hi k, and_false (leb lo (length (u ++ x)))) (and_false (all digit (u ++ x)))
+    rw (lt-leb (length (u ++ x)) hi k, and-false (leb lo (length (u ++ x)))) (and-false (all digit (u ++ x)))
 
 pub digits_other : (lo hi : ℕ) (u x : Word) (b : ℕ) → digit b ≡ false → digits lo hi (u ++ (b ∷ x)) ≡ false
 unfolding digits all
-digits_other lo hi u x b h = rw (all_append digit u (b ∷ x), h, and_false (all digit u)) refl
+digits_other lo hi u x b h = rw (all_append digit u (b ∷ x), h, and-false (all digit u)) refl
 
 -- digits, at most so many, and then a byte at which reading stopped: whatever follows, the word is not so many digits
 pub digits_stopped : (lo hi : ℕ) (u x : Word) (b : ℕ) → length u ≤ hi → (length u < hi → digit b ≡ false)

@@ -1,7 +1,7 @@
 -- What the parts of a word say of its form.
 use Rattle.std.specs.Prelude.{◌≡◌, refl, List, [], ◌∷◌, Bool, true, false, ◌&&◌, ℕ, ◌-◌, ◌^◌, ◌<◌, ◌≤◌, length}
 use Rattle.std.proofs.Common.{sym, ap, ◌∙◌, arith, le-leb}
-use Rattle.std.proofs.Math.Bool.{and_false}
+use Rattle.std.proofs.Math.Bool.{and-false}
 use Rattle.lists.proofs.Laws.Booleans.{and_left, refute, clash}
 use Rattle.grammar.specs.Bytes.{between}
 use Rattle.grammar.specs.Look.{Word}
@@ -43,7 +43,7 @@ parts_two p f (a ∷ w) x y l e = go (p a) refl (λ x₁ g. parts_two p f w x₁
         let k = parts_some p w in
         let q : (a ∷ k.first) ∷ k.others ≡ x ∷ y ∷ l = sym (rw (h, k.are) refl) ∙ e in
         let o : k.others ≡ y ∷ l = cc in
-        rw (ih k.first (k.are ∙ ap (λ z. k.first ∷ z) o)) (and_false (digit a))
+        rw (ih k.first (k.are ∙ ap (λ z. k.first ∷ z) o)) (and-false (digit a))
 
 -- a word with a comma is no number
 pub numeral_two : (most lo hi : ℕ) (w x y : Word) (l : List Word) → parts comma w ≡ x ∷ y ∷ l → numeral most lo hi w ≡ false

@@ -2,7 +2,7 @@
 use Rattle.std.specs.Prelude.{◌≡◌, Bool, ltb, T, ℤ, negsuc, neg_ℤ, nat_abs, ◌-ℤ◌, ◌*ℤ◌}
 use Rattle.std.proofs.Math.Path.{refl, sym, ap}
 use Rattle.std.proofs.Common.{◌∙◌, true≢false, arith, pow-suc, mul_assoc, Fits, SFits, of_z, to_z}
-use Rattle.std.proofs.Math.Bool.{true, false, and_false}
+use Rattle.std.proofs.Math.Bool.{true, false, and-false}
 use Prim.Native.Nat.{ℕ, zero, suc, ◌+◌, ◌*◌, ◌-◌, ◌^◌, ◌≤◌, ◌<◌}
 use Rattle.std.proofs.Math.Dec.{eqb, leb}
 use Rattle.std.specs.Int.Signed.{lt_z, non_neg}
@@ -161,7 +161,7 @@ none_there z h = sym (rw h refl)
 
 none_below : (z : ℤ) → leb (down z) 18 ≡ false → wholes.No ≡ places_in z
 unfolding places_in
-none_below z h = sym (rw (h, and_false (leb (up z) 0)) refl)
+none_below z h = sym (rw (h, and-false (leb (up z) 0)) refl)
 
 there_is : (z : ℤ) {k : ℕ} → up z ≡ 0 → down z ≡ k → k ≤ 18 → wholes.Is k ≡ places_in z
 unfolding places_in

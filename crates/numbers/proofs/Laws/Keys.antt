@@ -2,7 +2,7 @@
 use Rattle.std.specs.Prelude.{◌≡◌, refl, List, [], ◌∷◌, true, false, cond, ℕ, zero, suc, ◌+◌, ◌^◌, ◌≤◌, ◌<◌, eqb, leb, ℤ, pos, negsuc, length, get_or}
 use Rattle.std.proofs.Common.{sym, ap, ◌∙◌, arith, SFits, rules, eqb-true, eq-eqb, ne_eqb, le-leb, leb-true}
 use Rattle.std.proofs.lemmas.Bool.{false≢true}
-use Rattle.std.proofs.Math.Bool.{and_true}
+use Rattle.std.proofs.Math.Bool.{and-true}
 use Rattle.std.proofs.Math.Dec.{leb-suc-suc}
 use Rattle.std.specs.Int.Signed.{le_z}
 use Rattle.std.specs.Int.{w32}
@@ -57,7 +57,7 @@ pub within : (s : Sign) (n : ℕ) → in_keys (with_sign s n) ≡ between 0 (key
 unfolding in_keys with_sign key_limit
 within plus n = rw (le-leb 0 n (omega arith)) refl
 within minus zero = refl
-within minus (suc n) = rw (le-leb 0 (suc n) (omega arith), leb-suc-suc n 2147483647) (and_true (leb n 2147483647))
+within minus (suc n) = rw (le-leb 0 (suc n) (omega arith), leb-suc-suc n 2147483647) (and-true (leb n 2147483647))
 
 as_numeral : (s : Sign) (w : Word) → key_from s w ≡ cond (numeral 10 0 (key_limit s) w) (keys.Is (with_sign s (value w))) keys.No
 unfolding key_from numeral

@@ -2,7 +2,7 @@
 use Rattle.std.specs.Prelude.{◌≡◌, List, [], ◌∷◌, Bool, ℕ, ◌+◌, ◌≤◌, ◌<◌, leb, length, get_or}
 use Rattle.std.proofs.Math.Path.{refl, sym}
 use Rattle.std.proofs.Common.{ap, ◌∙◌, arith, rules, le-leb}
-use Rattle.std.proofs.Math.Bool.{true, false, cond, and_false}
+use Rattle.std.proofs.Math.Bool.{true, false, cond, and-false}
 use Rattle.std.proofs.lemmas.Bool.{lt-leb}
 use Rattle.lists.proofs.Laws.Booleans.{and_left, and_right}
 use Rattle.grammar.specs.Bytes.{between}
@@ -27,7 +27,7 @@ pub within_low : (lo hi : ℕ) {d : ℕ} → d < lo → ◌≡◌ {A = ℕ} 0 (c
 within_low lo hi {d} h = rw (lt-leb lo d h) refl
 
 pub within_high : (lo hi : ℕ) {d : ℕ} → hi < d → ◌≡◌ {A = ℕ} 0 (cond (between lo hi d) 1 0)
-within_high lo hi {d} h = rw (lt-leb d hi h, and_false (leb lo d)) refl
+within_high lo hi {d} h = rw (lt-leb d hi h, and-false (leb lo d)) refl
 
 pub within_yes : (lo hi : ℕ) {d : ℕ} → lo ≤ d → d ≤ hi → ◌≡◌ {A = ℕ} 1 (cond (between lo hi d) 1 0)
 within_yes lo hi {d} h k = rw (le-leb lo d h, le-leb d hi k) refl

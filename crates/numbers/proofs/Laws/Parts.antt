@@ -2,7 +2,7 @@
 use Rattle.std.specs.Prelude.{◌≡◌, List, [], ◌∷◌, ◌++◌, Bool, true, false, ℕ, ◌+◌, ◌-◌, ◌^◌, ◌≤◌, ◌<◌, leb}
 use Rattle.std.proofs.Math.Path.{refl}
 use Rattle.std.proofs.Common.{ap, ◌∙◌, append-nil, arith, rules}
-use Rattle.std.proofs.Math.Bool.{and_false}
+use Rattle.std.proofs.Math.Bool.{and-false}
 use borrow.Author.Tests.{eq-eqb, ne_eqb, le-leb, lt-leb}
 use Rattle.std.proofs.Math.ListN.{length}
 use Rattle.grammar.specs.Look.{Word}
@@ -74,13 +74,13 @@ module _ (source : Source) (text : List ℕ) (most lo hi at : ℕ) {run : Run} (
   unfolding numeral
   part_low h =
       let e : value ran.read < lo = omega (arith, is_value_lem) in
-      refused (rw (lt-leb lo (value ran.read) e) (and_false (digits 1 most ran.read)))
+      refused (rw (lt-leb lo (value ran.read) e) (and-false (digits 1 most ran.read)))
 
   pub part_high : hi < run.value → Parted source text most lo hi at No
   unfolding numeral
   part_high h =
       let e : hi < value ran.read = omega (arith, is_value_lem) in
-      refused (rw (lt-leb (value ran.read) hi e, and_false (leb lo (value ran.read))) (and_false (digits 1 most ran.read)))
+      refused (rw (lt-leb (value ran.read) hi e, and-false (leb lo (value ran.read))) (and-false (digits 1 most ran.read)))
 
   module _ (some : run.count ≡ 0 → ⊥) (low : lo ≤ run.value) (high : run.value ≤ hi) where
     right : numeral most lo hi ran.read ≡ true

@@ -2,7 +2,7 @@
 use Rattle.std.specs.Prelude.{◌≡◌, refl, List, [], Bool, true, false, not, ℕ, suc, ◌+◌, ◌*◌, ◌-◌, ◌^◌, ◌≤◌, ◌<◌, leb}
 use Rattle.std.proofs.Math.Path.{sym}
 use Rattle.std.proofs.Common.{◌∙◌, rules}
-use Rattle.std.proofs.Math.Bool.{and_false}
+use Rattle.std.proofs.Math.Bool.{and-false}
 use native.Mathlib.Omega.{arith}
 use borrow.Author.Tests.{le-leb, lt-leb, not-true, not-false}
 use Rattle.grammar.specs.Bytes.{blank}
@@ -73,7 +73,7 @@ digit_low b h = rw (lt-leb 48 b h) refl
 
 pub digit_high : (b : ℕ) → 57 < b → digit b ≡ false
 unfolding digit
-digit_high b h = rw (lt-leb b 57 h) (and_false (leb 48 b))
+digit_high b h = rw (lt-leb b 57 h) (and-false (leb 48 b))
 
 pub running_start : {source : Source} {text : List ℕ} {most before at : ℕ} → (most ≤ 15) × (before < 10 ^ (15 - most))
     → Running source text most before at before 0 at

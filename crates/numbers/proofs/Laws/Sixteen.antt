@@ -2,7 +2,7 @@
 use Rattle.std.specs.Prelude.{◌≡◌, refl, List, [], ◌∷◌, ◌++◌, Bool, true, false, ◌&&◌, drop, not}
 use Rattle.std.proofs.Math.Path.{sym}
 use Rattle.std.proofs.Common.{ap, ◌∙◌, le-leb, pow-suc, add-one, rules, ne_eqb}
-use Rattle.std.proofs.Math.Bool.{and_false, and_true}
+use Rattle.std.proofs.Math.Bool.{and-false, and-true}
 use Prim.Native.Nat.{ℕ, zero, suc, ◌+◌, ◌*◌, ◌-◌, ◌^◌, ◌≤◌, ◌<◌}
 use native.Mathlib.Omega.{arith}
 use Rattle.grammar.specs.Look.{Word}
@@ -36,14 +36,14 @@ sixteen_from (suc m) (a ∷ l) = decimal a && (right_at m (decimal_value a) && s
 swap : (a b x y : Bool) → ((a && x) && (b && y)) ≡ (a && (b && (x && y)))
 swap false b x y = refl
 swap true true x y = refl
-swap true false x y = and_false x
+swap true false x y = and-false x
 
 regroup : (a x y : Bool) → ((a && x) && y) ≡ (a && (x && y))
 regroup true x y = refl
 regroup false x y = refl
 
 drops : (a b : Bool) → (a && (b && false)) ≡ false
-drops true b = and_false b
+drops true b = and-false b
 drops false b = refl
 
 right_zero : (a : Word) → right_at 0 (decimal_value a) ≡ equal_to 1 a
@@ -72,9 +72,9 @@ R m a = right_at m (decimal_value a)
 last_four : (l : List Word) → (all decimal l && last_row l) ≡ sixteen_from 4 l
 unfolding sixteen_from all last_row
 last_four [] = refl
-last_four (a ∷ []) = and_false (all decimal (a ∷ [])) ∙ sym (drops (decimal a) (R 3 a))
-last_four (a ∷ b ∷ []) = and_false (all decimal (a ∷ b ∷ [])) ∙ sym (rw (drops (decimal b) (R 2 b)) (drops (decimal a) (R 3 a)))
-last_four (a ∷ b ∷ c ∷ []) = and_false (all decimal (a ∷ b ∷ c ∷ []))
+last_four (a ∷ []) = and-false (all decimal (a ∷ [])) ∙ sym (drops (decimal a) (R 3 a))
+last_four (a ∷ b ∷ []) = and-false (all decimal (a ∷ b ∷ [])) ∙ sym (rw (drops (decimal b) (R 2 b)) (drops (decimal a) (R 3 a)))
+last_four (a ∷ b ∷ c ∷ []) = and-false (all decimal (a ∷ b ∷ c ∷ []))
     ∙ sym (rw (drops (decimal c) (R 1 c), drops (decimal b) (R 2 b)) (drops (decimal a) (R 3 a)))
 last_four (a ∷ b ∷ c ∷ d ∷ []) =
     rw (right_zero d, right_one c, right_two b, right_three a)
@@ -82,9 +82,9 @@ last_four (a ∷ b ∷ c ∷ d ∷ []) =
     ∙ ap (λ z. decimal a && (equal_to 0 a && z))
     (swap (decimal b) (equal_to 0 b) (all decimal (c ∷ d ∷ [])) (equal_to 0 c && equal_to 1 d) ∙ ap (λ z. decimal b && (equal_to 0 b && z))
     (swap (decimal c) (equal_to 0 c) (all decimal (d ∷ [])) (equal_to 1 d) ∙ ap (λ z. decimal c && (equal_to 0 c && z))
-    (regroup (decimal d) true (equal_to 1 d) ∙ ap (λ z. decimal d && z) (sym (and_true (equal_to 1 d)))))))
+    (regroup (decimal d) true (equal_to 1 d) ∙ ap (λ z. decimal d && z) (sym (and-true (equal_to 1 d)))))))
 last_four (a ∷ b ∷ c ∷ d ∷ e ∷ l) =
-    and_false (all decimal (a ∷ b ∷ c ∷ d ∷ e ∷ l))
+    and-false (all decimal (a ∷ b ∷ c ∷ d ∷ e ∷ l))
     ∙ sym (rw (drops (decimal d) (R 0 d), drops (decimal c) (R 1 c), drops (decimal b) (R 2 b)) (drops (decimal a) (R 3 a)))
 
 by_count : (n : ℕ) (l : List Word) → (all decimal l && last_row (drop n l)) ≡ sixteen_from (n + 4) l

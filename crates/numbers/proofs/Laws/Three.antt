@@ -3,7 +3,7 @@ use Rattle.std.specs.Prelude.{◌≡◌, true, false, cond, ℕ, ◌+◌, ◌≤
 use Rattle.std.proofs.Math.Path.{refl, sym}
 use Rattle.std.proofs.Common.{ap, ◌∙◌, rules}
 use mathlib.Core.List.{List, [], ◌∷◌}
-use Rattle.std.proofs.Math.Bool.{and_false}
+use Rattle.std.proofs.Math.Bool.{and-false}
 use Rattle.grammar.specs.Look.{Word}
 use Rattle.lists.specs.Lists.{each}
 use Rattle.nodes.specs.Values.{value_there}
@@ -43,7 +43,7 @@ module _ (m n k : ℕ) where
   wrong_second : (a b : Word) (l : List Word) → whole 1 n b ≡ false → three_of m n k (a ∷ b ∷ l) ≡ threes.No
   unfolding three_of three
   wrong_second a b [] h = refl
-  wrong_second a b (c ∷ []) h = rw (h, and_false (whole 1 m a)) refl
+  wrong_second a b (c ∷ []) h = rw (h, and-false (whole 1 m a)) refl
   wrong_second a b (c ∷ d ∷ l) h = refl
 
   only_two : (a b : Word) → three_of m n k (a ∷ b ∷ []) ≡ threes.No
@@ -52,7 +52,7 @@ module _ (m n k : ℕ) where
 
   wrong_third : (a b c : Word) (l : List Word) → whole 1 k c ≡ false → three_of m n k (a ∷ b ∷ c ∷ l) ≡ threes.No
   unfolding three_of three
-  wrong_third a b c [] h = rw (h, and_false (whole 1 n b), and_false (whole 1 m a)) refl
+  wrong_third a b c [] h = rw (h, and-false (whole 1 n b), and-false (whole 1 m a)) refl
   wrong_third a b c (d ∷ l) h = refl
 
   four : (a b c d : Word) (l : List Word) → three_of m n k (a ∷ b ∷ c ∷ d ∷ l) ≡ threes.No
