@@ -23,6 +23,7 @@ pub ten : (k : ℕ) → 1 ≤ 10 ^ k
 ten k = powers 0 k (omega arith)
 
 pub grows : (m p : ℕ) → 1 ≤ p → m ≤ m * p
+grows m zero h = elim h [ ]
 grows m (suc p) h = let e : m * suc p ≡ m + m * p = omega arith in omega arith
 
 same_zero : (m p : ℕ) → 1 ≤ p → eqb (m * p) 0 ≡ eqb m 0
