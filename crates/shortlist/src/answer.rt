@@ -2,7 +2,7 @@
 use records::Index;
 
 // A range of indices whose records are of one type and structure.
-#[derive(Drop)]
+#[derive(Clone, Copy)]
 pub struct Model {
     pub first: Index,
     pub count: u64,

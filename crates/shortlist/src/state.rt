@@ -3,7 +3,7 @@ use records::Index;
 
 // The runs of records as numbers: 0 or the number of refusal, how many runs there are (none where refused), and of each its first index,
 // its length and its kind (32 for voxels, and the structure).
-#[derive(Drop)]
+#[derive(Clone, Copy)]
 pub struct Made {
     pub number: u64,
     pub count: usize,
@@ -13,7 +13,7 @@ pub struct Made {
 }
 
 // What has been seen of a list, entry by entry.
-#[derive(Drop)]
+#[derive(Clone, Copy)]
 pub struct Search {
     // what is asked: an index, a kind, and how many records there are
     pub index: Index,
