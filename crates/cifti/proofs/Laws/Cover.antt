@@ -1,8 +1,8 @@
--- THE RANGES OF MODELS: what is known of ranges in general (`lists/specs/Ranges`), of the indices that a model covers.
+-- THE RANGES OF MODELS: what is known of ranges in general (`lists/proofs/Laws/Tiled`), of the indices that a model covers.
 use Rattle.std.specs.Prelude.{◌≡◌, List, true, ℕ, ◌+◌, ◌<◌, ◌≤◌, length, get_or}
 use Rattle.lists.specs.Lists.{count, total}
 use Rattle.lists.specs.Ranges.{holds}
-use Rattle.lists.specs.Ranges as Ranges
+use Rattle.lists.proofs.Laws.Tiled as Ranges
 use Rattle.cifti.specs.Maps.{Model, covers}
 
 pub covers_yes : (n : ℕ) (m : Model) → m.offset ≤ n → n < m.offset + m.count → covers n m ≡ true
