@@ -1,0 +1,5 @@
+use Rattle.steps.proofs.Laws.Blocks.{quick-blocks}
+use Rattle.letters.proofs.blocks.block_quick.Goals as goal
+
+pub returns : goal.returns
+returns c = search quick-blocks
