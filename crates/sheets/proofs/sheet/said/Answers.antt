@@ -1,11 +1,9 @@
--- `sheets::sheet::said` meets its contract. Assumes nothing.
 use mathlib.Core.Path.{◌≡◌, ap, sym}
 use Prim.Native.Nat.{ℕ}
 use borrow.Author.Tests.{ne_eqb}
 use Rattle.records.specs.Width.{width_said}
 use Rattle.records.specs.Sheet.{bytes_said}
-use Rattle.sheets.proofs.sheet.said.Statement.{statement}
-use Rattle.sheets.proofs.sheet.said.Tie as tie
+use Rattle.sheets.proofs.sheet.said.Goals as goal
 
 five : (b : ℕ) → b ≡ 5 → 5 ≡ bytes_said b
 unfolding width_said bytes_said
@@ -19,10 +17,11 @@ neither : (b : ℕ) → (b ≡ 5 → ⊥) → (b ≡ 7 → ⊥) → 0 ≡ bytes_
 unfolding width_said bytes_said
 neither b h k = rw (ne_eqb b 5 h, ne_eqb b 7 k)
 
-pub said-spec : {M : Type 1} → statement M
-said-spec =
-    tie.close
-    (tie.spec
-    (λ c. five _ c.if1.true)
-    (λ c. seven _ c.if2.true)
-    (λ c. neither _ c.before.if1.false c.if2.false))
+pub returns-then-b-eq5 : goal.returns-then-b-eq5
+returns-then-b-eq5 c = five _ c.if-b-eq5.true
+
+pub returns-then-b-eq7 : goal.returns-then-b-eq7
+returns-then-b-eq7 c = seven _ c.if-b-eq7.true
+
+pub returns-else-b-eq7 : goal.returns-else-b-eq7
+returns-else-b-eq7 c = neither _ c.if-b-eq5.false c.if-b-eq7.false
