@@ -8,8 +8,7 @@ use Rattle.grammar.specs.Parser.{attributes_at, ends, closing}
 use Rattle.steps.specs.Step.{stepped}
 use Rattle.steps.specs.declared.Step.TheVariants.{To}
 use Rattle.steps.proofs.Laws.Attributes.{list_start_lem, list_ends}
-use Rattle.heads.proofs.attributes.attributes_end.Statement.{statement}
-use Rattle.heads.proofs.attributes.attributes_end.Tie as tie
+use Rattle.heads.proofs.attributes.attributes_end.Goals as goal
 
 -- as the list ends where nothing is noted yet
 none-there : (text : List ℕ) (at : ℕ) {t : Bool} → t ≡ ends closing (drop at text) → t ≡ true
@@ -19,11 +18,5 @@ none-there text at e f = list_ends text at sixteen sixteen 0 at (list_start_lem 
     sixteen : List ℕ
     sixteen = 0 ∷ 0 ∷ 0 ∷ 0 ∷ 0 ∷ 0 ∷ 0 ∷ 0 ∷ 0 ∷ 0 ∷ 0 ∷ 0 ∷ 0 ∷ 0 ∷ 0 ∷ 0 ∷ []
 
-pub attributes-end-spec : {M : Type 1} → statement M
-attributes-end-spec =
-    tie.close
-    (tie.spec
-    (λ c κs. search rules)
-    (λ c. search (none-there, rules))
-    (λ c κs. search rules)
-    (λ c. search rules))
+pub returns-then-tag_ends : goal.returns-then-tag_ends
+returns-then-tag_ends c = search (none-there, rules)
