@@ -2,7 +2,7 @@
 #![tactic(auto)]
 
 // The order of the bytes of every number: the most significant first, or the least.
-#[derive(Drop)]
+#[derive(Clone, Copy)]
 pub enum Order {
     MostFirst,
     LeastFirst,
@@ -10,7 +10,7 @@ pub enum Order {
 
 // The number of the refusal, or 0, and then how many lengths there are, the lengths in the header's order, and where the part that is the
 // header text starts in the file, and its length.
-#[derive(Drop)]
+#[derive(Clone, Copy)]
 pub struct Front {
     pub number: u64,
     pub count: u64,
@@ -21,7 +21,7 @@ pub struct Front {
 
 // What a walk over the list of extensions finds: whether it is a list, and where the body of the first of code 32 starts, and its length;
 // 0 and 0 where there is none.
-#[derive(Drop)]
+#[derive(Clone, Copy)]
 pub struct Taken {
     pub listed: bool,
     pub start: usize,
