@@ -1,0 +1,141 @@
+"""The wrong programs of the must-fail edits, and what the prover says of them.
+
+An edit, crates/NAME/must-fail/LABEL.edit, has one wrong program or several. Each of several begins with its name in a comment, `# NAME` or
+`# NAME: what is wrong`; one that is alone may have the edit's name. A comment may say what refuses it: `# refused in FILE: NAME`, a law, a
+test or a goal of a proof, or `# refused by FUNCTION`.
+"""
+import collections
+import pathlib
+import re
+
+import rooms
+
+# A wrong program: its changes, each a file, the text as it stands and the wrong one; what is said to refuse it.
+Program = collections.namedtuple("Program", "name changes place")
+NAMED = re.compile(r"# ([a-z][a-z_0-9]*)(:|$)")
+PLACE = re.compile(r"# refused (?:in (\S+): (\S+)|by (\S+))$")
+FUNCTION = re.compile(r"^ *(?:pub(?:\(\w+\))? )?(?:const )?(?:extern \"C\" )?fn (\w+)", re.M)
+# An error that is not the declaration's own: it rests on another that was refused.
+RESTS = re.compile(r"declarations? that depends? on|was not admitted|was rejected|were not admitted")
+ERROR = re.compile(r"^(?:\./)?(\S+?):\d+:\d+: error: (?:`([^`]*)`: )?(.*)")
+# What shows nothing of a contract: the text does not compile, or it names what is not there, or a proof does.
+UNFIT = re.compile(r"error\[[\w-]+\]|is not in scope|that can be named from here|has no field|is no name|operand is missing|expected the end|"
+                   r"cannot continue|does not define it")
+
+
+def edits(names=()):
+    """The edits of all crates, or of the named ones."""
+    found = sorted((rooms.ROOT / "crates").glob("*/must-fail/*.edit"))
+    return [edit for edit in found if not names or edit.parent.parent.name in names]
+
+
+def programs(edit):
+    """The wrong programs of an edit, by their names."""
+    name, file, old, found, told = edit.stem, "", "", {}, {}
+    for line in edit.read_text(encoding="utf-8").splitlines():
+        if PLACE.match(line):
+            path, lemma, function = PLACE.match(line).groups()
+            told[name] = (path, lemma or function)
+        elif NAMED.match(line):
+            name = NAMED.match(line).group(1)
+        elif line.startswith("file: "):
+            file = line.removeprefix("file: ").strip()
+        elif line.startswith("old: "):
+            old = line.removeprefix("old: ")
+        elif line.startswith("new:"):
+            found.setdefault(name, []).append((file, old, line.removeprefix("new:").removeprefix(" ")))
+    return {name: Program(name, changes, told.get(name)) for name, changes in found.items()}
+
+
+def function_at(crate, file, text):
+    """The function of a crate in which a text stands, behind its modules; nothing outside of functions."""
+    source = (crate / file).read_text(encoding="utf-8")
+    if text not in source:
+        return None
+    before = FUNCTION.findall(source, 0, source.index(text) + len(text))
+    modules = [part for part in pathlib.Path(file).with_suffix("").parts[1:] if part not in ("lib", "main", "mod")]
+    return (*modules, before[-1]) if before else None
+
+
+def functions_of(crate, program):
+    """The functions that a wrong program changes."""
+    code = [function_at(crate, file, old) for file, old, _ in program.changes if file.endswith(".rt")]
+    return {function for function in code if function}
+
+
+def own_errors(said):
+    """The errors that are a declaration's own: of each the file, the declaration and what is said."""
+    found = (ERROR.match(line) for line in said.splitlines())
+    return [one.groups() for one in found if one and one.group(2) and not RESTS.search(one.group(3))]
+
+
+def open_goals(said):
+    """The goals that the search did not prove: of each the function, with its modules, and the goal."""
+    for crate, function, told in re.findall(r"^fn (\w+)::(\S+): (?:no proof|not proved)(.*)$", said, re.M):
+        goals = re.search(r"`search` did not prove ((?:`[^`]*`(?:, | and )?)+)", told)
+        for goal in re.findall(r"`([^`]*)`", goals.group(1)) if goals else []:
+            yield tuple(function.split("::")), goal
+
+
+def function_refused(said, function):
+    """Whether a function is not proved for a reason of its own: an error of its proof, or a goal that is left open."""
+    *modules, name = function
+    folder = re.escape("/".join(["proofs", *modules]))
+    proof = re.compile(rf"{folder}/(?:{name}|\+(?:\w+_)?{name}(?:_\w+)?)/\w+\.antt")
+    return any(proof.fullmatch(file) for file, _, _ in own_errors(said)) or any(of == tuple(function) for of, _ in open_goals(said))
+
+
+def place_refused(said, place):
+    """Whether what is said to refuse a wrong program has an error of its own."""
+    path, name = place
+    if path is None:
+        return any(function_refused(said, of) for of in functions_said(said) if of[-1] == name.split("::")[-1])
+    if any((file, declaration) == (path, name) for file, declaration, _ in own_errors(said)):
+        return True
+    of = pathlib.PurePath(path).parts[1:-1]
+    return any((function, goal) == (of, name) for function, goal in open_goals(said))
+
+
+def functions_said(said):
+    """The functions of which the check says that they are not proved."""
+    return [tuple(function.split("::")) for function in re.findall(r"^fn \w+::(\S+): (?:no proof|not proved)", said, re.M)]
+
+
+def refused(said, crate, program):
+    """Whether a wrong program is refused for a reason of its own."""
+    if program.place:
+        return place_refused(said, program.place)
+    functions = functions_of(crate, program)
+    if functions:
+        return any(function_refused(said, function) for function in functions)
+    return bool(own_errors(said)) or any(open_goals(said))
+
+
+def unfit(said):
+    """The first line that says that a text or a proof does not fit, which shows nothing."""
+    return next((line for line in said.splitlines() if "error" in line and UNFIT.search(line)), "")
+
+
+def apply(room, changes):
+    """Makes changes in a room; what cannot be made."""
+    for file, old, new in changes:
+        path = room / file
+        text = path.read_text(encoding="utf-8") if path.is_file() else ""
+        if text.count(old) != 1:
+            return f"`{old.strip()}` stands {text.count(old)} times in {file}, and not once"
+        path.write_text(text.replace(old, new), encoding="utf-8")
+    return ""
+
+
+def tried(name, changes):
+    """What a check of a crate with these changes says; and why it shows nothing, if so."""
+    with rooms.room(name) as room:
+        why = apply(room, changes)
+        if why:
+            return "", why
+        status, said = rooms.check(room)
+    if status == 0:
+        return said, "it is proved"
+    if not re.search(r"^logic=not-proved", said, re.M):
+        return said, unfit(said) or f"the check gave no verdict: {said.strip().splitlines()[-1] if said.strip() else 'it said nothing'}"
+    return said, unfit(said)
