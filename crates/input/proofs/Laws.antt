@@ -1,3 +1,4 @@
+pub mod Came
 pub mod Lengths
 pub mod Line
 pub mod Parts

@@ -1,7 +1,6 @@
 -- THE FIRST LINE: lengths, whole numbers with commas, no blanks, ended by a line feed.
 use Rattle.std.specs.Prelude.{List, [], ◌∷◌, cond, ℕ, ◌-◌, eqb, length, get_or, take}
 use Rattle.std.proofs.Math.Option.{Option, some}
-use Rattle.std.proofs.Math.Option
 use Rattle.lists.specs.Lists.{all, each}
 use Rattle.grammar.specs.Look.{Word}
 use Rattle.numbers.specs.Numbers.{digits, value, parts, comma}

@@ -1,8 +1,8 @@
-// Bytes of standard input. Which bytes come is the system's, so only their number is promised.
+// Bytes of a stream. Which bytes come is the system's where the stream is standard input, so only their number is promised.
 ghost use Rattle.std.specs.Prelude.{length};
-ghost use Rattle.input.specs.Arrived.{Arrived};
+ghost use Rattle.input.specs.Arrived.{Arrived, Took};
 
-use libc::STDIN_FILENO;
+use std::io::Read;
 
 // How many bytes came, or that a read failed.
 #[derive(Drop)]
@@ -12,26 +12,29 @@ pub struct Came {
 }
 
 // Until the bytes lent are full, or the input ends.
-pub fn read_bytes(bytes: &mut [u8]) -> Came
-    ensures { Arrived (length bytes.new) result }
+pub fn read_bytes<R: Read>(from: &mut R, bytes: &mut [u8]) -> Came
+    ensures arrived { Arrived (length bytes.new) result }
+    ensures took { Took (R.remaining from.old) (R.remaining from.new) bytes.new result }
 {
     let mut n = 0;
     while n < bytes.len() {
-        let got = libc::read(STDIN_FILENO, &mut bytes[n..]);
-        if got < 0 {
-            return Came {
-                count: 0,
-                failed: true,
-            };
+        match from.read(&mut bytes[n..]) {
+            Ok(more) => {
+                if more == 0 {
+                    return Came {
+                        count: n,
+                        failed: false,
+                    };
+                }
+                n += more;
+            }
+            Err(_) => {
+                return Came {
+                    count: 0,
+                    failed: true,
+                };
+            }
         }
-        let more = io::count(got, &bytes[n..]);
-        if more == 0 {
-            return Came {
-                count: n,
-                failed: false,
-            };
-        }
-        n += more;
     }
     Came {
         count: n,
