@@ -1,10 +1,8 @@
 -- FRONT-CUT: where the data offset is not past the bytes, the front of a file is the front of the bytes before it. So a caller may read no
 -- further than that.
-use Rattle.std.specs.Prelude.{◌≡◌, List, [], Bool, ◌&&◌, ◌||◌, ℕ, ◌+◌, ◌-◌, ◌*◌, ◌≤◌, ◌<◌, ltb, pos, length, get_or}
+use Rattle.std.specs.Prelude.{◌≡◌, List, Bool, ◌&&◌, ◌||◌, ℕ, ◌+◌, ◌*◌, ◌≤◌, ◌<◌, ltb, pos, length, get_or}
 use Rattle.std.proofs.Math.Path.{refl, sym, ap}
 use Rattle.std.proofs.Common.{◌∙◌, arith, get_or-take, length-take-le}
-use Rattle.std.proofs.Math.Option.{Option}
-use Rattle.std.proofs.Math.Option
 use Rattle.std.proofs.Math.Bool.{true, false, not}
 use Rattle.std.proofs.Math.Decide.{dec_lt}
 use Rattle.std.proofs.Math.ListN.{take}

@@ -1,0 +1,6 @@
+use borrow.Author.Rules.{rules}
+use Rattle.nifti.proofs.Laws.Header.{four_joined, four_below}
+use Rattle.front.proofs.fields.joined.Goals as goal
+
+pub returns : goal.returns
+returns c = search (four_joined, four_below, rules)

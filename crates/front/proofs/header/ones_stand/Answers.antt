@@ -1,0 +1,12 @@
+use borrow.Author.Rules.{rules}
+use Rattle.nifti.proofs.Laws.Header.{counting-down, one_yes, one_no}
+use Rattle.front.proofs.header.ones_stand.Goals as goal
+
+pub returns-then-eight-ne1 : goal.returns-then-eight-ne1
+returns-then-eight-ne1 c = search (counting-down, one_yes, one_no, rules)
+
+pub loop-i-preserved : goal.loop-i-preserved
+loop-i-preserved c = search (counting-down, one_yes, one_no, rules)
+
+pub returns : goal.returns
+returns c = search (counting-down, one_yes, one_no, rules)

@@ -1,0 +1,9 @@
+use borrow.Author.Rules.{rules}
+use Rattle.nifti.proofs.Laws.Header.{order_most, order_least}
+use Rattle.front.proofs.header.order_of.Goals as goal
+
+pub returns-then-four-eq540 : goal.returns-then-four-eq540
+returns-then-four-eq540 c = search (order_most, order_least, rules)
+
+pub returns : goal.returns
+returns c = search (order_most, order_least, rules)

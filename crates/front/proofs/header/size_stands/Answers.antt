@@ -1,0 +1,6 @@
+use borrow.Author.Rules.{rules}
+use Rattle.nifti.proofs.Laws.Header.{size_test}
+use Rattle.front.proofs.header.size_stands.Goals as goal
+
+pub returns : goal.returns
+returns c = search (size_test, rules)
