@@ -3,7 +3,7 @@ use numbers::Decimal;
 use records::Place;
 
 // What a matrix dimension is; None: there is no such dimension, or the answer is a refusal.
-#[derive(Drop)]
+#[derive(Clone, Copy)]
 pub enum Kind {
     None,
     Brain,
@@ -13,7 +13,7 @@ pub enum Kind {
 }
 
 // All zero where the dimension is no series. The unit: 0 second, 1 hertz, 2 meter, 3 radian.
-#[derive(Drop)]
+#[derive(Clone, Copy)]
 pub struct Series {
     pub start: Decimal,
     pub step: Decimal,
@@ -22,7 +22,7 @@ pub struct Series {
 }
 
 // The stretch of a brain map begins at `start`; it is 0 for other kinds.
-#[derive(Drop)]
+#[derive(Clone, Copy)]
 pub struct Dimension {
     pub kind: Kind,
     pub length: u64,
@@ -31,7 +31,7 @@ pub struct Dimension {
 }
 
 // The number of the refusal, or 0; a refused answer is zero but for its number.
-#[derive(Drop)]
+#[derive(Clone, Copy)]
 pub struct Answer {
     pub number: u64,
     pub dimensions: [Dimension; 3],

@@ -37,7 +37,7 @@ pub enum Key {
 }
 
 // A decimal as it is written: its digits with the sign, and one power of ten, the written one less the places. 2.0 is 20 with power -1.
-#[derive(Drop)]
+#[derive(Clone, Copy)]
 pub struct Decimal {
     pub amount: i64,
     pub power: i64,
