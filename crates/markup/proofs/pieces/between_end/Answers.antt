@@ -1,0 +1,11 @@
+use Rattle.steps.proofs.Laws.Between.{passing}
+use Rattle.markup.proofs.pieces.between_end.Goals as goal
+
+pub loop-k-smaller : goal.loop-k-smaller
+loop-k-smaller c = search passing
+
+pub loop-k-preserved : goal.loop-k-preserved
+loop-k-preserved c = search passing
+
+pub returns-in-No : goal.returns-in-No
+returns-in-No c = search passing

@@ -1,0 +1,12 @@
+use Rattle.steps.proofs.Laws.Steps.{span_all}
+use Rattle.steps.proofs.Laws.Blocks.{near-spanning}
+use Rattle.markup.proofs.pieces.plain_end.Goals as goal
+
+pub returns-then-text-i : goal.returns-then-text-i
+returns-then-text-i c = search (near-spanning, span_all)
+
+pub returns-then-not-is_plain : goal.returns-then-not-is_plain
+returns-then-not-is_plain c = search near-spanning
+
+pub loop-k-preserved : goal.loop-k-preserved
+loop-k-preserved c = search near-spanning
