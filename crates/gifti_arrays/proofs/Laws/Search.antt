@@ -10,7 +10,7 @@ use Rattle.nodes.specs.Places.{the}
 use Rattle.nodes.specs.declared.Kid.{Kid}
 use Rattle.nodes.specs.declared.Kid.TheVariants.{Child, Done}
 use Rattle.label_table.specs.Labels.{first_label}
-use Rattle.label_table.proofs.Laws.Labels.{row}
+use Rattle.label_table.specs.Walks.{row}
 use Rattle.label_table.specs.Codes.{codes_at}
 use Rattle.label_table.proofs.Laws.Walks.{come_first, come_done}
 use Rattle.label_table.specs.Walks.{to_come}

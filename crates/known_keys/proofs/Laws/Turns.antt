@@ -19,7 +19,7 @@ use Rattle.nodes.specs.declared.Kid.TheVariants.{Child, Done}
 use Rattle.numbers.specs.Numbers.{in_keys, same_key}
 use Rattle.lists.specs.Reordered.{member}
 use Rattle.label_table.specs.Labels.{labels, key_here, table_keys_at, next_label}
-use Rattle.label_table.proofs.Laws.Labels.{row}
+use Rattle.label_table.specs.Walks.{row}
 use Rattle.label_table.specs.Codes.{code_of, code_here, codes_at}
 use Rattle.label_table.proofs.Laws.Codes.{code_small, code_same, here_in}
 use Rattle.label_table.proofs.Laws.Walks.{come_more, walk_less}

@@ -30,6 +30,7 @@ use Rattle.inside.specs.Treads.{called}
 use Rattle.inside.proofs.Laws.Treads.{ahead, next_ahead, places_done, places_child, called_is}
 use Rattle.label_table.specs.Labels.{labels_from, labels, first_or_done, label_from, first_label, next_label, key_or_zero, key_here}
 use Rattle.label_table.specs.Labels.{table_keys_at, has_key, label_with, keys_written}
+use Rattle.label_table.specs.Walks.{row}
 
 -- ---- From a child to the first Label.
 
@@ -100,10 +101,6 @@ module _ (text : List ℕ) (at : ℕ) {f : Found} (e : f ≡ place text at (asci
 pub ruleset keying = (key_missing, key_there, key_none, rules)
 
 -- ---- From Label to Label: what is still to come.
-
-unfoldable pub row : List ℕ → Kid → List ℕ
-row text Done = []
-row text (Child k) = k ∷ labels_from text (next text k)
 
 row_none : (text : List ℕ) (kid : Kid) → ahead text kid ≤ 0 → row text (label_from text kid) ≡ labels_from text kid
 unfolding label_from first_or_done row ahead

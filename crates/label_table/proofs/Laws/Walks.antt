@@ -6,9 +6,9 @@ use Rattle.lists.specs.Lists.{each}
 use Rattle.nodes.specs.declared.Kid.{Kid}
 use Rattle.nodes.specs.declared.Kid.TheVariants.{Child, Done}
 use Rattle.label_table.specs.Labels.{first_label, next_label}
-use Rattle.label_table.proofs.Laws.Labels.{row, row_first, row_done, row_next}
+use Rattle.label_table.proofs.Laws.Labels.{row_first, row_done, row_next}
 use Rattle.label_table.specs.Codes.{code_here, codes_at}
-use Rattle.label_table.specs.Walks.{to_come}
+use Rattle.label_table.specs.Walks.{row, to_come}
 
 module _ (text : List ℕ) {kid kid₁ : Kid} {k : ℕ} (is_child : kid ≡ Child k) (e : kid₁ ≡ next_label text k) where
   pub walk_less : length (row text kid₁) < length (row text kid)

@@ -1,6 +1,6 @@
 use lib.ListN.{length}
 use borrow.Author.Rules.{rules}
-use Rattle.label_table.proofs.Laws.Labels.{row}
+use Rattle.label_table.specs.Walks.{row}
 use Rattle.key_twice.proofs.Laws.Parts.{meeting, Meeting, meeting_found}
 use Rattle.key_twice.proofs.parts.one_sifted.Statement.{statement}
 use Rattle.key_twice.proofs.parts.one_sifted.Tie as tie

@@ -1,5 +1,5 @@
 use lib.ListN.{length}
-use Rattle.label_table.proofs.Laws.Labels.{row}
+use Rattle.label_table.specs.Walks.{row}
 use Rattle.known_keys.proofs.Laws.Turns.{gathering, Gathering}
 use Rattle.known_keys.proofs.turns.gather.Statement.{statement}
 use Rattle.known_keys.proofs.turns.gather.Tie as tie
