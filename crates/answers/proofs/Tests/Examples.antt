@@ -1,5 +1,5 @@
 -- FURTHER TEXTS, by the number they get: each condition at its edges, in the first map and in the second; and what accepted texts answer.
-use Rattle.std.specs.Prelude.{◌≡◌, refl, List, [], ◌∷◌, true, ℕ, zero, suc, eqb, pos, negsuc, length}
+use Rattle.std.specs.Prelude.{◌≡◌, refl, List, [], ◌∷◌, true, ℕ, zero, suc, eqb, pos, negsuc}
 use Rattle.lists.specs.Lists.{all}
 use Rattle.grammar.specs.Bytes.{◌⊹◌, ascii}
 use Rattle.cifti.specs.Answer.{unused, no_series, refused_with}
