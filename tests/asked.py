@@ -19,7 +19,7 @@ sys.path[:0] = [str(HERE), str(HERE.parent / "python")]
 
 import asked_files  # noqa: E402
 import dzwonolin  # noqa: E402
-import emulation  # noqa: E402
+import served  # noqa: E402
 from paper import RECORDS_A, SHEET_A, SHEET_OF_FIVE  # noqa: E402
 
 LISTER = HERE.parent / "target" / "bin" / "lister"
@@ -57,7 +57,7 @@ def shown(answer):
 def listed(line, text, fed, more):
     """What the lister prints; too much text is the text and blanks."""
     given = line + b"\n" * fed + (text.ljust(32769) if more else text)
-    return subprocess.run(emulation.command(LISTER), input=given, capture_output=True, timeout=60).stdout
+    return subprocess.run(LISTER, input=given, capture_output=True, timeout=60).stdout
 
 
 def on_texts():
@@ -97,7 +97,7 @@ def on_sheets():
 
 
 def main():
-    emulation.ready(dzwonolin)
+    served.ready(dzwonolin)
     wrong = asked = 0
     for what, answers in (("texts", on_texts()), ("files", on_files()), ("sheets", (line.encode() for line in on_sheets()))):
         wanted = (HERE / "asked" / f"{what}.answers").read_bytes()

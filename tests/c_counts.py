@@ -1,17 +1,18 @@
 """examples/c/counts.c, as C and as C++, with warnings as errors, linked in the three usual ways and run on a file.
 
     python3 tests/c_counts.py
-It is built by the kit's compiler for x86-64, with the few headers under tests/emulated, and run as the kit runs programs, under its
-emulator where the machine is another. Where the machine has compilers of its own, they read it too, with its own headers.
+It is built by the kit's compiler for x86-64, with the few headers under tests/plain_c. Where the machine has compilers of its own, they
+read it too, with its own headers.
 """
+import os
 import pathlib
 import shutil
 import struct
 import subprocess
 import tempfile
 
-import emulation
 import paper
+import served
 
 ROOT = pathlib.Path(__file__).resolve().parent.parent
 SOURCE = ROOT / "examples" / "c" / "counts.c"
@@ -41,7 +42,7 @@ def built(tools, libraries, headers, scratch, language, way):
     words, linked = ways(libraries)[way]
     compiled, program, parts = scratch / "counts.o", scratch / f"counts_{way}", tools / "lib"
     subprocess.run([tools / "bin" / "clang", "--target=x86_64-unknown-linux-gnu", "-nostdinc", "-fPIE",
-                    "-I", ROOT / "tests" / "emulated", "-I", headers, *LANGUAGES[language], *WARNINGS, *words,
+                    "-I", served.PLAIN_C, "-I", headers, *LANGUAGES[language], *WARNINGS, *words,
                      "-c", SOURCE, "-o", compiled], check=True)
     subprocess.run([tools / "bin" / "ld.lld", "-pie", "-dynamic-linker", "/lib64/ld-linux-x86-64.so.2", parts / "Scrt1.o", parts / "crti.o",
                     parts / "crtbeginS.o", compiled, *linked, parts / "libc.so.6", parts / "libc_nonshared.a", parts / "libgcc.a",
@@ -49,16 +50,15 @@ def built(tools, libraries, headers, scratch, language, way):
     return program
 
 
-def run(tools, libraries, program, file):
+def run(libraries, program, file):
     """Its status, and what it wrote."""
-    command = emulation.command(program)
-    command[command.index(tools / "lib")] = f"{tools / 'lib'}:{libraries}"
-    done = subprocess.run([*command, file], capture_output=True, text=True, timeout=60)
+    environment = {**os.environ, "LD_LIBRARY_PATH": str(libraries)}
+    done = subprocess.run([program, file], capture_output=True, text=True, timeout=60, env=environment)
     return done.returncode, done.stdout
 
 
 def wrong(libraries, headers):
-    tools = emulation.kit() / "toolchain"
+    tools = served.kit() / "toolchain"
     with tempfile.TemporaryDirectory() as name:
         scratch = pathlib.Path(name)
         good, bad, missing = scratch / "a.dscalar.nii", scratch / "b.nii", scratch / "c.nii"
@@ -67,7 +67,7 @@ def wrong(libraries, headers):
         for language, way in [(language, way) for language in LANGUAGES for way in ways(libraries)]:
             program = built(tools, libraries, headers, scratch, language, way)
             for file, wanted in ((good, (0, COUNTS_A)), (bad, (1, "refused 20\n")), (missing, (3, ""))):
-                got = run(tools, libraries, program, file)
+                got = run(libraries, program, file)
                 if got != wanted:
                     yield f"counts as {language}, {way}, {file.name}: {got}, wanted {wanted}"
 

@@ -14,11 +14,11 @@ HERE = pathlib.Path(__file__).resolve().parent
 sys.path[:0] = [str(HERE), str(HERE.parent / "python")]
 
 import dzwonolin  # noqa: E402
-import emulation  # noqa: E402
+import served  # noqa: E402
 
-emulation.ready(dzwonolin)
+served.ready(dzwonolin)
 BUILT = HERE.parent / "target" / "bin" / "outline"
-OUTLINE = emulation.command(BUILT)
+OUTLINE = [BUILT]
 
 # what a text writes is shown by the outline, where it is built
 passed_over = () if BUILT.exists() else ("document",)

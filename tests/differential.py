@@ -8,7 +8,7 @@
 
 Compared: the number, the whole answer, the records, what is left as it was (past the stretches, past the answer, on
 refusal, around every lent slice), and that the work space is zero; of the lister and the outline their whole output. The last line is
-'N compared, M differ'. Where the machine is not x86-64 the library and the lister run under the kit's emulator.
+'N compared, M differ'.
 """
 import argparse
 import array as arrays
@@ -24,7 +24,7 @@ HERE = pathlib.Path(__file__).resolve().parent
 sys.path[:0] = [str(HERE), str(HERE.parent / "python")]
 
 import dzwonolin  # noqa: E402
-import emulation  # noqa: E402
+import served  # noqa: E402
 import gifti_texts  # noqa: E402
 import dzwonolin_oracle as oracle  # noqa: E402
 import dzwonolin_oracle_gifti as oracle_gifti  # noqa: E402
@@ -271,12 +271,12 @@ def main():
     if given.module == "oracle":
         standin.install(dzwonolin)
     elif not (given.lister or given.outline):
-        emulation.ready(dzwonolin)
+        served.ready(dzwonolin)
     count = given.count if given.count is not None else 5000 if given.seconds is None else 1 << 40
     end = time.monotonic() + given.seconds if given.seconds is not None else float("inf")
     run = Comparison(given.show)
-    lister = emulation.command(given.lister) if given.lister else None
-    shows = emulation.command(given.outline) if given.outline else None
+    lister = [given.lister] if given.lister else None
+    shows = [given.outline] if given.outline else None
     if lister:
         run.limit_cards(lister)
     elif not shows:

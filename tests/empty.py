@@ -13,7 +13,7 @@ HERE = pathlib.Path(__file__).resolve().parent
 sys.path[:0] = [str(HERE), str(HERE.parent / "python")]
 
 import dzwonolin  # noqa: E402
-import emulation  # noqa: E402
+import served  # noqa: E402
 import paper  # noqa: E402
 import stations  # noqa: E402
 
@@ -94,7 +94,7 @@ def wrong():
 
 
 def main():
-    emulation.ready(dzwonolin)
+    served.ready(dzwonolin)
     bad = list(wrong())
     print("\n".join(bad) or "empty slices give the same with a null pointer as with another")
     return 1 if bad else 0

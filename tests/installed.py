@@ -2,8 +2,7 @@
 
     python3 tests/installed.py
 What is there, the line of pkg-config, the names that the shared library exports, the example in C against what is installed, and the
-command; the wheel and the Debian package hold the same. Where the machine is not x86-64 the command is not run, since Python cannot
-load the library: that the module finds it is asked.
+command; the wheel and the Debian package hold the same.
 """
 import base64
 import hashlib
@@ -22,9 +21,9 @@ ROOT = HERE.parent
 sys.path[:0] = [str(HERE), str(ROOT / "tools")]
 
 import c_counts  # noqa: E402
-import emulation  # noqa: E402
 import packing  # noqa: E402
 import paper  # noqa: E402
+import served  # noqa: E402
 
 FOUND = "import dzwonolin; print(next(str(place) for place in dzwonolin._places() if place.exists()))"
 VERSION = f"import dzwonolin; print(getattr(dzwonolin, '__version__', '{packing.version()}'))"
@@ -72,14 +71,12 @@ def of_install(base, file):
         line = said("pkg-config", "--cflags", "--libs", "dzwonolin", PKG_CONFIG_PATH=str(base / "lib" / "pkgconfig"))
         if line[1].split() != [f"-I{base}/include", f"-L{base}/lib", "-ldzwonolin"]:
             yield f"pkg-config says {line}"
-    tools = emulation.kit() / "toolchain"
-    program = c_counts.built(tools, base / "lib", base / "include", base, "C", "shared")
-    if c_counts.run(tools, base / "lib", program, file) != (0, c_counts.COUNTS_A):
+    program = c_counts.built(served.kit() / "toolchain", base / "lib", base / "include", base, "C", "shared")
+    if c_counts.run(base / "lib", program, file) != (0, c_counts.COUNTS_A):
         yield "the example against the installed library says something else"
-    if not emulation.needed():
-        status, card = said(sys.executable, str(base / "bin" / "dzwonolin"), "list", str(file))
-        if (status, card.encode()) != (0, paper.CARD_A):
-            yield f"the installed command says {status}, {card}"
+    status, card = said(sys.executable, str(base / "bin" / "dzwonolin"), "list", str(file))
+    if (status, card.encode()) != (0, paper.CARD_A):
+        yield f"the installed command says {status}, {card}"
 
 
 def of_wheel(wheel, folder):

@@ -18,7 +18,7 @@ sys.path[:0] = [str(ROOT / "tests"), str(ROOT / "python")]
 
 import documents  # noqa: E402
 import dzwonolin  # noqa: E402
-import emulation  # noqa: E402
+import served  # noqa: E402
 import texts  # noqa: E402
 
 STORED = ROOT.parent / "shared" / "cases" / "w11.jsonl"
@@ -71,7 +71,7 @@ def main():
     options.add_argument("--count", type=int, default=1500, help="documents to make")
     options.add_argument("--seed", type=int, default=1)
     given = options.parse_args()
-    emulation.ready(dzwonolin)
+    served.ready(dzwonolin)
     pairs = [pair(given.seed, number) for number in range(given.count)] + (list(stored()) if STORED.exists() else [])
     tried = accepted = differ = 0
     for name, first, second, *lent in filter(None, pairs):

@@ -92,8 +92,8 @@ def typed(module, word):
 def by_library():
     """What the library has wrong."""
     import dzwonolin
-    import emulation
-    emulation.ready(dzwonolin)
+    import served
+    served.ready(dzwonolin)
     for name, text, lengths, records, work, number in rows():
         got = dzwonolin.read(text, lengths, records, work).number
         if got != number:

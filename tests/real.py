@@ -102,8 +102,8 @@ def headers_or_skipped():
 def main():
     import differential
     import dzwonolin
-    import emulation
-    emulation.ready(dzwonolin)
+    import served
+    served.ready(dzwonolin)
     found, run = headers_or_skipped(), differential.Comparison(20)
     run.real(found)
     files = or_skipped("real GIFTI files", label_files)

@@ -23,7 +23,7 @@ ROOT = pathlib.Path(__file__).resolve().parent.parent
 sys.path[:0] = [str(ROOT / "tests"), str(ROOT / "python")]
 
 import dzwonolin_oracle as oracle  # noqa: E402
-import emulation  # noqa: E402
+import served  # noqa: E402
 import stations  # noqa: E402
 import texts  # noqa: E402
 
@@ -81,7 +81,7 @@ def fed(command, given, way, places):
 def main():
     right = []
     for name, inputs in (("lister", cards()), ("comparer", sheets())):
-        command = emulation.command(ROOT / "target" / "bin" / name)
+        command = [ROOT / "target" / "bin" / name]
         for given, wanted in inputs:
             with tempfile.TemporaryFile() as file:
                 file.write(given)

@@ -160,7 +160,7 @@ class Statuses(InFolder):
 
 class Program(InFolder):
     """The command as a program of its own."""
-    CODE = ("import sys; sys.path[:0] = {paths!r}\nimport dzwonolin, emulation\nif emulation.needed(): emulation.install(dzwonolin)\n"
+    CODE = ("import sys; sys.path[:0] = {paths!r}\nimport dzwonolin, served\nif served.needed(): served.install(dzwonolin)\n"
             "import dzwonolin_command; sys.argv[1:] = {words!r}\ndzwonolin_command.script()")
 
     def test_a_closed_pipe_ends_quietly(self):

@@ -71,14 +71,14 @@ class Opened(InFolder):
             except OSError:
                 self.skipTest("no sparse file of 30 GB here")
         before = resource.getrusage(resource.RUSAGE_SELF).ru_maxrss
-        if not dzwonolin_is_emulated():
+        if not dzwonolin_is_served():
             self.assertEqual(dzwonolin.open("large.nii").lengths, [2, 9])
         with dzwonolin._Lent("large.nii") as lent:
             self.assertEqual((lent.length, lent.cut(4, 3)), (30 << 30, b"n+2"))
         self.assertLess(resource.getrusage(resource.RUSAGE_SELF).ru_maxrss - before, 8192)
 
 
-def dzwonolin_is_emulated():
+def dzwonolin_is_served():
     return not isinstance(dzwonolin._library(), dzwonolin._Shared)
 
 

@@ -8,7 +8,7 @@ import unittest
 
 import dzwonolin
 import dzwonolin_reasons
-import emulation
+import served
 import paper
 import stations
 from users_asked import asked
@@ -55,14 +55,14 @@ class Words(unittest.TestCase):
             self.assertEqual(dzwonolin.Refused(number).reason, words)
 
     def test_dz_reason_compiles_without_a_warning(self):
-        clang = emulation.kit() / "toolchain" / "bin" / "clang"
+        clang = served.kit() / "toolchain" / "bin" / "clang"
         source = '#include "dzwonolin.h"\nconst char *words(void);\nconst char *words(void) { return dz_reason(DZ_NUMBER); }\n'
         for language in ("c", "c++"):
             with tempfile.NamedTemporaryFile("w", suffix=".c") as file:
                 file.write(source)
                 file.flush()
                 subprocess.run([clang, "--target=x86_64-unknown-linux-gnu", "-x", language, "-ffreestanding", "-Wall", "-Wextra", "-Werror",
-                                "-I", ROOT / "tests" / "emulated", "-I", ROOT / "include", "-fsyntax-only", file.name], check=True)
+                                "-I", served.PLAIN_C, "-I", ROOT / "include", "-fsyntax-only", file.name], check=True)
 
     def test_the_examples_are_as_they_are_made(self):
         for name, data in stations.FILES.items():

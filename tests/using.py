@@ -8,7 +8,6 @@ import doctest
 import io
 import os
 import pathlib
-import platform
 import shlex
 import shutil
 import subprocess
@@ -20,7 +19,7 @@ ROOT = HERE.parent
 sys.path[:0] = [str(HERE), str(ROOT / "python")]
 
 import dzwonolin  # noqa: E402
-import emulation  # noqa: E402
+import served  # noqa: E402
 from users_asked import asked  # noqa: E402
 
 PAGE = ROOT / "docs" / "USING.md"
@@ -75,25 +74,22 @@ class Shell:
         return "".join(out.splitlines(True)[:int(lines)] if lines else out) + err
 
     def compile(self):
-        """The program of the page; by the kit's compiler for x86-64, or the machine's own where it is that."""
+        """The program of the page, by the machine's own compiler, or the kit's where it has none."""
         source = next(block for block in blocks() if block.startswith("#include"))
         pathlib.Path("station.c").write_text(source + "\n")
         archive = ROOT / "target" / "libdzwonolin.a"
-        if platform.machine() == "x86_64" and shutil.which("cc"):
+        self.station = ["./station"]
+        if shutil.which("cc"):
             subprocess.run(["cc", "-Wall", "-Wextra", "-Werror", "station.c", "-I", ROOT / "include", archive, "-o", "station"], check=True)
-            self.station = ["./station"]
             return ""
-        tools = emulation.kit() / "toolchain"
-        subprocess.run([tools / "bin" / "clang", "--target=x86_64-unknown-linux-gnu", "-O2", "-fPIC", "-ffreestanding", "-Wall", "-Wextra",
-                        "-Werror", "-I", HERE / "using_c", "-I", HERE / "emulated", "-I", ROOT / "include", "-c", "station.c"], check=True)
-        subprocess.run([emulation.kit() / "bin" / "rattle-link", "--target", "x86_64-unknown-linux-gnu", "--toolchain", tools,
-                        "-o", "station", "station.o", archive], check=True, capture_output=True)
-        self.station = emulation.command(pathlib.Path("station").resolve())
+        subprocess.run([served.kit() / "toolchain" / "bin" / "clang", served.TARGET, "-O2", "-fPIC", "-ffreestanding", "-Wall", "-Wextra",
+                        "-Werror", "-I", HERE / "using_c", "-I", served.PLAIN_C, "-I", ROOT / "include", "-c", "station.c"], check=True)
+        served.linked("station", "station.o", archive)
         return ""
 
 
 def main():
-    emulation.ready(dzwonolin)
+    served.ready(dzwonolin)
     wrong, count = 0, 0
     with tempfile.TemporaryDirectory() as folder:
         shutil.copytree(ROOT / "examples", pathlib.Path(folder) / "examples")

@@ -1,17 +1,19 @@
-"""The library that ./library built, called under the kit's emulator, where the machine is not x86-64.
+"""The library that ./library built, as the tests call it: as it is, or in a program of its own.
 
-A small program over the archive (tests/emulated/serve.c) runs under the emulator, and each call of the Python module goes to
-it and back through a pipe. A library named in DZWONOLIN_LIBRARY is called as it is.
+Where DZWONOLIN_SERVED is 1 in the environment, a small program over the archive (tests/plain_c/serve.c), which the kit builds, runs beside
+the tests, and each call of the Python module goes to it and back through a pipe. It puts every slice between two marked stretches, and
+it is an error where a call writes past one or into one that is lent for reading.
 """
 import ctypes
 import os
 import pathlib
-import platform
 import struct
 import subprocess
 
 HERE = pathlib.Path(__file__).resolve().parent
 ROOT = HERE.parent
+PLAIN_C = HERE / "plain_c"
+TARGET = "--target=x86_64-unknown-linux-gnu"
 SHAPES = {"dz_read": "bnNNN", "dz_map_name": "bnvvN", "dz_find": "nvN", "dz_pack": "nBN", "dz_unpack": "bNN",
           "dz_front": "bN", "dz_read_file": "bNNN", "dz_file_map_name": "bvvN",
           "dz_model_list": "nNN", "dz_structure_at": "nvN", "dz_index_of": "nnvN",
@@ -20,37 +22,33 @@ SHAPES = {"dz_read": "bnNNN", "dz_map_name": "bnvvN", "dz_find": "nvN", "dz_pack
 
 
 def needed():
-    return platform.machine() not in ("x86_64", "amd64") and "DZWONOLIN_LIBRARY" not in os.environ
+    return os.environ.get("DZWONOLIN_SERVED") == "1"
 
 
 def kit():
-    """The kit's folder for this machine."""
+    """The kit's folder."""
     guide = subprocess.run(["rt", "doc"], check=True, capture_output=True, text=True).stdout.strip()
-    return pathlib.Path(guide).parents[1] / "on" / platform.machine()
+    return pathlib.Path(guide).parent
 
 
-def command(program):
-    """What runs a program that the kit linked: with the kit's C library, and where the machine is not x86-64 under its emulator."""
-    tools = kit() / "toolchain"
-    emulator = tools / "bin" / "qemu-x86_64"
-    return [*([emulator] if emulator.exists() else []), tools / "lib" / "ld-linux-x86-64.so.2", "--library-path", tools / "lib", program]
+def linked(program, *parts):
+    """A program of objects and archives, linked by the kit; it runs by itself."""
+    subprocess.run([kit() / "bin" / "rattle-link", "--target", "x86_64-unknown-linux-gnu", "--toolchain", kit() / "toolchain", "-o", program,
+                    *parts], check=True, capture_output=True)
 
 
 def build():
-    """The command that serves the library."""
+    """The program that serves the library."""
     archive = ROOT / "target" / "libdzwonolin.a"
     if not archive.exists():
         raise OSError(f"no {archive}: run ./library")
-    own = kit()
-    tools = own / "toolchain"
-    folder = ROOT / "target" / "emulated"
+    folder = ROOT / "target" / "served"
     folder.mkdir(parents=True, exist_ok=True)
-    source, compiled, program = HERE / "emulated" / "serve.c", folder / "serve.o", folder / "serve"
-    subprocess.run([tools / "bin" / "clang", "--target=x86_64-unknown-linux-gnu", "-O2", "-fPIC", "-ffreestanding",
-                    "-I", HERE / "emulated", "-I", ROOT / "include", "-c", source, "-o", compiled], check=True)
-    subprocess.run([own / "bin" / "rattle-link", "--target", "x86_64-unknown-linux-gnu", "--toolchain", tools, "-o", program,
-                    compiled, archive], check=True, capture_output=True)
-    return command(program)
+    source, compiled, program = PLAIN_C / "serve.c", folder / "serve.o", folder / "serve"
+    subprocess.run([kit() / "toolchain" / "bin" / "clang", TARGET, "-O2", "-fPIC", "-ffreestanding", "-I", PLAIN_C, "-I", ROOT / "include",
+                    "-c", source, "-o", compiled], check=True)
+    linked(program, compiled, archive)
+    return program
 
 
 class Library:
@@ -64,7 +62,7 @@ class Library:
     def take(self, count):
         got = self.server.stdout.read(count)
         if len(got) < count:
-            raise OSError("the program under the emulator ended")
+            raise OSError("the program that serves the library ended")
         return got
 
     def ask(self, number, shape, given):
@@ -97,9 +95,8 @@ def install(module):
 
 
 def ready(module):
-    """Makes the module call the built library: as it is, or under the emulator."""
+    """Makes the module call the built library: as it is, or in a program of its own."""
     if needed():
         install(module)
-        print("the library runs under the kit's emulator: this machine is", platform.machine())
     else:
         module._library()

@@ -1,4 +1,4 @@
-/* The library behind a pipe, for a machine that can only emulate x86-64: tests/emulation.py starts it.
+/* The library behind a pipe, in a program of its own: tests/served.py starts it.
 
    A question is the number of a function and its arguments, each slice as its length and its contents, all numbers of 64
    bits. The answer is what the function returned, whether all that it may not touch is as it was, and then each slice that
