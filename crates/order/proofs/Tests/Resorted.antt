@@ -5,7 +5,7 @@ use Rattle.std.proofs.Math.Option.{Option, some}
 use Rattle.std.proofs.Math.Option
 use Prim.Native.String.{String}
 use Rattle.lists.specs.Lists.{lists}
-use Rattle.lists.specs.Permuted as P
+use Rattle.lists.proofs.Laws.Permuted as P
 use Rattle.grammar.specs.Bytes.{ascii}
 use Rattle.grammar.specs.Document.{attribute, Element, element, Contents, nothing, child, run}
 use Rattle.grammar.specs.Look.{looks}
