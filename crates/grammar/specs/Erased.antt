@@ -1,8 +1,7 @@
 -- THE PAPER'S DOCUMENT: a root that has a name, attributes in order (name, decoded value), and contents in order: elements, and runs of
 -- decoded characters. An element of `Document` also keeps the bytes between its tags; `erased` drops them, and nothing else.
-use Rattle.std.specs.Prelude.{◌≡◌, List, [], ℕ}
+use Rattle.std.specs.Prelude.{◌≡◌, List, ℕ}
 use Rattle.std.proofs.Math.Option.{Option, some}
-use Rattle.std.proofs.Math.Option
 use Rattle.grammar.specs.Document.{Attribute, Element, element, Contents, nothing, child, run}
 use Rattle.grammar.specs.Grammar.{Writes}
 use Rattle.grammar.specs.Parser.{parse}

@@ -2,7 +2,6 @@
 -- the text.
 use Rattle.std.specs.Prelude.{List, [], ◌∷◌, ℕ, zero, suc, Bool, true, false, ◌&&◌, ◌||◌, not, eqb, leb, length}
 use Rattle.std.proofs.Math.Option.{Option, some}
-use Rattle.std.proofs.Math.Option
 use Rattle.grammar.specs.Bytes.{ascii, blank, name_start, name_byte, quote, special, begins, letter, skipped}
 unfoldable pub use Rattle.grammar.specs.Bytes.{same_bytes}
 use Rattle.grammar.specs.Characters.{lead1, lead2, lead3, lead4, continues, noncharacter}

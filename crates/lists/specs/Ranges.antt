@@ -5,7 +5,6 @@
 use Rattle.std.specs.Prelude.{◌≡◌, Bool, ◌&&◌, eqb}
 use mathlib.Core.List.{List, [], ◌∷◌}
 use Rattle.std.proofs.Math.Option.{Option, some}
-use Rattle.std.proofs.Math.Option
 use Rattle.std.proofs.Math.Bool.{cond}
 use Prim.Native.Nat.{ℕ, ◌+◌, ◌<◌}
 use Rattle.std.proofs.Math.Dec.{leb, ltb}
@@ -43,3 +42,8 @@ tiling l = all_below (sum_of l) (λ n. eqb (count (in_range n) l) 1)
 unfoldable pub begins_at : ℕ → List Range → Option Range
 begins_at c [] = Option.none
 begins_at c (r ∷ l) = cond (eqb r.offset c) (some r) (begins_at c l)
+
+-- an end of the chain
+pub data Chain (l : List Range) : ℕ → Type 0 where
+  start : Chain l 0
+  on : {c : ℕ} {r : Range} → Chain l c → begins_at c l ≡ some r → Chain l (c + r.size)

@@ -1,5 +1,5 @@
 -- Completeness, elements and documents: what the grammar writes, the parser reads.
-use Rattle.std.specs.Prelude.{◌≡◌, refl, List, [], ◌∷◌, ◌++◌, ℕ, suc, ◌+◌, ◌≤◌, ◌<◌, Bool, true, false, ◌&&◌, not, eqb, length}
+use Rattle.std.specs.Prelude.{◌≡◌, refl, List, [], ◌∷◌, ◌++◌, ℕ, suc, ◌≤◌, ◌<◌, Bool, true, false, ◌&&◌, not, eqb, length}
 use Rattle.std.proofs.Common.{append_assoc, append-nil, length-append, arith, ne_eqb}
 use Rattle.std.proofs.Math.Option.{some}
 use Rattle.std.proofs.lemmas.Bool.{not-true}

@@ -6,10 +6,10 @@ use mathlib.Core.List.{List, [], ◌∷◌, ◌++◌, append_assoc}
 use Rattle.std.proofs.Math.ListN.{length, length-append}
 use Rattle.std.proofs.Math.Seq.{take-append_seam}
 use Rattle.grammar.specs.Bytes.{Each, no_byte, a_byte, Sequence, no_more, one_more, SequenceUnless, none_more, and_more}
-use Prim.Native.Nat.{ℕ, zero, suc, ◌+◌, ◌-◌, ◌≤◌, ◌<◌}
+use Prim.Native.Nat.{ℕ, zero, suc, ◌-◌, ◌≤◌, ◌<◌}
 use Rattle.std.proofs.Math.Bool.{true, false}
 use Rattle.std.proofs.lemmas.Bool.{not-true}
-use Rattle.grammar.specs.Read.{Read, got, fail, Reader, bind, ◌>>=◌, ◌>>◌, test, mark, byte, span, stops, alt, many_step, many}
+use Rattle.grammar.specs.Read.{Read, got, fail, Reader, bind, test, mark, byte, span, stops, alt, many_step, many}
 use Rattle.grammar.specs.Read.{all_of, before, seen}
 
 -- what a result is held to: nothing where it failed

@@ -1,5 +1,5 @@
 -- What the readers below elements find, the text writes.
-use Rattle.std.specs.Prelude.{◌≡◌, refl, List, [], ◌∷◌, ◌++◌, ℕ, ◌+◌, Bool, true, false, ◌&&◌, not, eqb, leb, length}
+use Rattle.std.specs.Prelude.{◌≡◌, refl, List, [], ◌∷◌, ◌++◌, ℕ, Bool, true, false, ◌&&◌, not, eqb, leb, length}
 use Rattle.std.proofs.Common.{ap, append_assoc, append-nil, leb-true, eq-eqb}
 use Rattle.std.proofs.lemmas.Bool.{not-true}
 use Rattle.lists.proofs.Laws.Booleans.{and_left, and_right, or_left, or_right, clash}
@@ -15,7 +15,6 @@ use Rattle.grammar.specs.Grammar.{Skipped, Doctype, Prologue}
 use Rattle.grammar.proofs.Laws.Read.{Ok, good, bind_ok}
 use Rattle.grammar.proofs.Laws.Read.{ok_map, alt_ok, Takes, test_sound, mark_sound, byte_sound, span_sound, all_of_sound}
 use Rattle.grammar.proofs.Laws.Read.{TakesWhole, whole_takes, row_sound}
-use Rattle.grammar.specs.Parser
 use Rattle.grammar.specs.Parser.{name_at, gap_at, equals_at, CharacterWidth, one, two, three, four, width, rest_by, rest_at}
 use Rattle.grammar.specs.Parser.{literal_at, stands_for, reference_at, feed_if, feed_at, line_end_at, text_byte, text_at}
 use Rattle.grammar.specs.Parser.{spacing, space_at, value_byte, value_character_at, value_at}

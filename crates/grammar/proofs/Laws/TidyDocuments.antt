@@ -1,6 +1,6 @@
 -- A DOCUMENT IS AS THE PAPER SAYS: a name is a name, no name stands twice in a tag, at most 16 attributes, runs are never empty and never
 -- side by side, elements at most 16 deep. And it holds no carriage return.
-use Rattle.std.specs.Prelude.{List, [], ◌∷◌, ℕ, suc, ◌≤◌, length}
+use Rattle.std.specs.Prelude.{List, ◌∷◌, ℕ, suc, ◌≤◌, length}
 use Rattle.std.proofs.Common.{subst}
 use Rattle.grammar.specs.Document.{Attribute, Element, Contents}
 use Rattle.grammar.specs.Grammar.{Name, Distinct}

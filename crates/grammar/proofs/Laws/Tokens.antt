@@ -1,5 +1,5 @@
 -- Completeness, below elements: what a production writes, its reader reads, and it leaves what stands behind.
-use Rattle.std.specs.Prelude.{◌≡◌, refl, List, [], ◌∷◌, ◌++◌, ℕ, ◌+◌, ◌≤◌, ◌<◌, Bool, true, false, ◌&&◌, not, eqb, length}
+use Rattle.std.specs.Prelude.{◌≡◌, refl, List, [], ◌∷◌, ◌++◌, ℕ, ◌≤◌, ◌<◌, Bool, true, false, ◌&&◌, not, eqb, length}
 use Rattle.std.proofs.Common.{sym, append_assoc, length-append, arith, le-leb, eq-eqb, ne_eqb, eqb-true}
 use Rattle.std.proofs.lemmas.Bool.{lt-leb}
 use Rattle.lists.proofs.Laws.Booleans.{and_left, and_right, or_right, refute, not_so}

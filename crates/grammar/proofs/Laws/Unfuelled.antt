@@ -1,5 +1,5 @@
 -- What is proved of Unfuelled.
-use Rattle.std.specs.Prelude.{◌≡◌, refl, List, [], ℕ, zero, suc, ◌≤◌, ◌<◌, Bool, true, false, not, length}
+use Rattle.std.specs.Prelude.{◌≡◌, refl, List, ℕ, zero, suc, ◌≤◌, ◌<◌, Bool, true, false, not, length}
 use Rattle.std.proofs.Common.{ap, length-append, arith}
 use Rattle.grammar.specs.Bytes.{ascii, blank, begins}
 use Rattle.grammar.specs.Document.{Contents}

@@ -1,7 +1,5 @@
 -- Tags, each line computed: names, attributes, depth.
 use Rattle.std.specs.Prelude.{◌≡◌, refl, List, [], ◌∷◌, ◌++◌, ℕ, true}
-use Rattle.std.proofs.Math.Option.{Option}
-use Rattle.std.proofs.Math.Option
 use Rattle.lists.specs.Lists.{all}
 use Rattle.grammar.specs.Bytes.{ascii}
 use Rattle.grammar.specs.Parser.{computing}

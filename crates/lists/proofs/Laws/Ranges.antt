@@ -2,7 +2,6 @@
 use Rattle.std.specs.Prelude.{◌≡◌, refl, List, [], ◌∷◌, Bool, true, false, cond, length, get_or}
 use Rattle.std.proofs.Common.{sym, ap, ◌∙◌, subst, le_of_suc-le-suc, not-suc-le-zero, arith}
 use Rattle.std.proofs.Math.Option.{Option, some}
-use Rattle.std.proofs.Math.Option
 use Prim.Native.Nat.{ℕ, zero, suc, ◌+◌, ◌-◌, ◌<◌, ◌≤◌}
 use Rattle.std.proofs.Math.Decide.{dec_lt}
 use Rattle.std.proofs.Math.Dec.{eqb}
@@ -10,7 +9,7 @@ use borrow.Author.Tests.{eqb-true, eq-eqb}
 use Rattle.lists.proofs.Laws.Booleans.{refute, both_ways, never_some}
 use Rattle.lists.specs.Lists.{count, total, count_up}
 use Rattle.lists.proofs.Laws.Quantifiers.{OnePlace, count_one_iff, all_below_iff}
-use Rattle.lists.specs.Ranges.{OnceBelow, Range, in_range, sum_of, tiling, begins_at}
+use Rattle.lists.specs.Ranges.{OnceBelow, Range, in_range, sum_of, tiling, begins_at, Chain, start, on}
 use Rattle.lists.proofs.Laws.Tiled.{holds_is, holds_yes, ranges_within, held_once}
 
 -- every range holds one index at least
@@ -30,11 +29,6 @@ in_range_lem = holds_yes (λ (r : Range). r.offset) (λ (r : Range). r.size)
 
 range_in : (n : ℕ) (r : Range) → in_range n r ≡ true → (r.offset ≤ n) × (n < r.offset + r.size)
 range_in = holds_is (λ (r : Range). r.offset) (λ (r : Range). r.size)
-
--- an end of the chain
-pub data Chain (l : List Range) : ℕ → Type 0 where
-  start : Chain l 0
-  on : {c : ℕ} {r : Range} → Chain l c → begins_at c l ≡ some r → Chain l (c + r.size)
 
 nowhere : Range
 nowhere = record { offset = 0; size = 0 }

@@ -6,8 +6,8 @@ use Rattle.std.proofs.Math.Option.{some}
 use Rattle.std.proofs.Math.Option
 use Rattle.std.proofs.lemmas.Bool.{eqb-false}
 use Rattle.lists.specs.Lists.{count_up, tabulated, total}
-use Rattle.lists.specs.Ranges.{Range, sum_of, tiling, begins_at}
-use Rattle.lists.proofs.Laws.Ranges.{Chain, start, on, Counting, counting_up, chain_through, chain_past}
+use Rattle.lists.specs.Ranges.{Range, sum_of, tiling, begins_at, Chain, start, on}
+use Rattle.lists.proofs.Laws.Ranges.{Counting, counting_up, chain_through, chain_past}
 use Rattle.lists.proofs.Laws.Ranges.{chain_stops}
 use Rattle.models.specs.Gathered.{Sized}
 use Rattle.models.specs.Ranges.{range_of, ranges_of, range_if, Ranged}
