@@ -3,7 +3,6 @@
 -- rules of their own. `bytes_in` finds the bytes; that it finds them exactly is `bytes_iff` of Laws.
 use Rattle.std.specs.Prelude.{List, [], ◌∷◌, Bool, ◌&&◌, not, cond, ℕ, ◌+◌, ◌*◌, ◌-◌, ◌/◌, ◌%◌, eqb, ltb, get_or}
 use Rattle.std.proofs.Math.Option.{Option, some}
-use Rattle.std.proofs.Math.Option
 use Rattle.lists.specs.Lists.{those, is_some}
 use Rattle.grammar.specs.Bytes.{ascii, between, blank}
 use Rattle.grammar.specs.Look.{Word}

@@ -2,7 +2,6 @@
 -- four bytes is left out.
 use Rattle.std.specs.Prelude.{List, [], ◌∷◌, cond, ℕ, ◌+◌, ◌*◌, ◌-◌, ◌/◌, ◌%◌, ltb, ℤ, pos, negsuc, length}
 use Rattle.std.proofs.Math.Option.{Option, some}
-use Rattle.std.proofs.Math.Option
 use Rattle.lists.specs.Lists.{each_in}
 use Rattle.grammar.specs.Look.{Word}
 use Rattle.base64_text.specs.Base64.{bytes_in}

@@ -1,7 +1,6 @@
 -- THE ANSWER, THE TABLE OF RECORDS, AND THE PROMISE OF THE READER.
 use Rattle.std.specs.Prelude.{◌≡◌, List, [], ◌∷◌, ◌++◌, cond, ℕ, zero, suc, ◌+◌, ◌-◌, eqb, pos, length, get_or, drop, replicate}
 use Rattle.std.proofs.Math.Option.{Option, some}
-use Rattle.std.proofs.Math.Option
 use Rattle.lists.specs.Lists.{any, each, each_in, tabulated}
 use Rattle.grammar.specs.Document.{Element}
 use Rattle.numbers.specs.Numbers.{no_decimal}

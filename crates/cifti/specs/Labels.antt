@@ -2,7 +2,6 @@
 -- undecoded. Both check 1 to 9, 24, 25 and 18; then 17 where the list lent is short, or 19 where there is no such key.
 use Rattle.std.specs.Prelude.{List, [], ◌∷◌, ◌++◌, Bool, ◌&&◌, not, ℕ, zero, suc, eqb, ltb, ℤ, length, get_or, drop}
 use Rattle.std.proofs.Math.Option.{Option, some}
-use Rattle.std.proofs.Math.Option
 use Rattle.lists.specs.Lists.{any, those, each, each_in}
 use Rattle.grammar.specs.Document.{Element}
 use Rattle.grammar.specs.Look.{Word}

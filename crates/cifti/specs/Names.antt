@@ -2,7 +2,6 @@
 -- tags, undecoded.
 use Rattle.std.specs.Prelude.{List, [], ◌∷◌, ◌++◌, Bool, ◌&&◌, not, ℕ, zero, suc, eqb, ltb, length, get_or}
 use Rattle.std.proofs.Math.Option.{Option, some}
-use Rattle.std.proofs.Math.Option
 use Rattle.lists.specs.Lists.{any, those, each, each_in}
 use Rattle.grammar.specs.Document.{Element}
 use Rattle.grammar.specs.Look.{Word, within_of, children}

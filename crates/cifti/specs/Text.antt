@@ -1,7 +1,6 @@
 -- A QUESTION ON A TEXT: the document of the text, or that there is none, and an answer that equals a term over it.
 use Rattle.std.specs.Prelude.{◌≡◌, List, ℕ}
 use Rattle.std.proofs.Math.Option.{Option, some}
-use Rattle.std.proofs.Math.Option
 use Rattle.grammar.specs.Document.{Element}
 use Rattle.grammar.specs.Grammar.{Writes}
 

@@ -1,8 +1,7 @@
 -- CDATA with blanks alone.
-use Rattle.std.specs.Prelude.{List, [], ℕ}
+use Rattle.std.specs.Prelude.{List, ℕ}
 use Rattle.grammar.specs.Bytes.{ascii, blank}
-use Rattle.grammar.specs.Grammar
-use Rattle.grammar.specs.Read.{Read, Reader, bind, ◌>>=◌, ◌>>◌, mark, span}
+use Rattle.grammar.specs.Read.{Read, Reader, bind, mark, span}
 
 -- behind the mark
 unfoldable pub blanks_at : List ℕ → Read (Unit {0})

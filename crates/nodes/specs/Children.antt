@@ -1,5 +1,5 @@
 -- The children of the element at a position.
-use Rattle.std.specs.Prelude.{List, [], ℕ, zero, suc, ◌-◌, Bool, true, false, length, drop}
+use Rattle.std.specs.Prelude.{List, ℕ, zero, suc, ◌-◌, Bool, true, false, length, drop}
 use Rattle.grammar.specs.Read.{Read, fail, got}
 use Rattle.grammar.specs.Parser.{Look, at_close, at_comment, at_data, at_element, at_text, look, comment_at, data_at_lem}
 use Rattle.nodes.specs.Scan.{to_tag, tag_at, skip_at}

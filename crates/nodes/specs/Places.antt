@@ -1,5 +1,5 @@
 -- Elements at positions of a text: an element is the place where it begins.
-use Rattle.std.specs.Prelude.{◌≡◌, List, [], ℕ, ◌-◌, ◌<◌, Bool, true, false, length, drop}
+use Rattle.std.specs.Prelude.{◌≡◌, List, [], ℕ, ◌<◌, Bool, true, false, length, drop}
 use Rattle.grammar.specs.Document.{Element, element, nothing}
 use Rattle.grammar.specs.Read.{Read, fail, got, Reader}
 use Rattle.grammar.specs.Parser.{element_at}

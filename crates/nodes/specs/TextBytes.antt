@@ -1,7 +1,6 @@
 -- The decoded bytes of an element's text, one by one: comments and children are passed over and part nothing; CDATA says its characters.
-use Rattle.std.specs.Prelude.{List, [], ◌∷◌, ℕ, zero, suc, ◌-◌, Bool, true, false, length}
+use Rattle.std.specs.Prelude.{List, [], ◌∷◌, ℕ, zero, suc, Bool, true, false, length}
 use Rattle.grammar.specs.Bytes.{ascii, begins}
-use Rattle.grammar.specs.Grammar
 use Rattle.grammar.specs.Read.{Read, fail, got, mark}
 use Rattle.grammar.specs.Parser.{reference_at, line_end_at, comment_at, Look, at_close, at_comment, at_data, at_element, at_text}
 use Rattle.grammar.specs.Parser.{look}

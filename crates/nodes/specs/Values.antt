@@ -2,7 +2,6 @@
 -- decoded for characters.
 use Rattle.std.specs.Prelude.{List, [], ◌∷◌, ℕ, zero, suc, ◌+◌, ◌-◌, eqb, length, drop, get_or}
 use Rattle.grammar.specs.Bytes.{ascii, blank}
-use Rattle.grammar.specs.Grammar
 use Rattle.grammar.specs.Read.{Read, fail, got}
 use Rattle.grammar.specs.Parser.{reference_at, line_end_at}
 use Rattle.steps.specs.Leaves.{first_byte}

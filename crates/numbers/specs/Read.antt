@@ -1,5 +1,5 @@
 -- What is the same from here as from the start, for the loops over letters and digits.
-use Rattle.std.specs.Prelude.{◌≡◌, List, [], ℕ, ◌+◌, ◌-◌, ◌^◌, ◌≤◌, ◌<◌}
+use Rattle.std.specs.Prelude.{◌≡◌, List, ℕ, ◌+◌, ◌-◌, ◌^◌, ◌≤◌, ◌<◌}
 use Rattle.numbers.specs.Stream.{letter_at, digits_at}
 use Rattle.numbers.specs.declared.Source.{Source}
 

@@ -1,5 +1,5 @@
 -- The sixteen decimals of a transformation, one by one: so many are still to come.
-use Rattle.std.specs.Prelude.{[], Bool, true, cond, ℕ, eqb, leb}
+use Rattle.std.specs.Prelude.{Bool, true, cond, ℕ, eqb, leb}
 use Rattle.numbers.specs.Numbers.{in_value, is_whole}
 use Rattle.numbers.specs.declared.Decimal.{Decimal}
 

@@ -1,8 +1,6 @@
 -- THE PROMISE of the walker, for any table: 3 where the text is no document; else 6 where its root is not everywhere of the shape
 -- that the rows say, else 7 where not everywhere of their numbers, else 0. Where it is not 3, the root stands at `root`.
 use Rattle.std.specs.Prelude.{◌≡◌, List, ℕ, ◌<◌}
-use Rattle.std.proofs.Math.Option.{Option}
-use Rattle.std.proofs.Math.Option
 use Rattle.grammar.specs.Document.{Element}
 use Rattle.grammar.specs.Grammar.{Writes}
 use Rattle.nodes.specs.Places.{Stands, the}

@@ -1,8 +1,7 @@
 -- An element that is as a row says, with all that is in it; a list of one such element.
 use Rattle.std.specs.Prelude.{◌≡◌, List, [], ◌∷◌, true}
-use Rattle.std.proofs.Math.Option
 use Rattle.grammar.specs.Document.{Element}
-use Rattle.schema.specs.Schema.{number, Row}
+use Rattle.schema.specs.Schema.{Row}
 use Rattle.schema.specs.Schema.{everywhere}
 use Rattle.schema.specs.Schema.{shaped, numbered}
 

@@ -1,7 +1,6 @@
 -- The lines of children, as the code goes by them.
 use Rattle.std.specs.Prelude.{◌≡◌, List, Bool, true, cond, ℕ, zero, suc, ◌<◌, leb, ltb}
 use Rattle.std.proofs.Math.Option.{Option, some}
-use Rattle.std.proofs.Math.Option
 use Prim.Native.String.{String}
 use Rattle.lists.specs.Lists.{count_up}
 use Rattle.grammar.specs.Document.{Element}

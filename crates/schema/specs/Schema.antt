@@ -2,7 +2,6 @@
 -- CIFTI's.
 use Rattle.std.specs.Prelude.{List, [], ◌∷◌, Bool, true, false, ◌&&◌, ◌||◌, cond, ℕ, suc, eqb, leb, length}
 use Rattle.std.proofs.Math.Option.{Option, some}
-use Rattle.std.proofs.Math.Option
 use Prim.Native.String.{String}
 use Rattle.lists.specs.Lists.{all, any, count, is_some, if_there, there}
 use Rattle.grammar.specs.Bytes.{blank}

@@ -1,5 +1,5 @@
 -- The walk of `Schema`, one element at a time: its test, then the walk at each child. This is the form that a loop over children meets.
-use Rattle.std.specs.Prelude.{◌≡◌, List, [], Bool, ◌&&◌}
+use Rattle.std.specs.Prelude.{◌≡◌, List, Bool, ◌&&◌}
 use Rattle.std.proofs.Math.Path.{refl, ap}
 use Rattle.lists.specs.Lists.{all, if_there}
 use Rattle.grammar.specs.Document.{Attribute, Element, element, Contents, nothing, child as inside, run}

@@ -1,14 +1,12 @@
 -- Between the tags in contents: what the readers of characters, comments and CDATA answer.
-use Rattle.std.specs.Prelude.{List, [], ℕ, ◌-◌, Bool, ◌&&◌, not, eqb, length}
+use Rattle.std.specs.Prelude.{List, ℕ, ◌-◌, Bool, ◌&&◌, not, eqb, length}
 use Rattle.grammar.specs.Bytes.{special}
 use Rattle.grammar.specs.Characters.{lead1}
 use Rattle.grammar.specs.Read.{Read, fail, got}
 use Rattle.grammar.specs.Parser.{Look, at_close, at_comment, at_data, at_element, at_text, look}
 use Rattle.steps.specs.Row.{Piece}
 use Rattle.steps.specs.declared.pieces.Front.{Front}
-use Rattle.steps.specs.declared.pieces.Front.TheVariants as Front
 use Rattle.steps.specs.declared.pieces.Between.{Between}
-use Rattle.steps.specs.declared.pieces.Between.TheVariants as Between
 
 unfoldable pub front : Look → Front
 front at_close = Front.Close

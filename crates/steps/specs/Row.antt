@@ -1,5 +1,5 @@
 -- Children of an element, without their contents' positions: how the reader of contents goes from one child to the next.
-use Rattle.std.specs.Prelude.{List, [], ℕ, ◌-◌, Bool, true, false, not}
+use Rattle.std.specs.Prelude.{List, ℕ, Bool, true, false, not}
 use Rattle.grammar.specs.Bytes.{ascii, begins}
 use Rattle.grammar.specs.Read.{fail, Reader, bind, ◌>>=◌, ◌>>◌, pure, test, all_of}
 use Rattle.grammar.specs.Parser.{Look, at_close, at_comment, at_data, at_element, at_text, look, comment_at, data_at_lem, text_at}

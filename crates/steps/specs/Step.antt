@@ -1,5 +1,5 @@
 -- What a reader of the program answers, given what the grammar's reader finds: the position behind what was read.
-use Rattle.std.specs.Prelude.{◌≡◌, List, [], ℕ, ◌-◌, ◌≤◌, length, drop}
+use Rattle.std.specs.Prelude.{◌≡◌, List, ℕ, ◌-◌, ◌≤◌, length, drop}
 use Rattle.grammar.specs.Read.{Read, fail, got, Reader}
 use Rattle.steps.specs.declared.Step.{Step}
 use Rattle.steps.specs.declared.Step.TheVariants.{To, No}

@@ -1,7 +1,7 @@
 -- Tags: what the readers of a start tag and of an end tag answer.
-use Rattle.std.specs.Prelude.{List, [], ℕ}
+use Rattle.std.specs.Prelude.{List, ℕ}
 use Rattle.grammar.specs.Bytes.{ascii, blank}
-use Rattle.grammar.specs.Read.{Read, fail, got, Reader, bind, ◌>>=◌, ◌>>◌, mark, span}
+use Rattle.grammar.specs.Read.{Read, fail, got, Reader, bind, ◌>>◌, mark, span}
 use Rattle.grammar.specs.Parser.{name_at}
 use Rattle.steps.specs.Step.{stepped}
 use Rattle.steps.specs.declared.Step.{Step}

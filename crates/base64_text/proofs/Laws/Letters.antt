@@ -1,5 +1,5 @@
 -- Letters and their values, each way, computed over all of them.
-use Rattle.std.specs.Prelude.{◌≡◌, refl, Bool, true, false, ◌&&◌, ◌||◌, not, ℕ, suc, ◌-◌, ◌<◌, ◌≤◌, eqb, leb}
+use Rattle.std.specs.Prelude.{◌≡◌, refl, Bool, true, false, ◌&&◌, ◌||◌, not, ℕ, suc, ◌<◌, ◌≤◌, eqb, leb}
 use Rattle.std.proofs.lemmas.Bool.{false≢true}
 use Rattle.std.proofs.Common.{arith, eqb-true, ne_eqb, lt-ltb, leb-true}
 use Rattle.lists.specs.Lists.{all_below}

@@ -1,7 +1,6 @@
 -- RFC 4648's own rows, and what is no Base64, computed.
 use Rattle.std.specs.Prelude.{◌≡◌, refl, List, [], ◌∷◌, true, not, pos, negsuc}
-use Rattle.std.proofs.Math.Option.{Option, some}
-use Rattle.std.proofs.Math.Option
+use Rattle.std.proofs.Math.Option.{some}
 use Prim.Native.String.{String}
 use Rattle.lists.specs.Lists.{lists, all, each}
 use Rattle.grammar.specs.Bytes.{ascii, blank}

@@ -5,7 +5,7 @@ use Rattle.std.proofs.Math.Path.{refl}
 use Rattle.std.proofs.Common.{sym, ap, ap₂, ◌∙◌, true≢false, arith, eq-eqb, eqb-true}
 use mathlib.Core.List.{List, [], ◌∷◌}
 use Rattle.std.proofs.lemmas.Bool.{false≢true}
-use Prim.Native.Nat.{ℕ, zero, suc, ◌-◌, ◌*◌, ◌<◌, ◌≤◌}
+use Prim.Native.Nat.{ℕ, zero, suc, ◌*◌, ◌<◌, ◌≤◌}
 use Rattle.lists.proofs.Laws.Booleans.{and_halves, or_false}
 use Rattle.lists.specs.Lists.{any, two_of, each_in, total}
 use Rattle.lists.proofs.Laws.Quantifiers.{EveryPlace, OnePlace, count_one_iff}

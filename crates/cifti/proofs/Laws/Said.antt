@@ -2,7 +2,6 @@
 use Rattle.std.specs.Prelude.{◌≡◌, refl, List, [], ◌∷◌, ◌++◌, Bool, true, false, ◌||◌, cond, ℕ, zero, suc, ◌+◌, ◌<◌, eqb, length, get_or}
 use Rattle.std.proofs.Common.{ap, ◌∙◌, true≢false, le_of_suc-le-suc, not-suc-le-zero, arith, get_or-append-add}
 use Rattle.std.proofs.Math.Option.{Option, some}
-use Rattle.std.proofs.Math.Option
 use Rattle.std.proofs.Math.ListN.{get_or-append}
 use Rattle.lists.specs.Lists.{any, total, each_in, those, count_up, tabulated}
 use Rattle.cifti.specs.Maps.{Map, brain_maps, length_of, is_brain, is_series}

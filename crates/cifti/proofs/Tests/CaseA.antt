@@ -1,5 +1,5 @@
 -- CASE A, and A with a dimension list, an offset and vertices other than its own.
-use Rattle.std.specs.Prelude.{List, [], ◌++◌, ℕ}
+use Rattle.std.specs.Prelude.{List, ◌++◌, ℕ}
 use Prim.Native.String.{String}
 use Rattle.grammar.specs.Bytes.{ascii}
 

@@ -1,7 +1,6 @@
 -- Tables of labels, computed: one key written in two ways, the names of a key.
 use Rattle.std.specs.Prelude.{◌≡◌, refl, [], ◌∷◌, true, false, pos, negsuc}
 use Rattle.std.proofs.Math.Option.{Option, some}
-use Rattle.std.proofs.Math.Option
 use Prim.Native.String.{String}
 use Rattle.lists.specs.Lists.{lists}
 use Rattle.grammar.specs.Bytes.{ascii}

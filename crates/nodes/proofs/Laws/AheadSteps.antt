@@ -1,5 +1,5 @@
 -- What is proved of Ahead.
-use Rattle.std.specs.Prelude.{◌≡◌, refl, List, [], ◌++◌, ℕ, zero, suc, ◌-◌, ◌≤◌, ◌<◌, Bool, true, false, ◌||◌, length}
+use Rattle.std.specs.Prelude.{◌≡◌, refl, List, ◌++◌, ℕ, zero, suc, ◌≤◌, ◌<◌, Bool, true, false, ◌||◌, length}
 use Rattle.std.proofs.Common.{ap, ◌∙◌, arith, length-append}
 use Rattle.lists.specs.Lists.{all}
 use Rattle.grammar.specs.Bytes.{blank, Each}

@@ -2,14 +2,13 @@
 use Rattle.std.specs.Prelude.{◌≡◌, refl, List, [], ◌∷◌, ◌++◌, ℕ, zero, suc, ◌+◌, ◌-◌, ◌≤◌, ◌<◌, Bool, true, false, cond, leb, drop}
 use Rattle.std.proofs.Common.{ap, sym, ◌∙◌, append_assoc, arith, length-append, drop-drop}
 use Rattle.std.proofs.Math.Option.{Option, some}
-use Rattle.std.proofs.Math.Option
 use Prim.Native.String.{String}
 use Rattle.std.proofs.Math.ListN.{length}
 use Rattle.grammar.specs.Bytes.{ascii}
 use Rattle.grammar.specs.Document.{Attribute, attribute}
 use Rattle.grammar.specs.Grammar.{Gap, gap}
 use Rattle.grammar.specs.Look.{attributes_of, value_in, is}
-use Rattle.grammar.specs.Read.{Read, fail, got, Reader, bind, ◌>>=◌, ◌>>◌, test, all_of, many_step}
+use Rattle.grammar.specs.Read.{Read, fail, got, Reader, bind, test, all_of, many_step}
 use Rattle.grammar.proofs.Laws.Read.{Ok, good, ok_got, bind_ok}
 use Rattle.grammar.proofs.Laws.Read.{test_sound}
 use Rattle.grammar.specs.Parser.{name_at, gap_at, equals_at, value_at, attribute_at_lem, attributes_at, ends, closing, same_bytes, distinct}

@@ -12,7 +12,7 @@ use Rattle.grammar.specs.Characters.{utf8_1, lead1}
 use Rattle.grammar.specs.Document.{together}
 use Rattle.grammar.specs.Grammar
 use Rattle.grammar.specs.Grammar.{DataCharacter}
-use Rattle.grammar.specs.Read.{Read, fail, got, bind, ◌>>=◌, ◌>>◌, mark, span, all_of, many_step}
+use Rattle.grammar.specs.Read.{Read, fail, got, bind, mark, span, all_of, many_step}
 use Rattle.grammar.proofs.Laws.Read.{Ok, good, Takes}
 use Rattle.grammar.specs.Parser.{data_character_at, data_at_lem}
 use Rattle.grammar.proofs.Laws.Facts.{blank_in}

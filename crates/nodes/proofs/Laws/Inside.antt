@@ -1,5 +1,5 @@
 -- What is proved of Inside.
-use Rattle.std.specs.Prelude.{◌≡◌, List, [], ℕ, drop}
+use Rattle.std.specs.Prelude.{◌≡◌, List, ℕ, drop}
 use Rattle.std.proofs.Common.{◌∙◌}
 use Rattle.grammar.specs.Document.{Attribute, Element}
 use Rattle.grammar.specs.Look.{within_of}

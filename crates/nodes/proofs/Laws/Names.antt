@@ -1,5 +1,5 @@
 -- Names, at a position of the text: one law for each way through the code.
-use Rattle.std.specs.Prelude.{◌≡◌, List, [], ℕ, Bool, false, drop, refl, ◌++◌, ◌+◌, ◌-◌, ◌≤◌, ◌<◌, length, get_or}
+use Rattle.std.specs.Prelude.{◌≡◌, List, ℕ, Bool, false, drop, refl, ◌++◌, ◌+◌, ◌-◌, ◌≤◌, ◌<◌, length, get_or}
 use Prim.Native.String.{String}
 use Rattle.grammar.specs.Bytes.{ascii}
 use Rattle.grammar.specs.Document.{Attribute, Element}

@@ -20,7 +20,6 @@ use Rattle.steps.specs.declared.pieces.Front.{Front}
 use Rattle.steps.specs.declared.pieces.Front.TheVariants as shows
 use Rattle.nodes.specs.declared.scan.Tag.{Tag}
 use Rattle.nodes.specs.declared.scan.Tag.TheVariants as tag_is
-use Rattle.nodes.specs.declared.scan.Sign.TheVariants as sign-is
 
 -- what a front says of a look
 pub front_look : (l : Look) (f : Front) → f ≡ front l → {k : Look} → f ≡ front k → l ≡ k

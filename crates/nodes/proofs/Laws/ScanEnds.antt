@@ -1,5 +1,5 @@
 -- What a scan passes over: names, blanks, attributes, characters of text.
-use Rattle.std.specs.Prelude.{◌≡◌, refl, List, [], ◌∷◌, ◌++◌, ℕ, ◌+◌, ◌<◌, Bool, true, false, not, ◌&&◌, ◌||◌, eqb}
+use Rattle.std.specs.Prelude.{◌≡◌, refl, List, [], ◌∷◌, ◌++◌, ℕ, ◌<◌, Bool, true, false, not, ◌&&◌, ◌||◌, eqb}
 use Rattle.std.proofs.Common.{ap, sym, ◌∙◌, append_assoc, arith}
 use borrow.Author.Tests.{eq-eqb, ne_eqb, not-true}
 use Rattle.lists.proofs.Laws.Booleans.{or_left, clash, not_so}

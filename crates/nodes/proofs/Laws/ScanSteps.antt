@@ -1,13 +1,11 @@
 -- What is proved of ScanSteps.
-use Rattle.std.specs.Prelude.{◌≡◌, refl, List, ℕ, zero, suc, ◌-◌, Bool, true, false}
+use Rattle.std.specs.Prelude.{◌≡◌, refl, List, ℕ, zero, suc, Bool, true, false}
 use Rattle.std.proofs.Common.{◌∙◌}
 use Rattle.grammar.specs.Read.{Read, fail, got, bind}
 use Rattle.grammar.specs.Parser.{comment_at, data_at_lem, Look, at_close, at_comment, at_data, at_element, at_text, look}
 use Rattle.nodes.specs.Places.{pick}
 use Rattle.nodes.specs.Scan.{to_tag, past_tag, tag_at, scan_by, scan}
 use Rattle.nodes.proofs.Laws.Scanned.{scan_step}
-use Rattle.nodes.specs.declared.scan.Tag.TheVariants as tag_is
-use Rattle.nodes.specs.declared.scan.Sign.TheVariants as sign-is
 use Rattle.nodes.specs.ScanSteps.{Mark, flat, closes, opens, none, flat_of, mark_of, sign_by, sign}
 
 -- how the scan goes on

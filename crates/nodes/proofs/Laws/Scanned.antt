@@ -1,5 +1,5 @@
 -- What is proved of Scan.
-use Rattle.std.specs.Prelude.{◌≡◌, refl, List, [], ◌∷◌, ◌++◌, ℕ, zero, suc, ◌+◌, ◌≤◌, ◌<◌, Bool, true, false, eqb, length}
+use Rattle.std.specs.Prelude.{◌≡◌, refl, List, [], ◌∷◌, ◌++◌, ℕ, zero, suc, ◌≤◌, ◌<◌, Bool, true, false, eqb, length}
 use Rattle.std.proofs.Common.{ap, sym, ◌∙◌, append_assoc, arith, length-append}
 use Rattle.grammar.specs.Bytes.{ascii}
 use Rattle.grammar.specs.Read.{Read, fail, got, Reader, bind, mark}

@@ -1,5 +1,5 @@
 -- What is proved of TextBytes.
-use Rattle.std.specs.Prelude.{◌≡◌, refl, List, [], ◌∷◌, ◌++◌, ℕ, zero, suc, ◌+◌, ◌-◌, ◌<◌, Bool, true, false, eqb, length}
+use Rattle.std.specs.Prelude.{◌≡◌, refl, List, [], ◌∷◌, ◌++◌, ℕ, zero, suc, ◌<◌, Bool, true, false, eqb, length}
 use Rattle.std.proofs.Common.{ap, sym, ◌∙◌, append_assoc, arith, ne_eqb, length-append}
 use Rattle.lists.proofs.Laws.Booleans.{or_right, or_left}
 use Rattle.grammar.specs.Bytes.{ascii, special, parted, closed, begins, SequenceUnless, none_more, and_more}

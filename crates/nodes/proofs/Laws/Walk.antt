@@ -1,5 +1,5 @@
 -- Laws for a loop over children: the children from a cursor on, as a list.
-use Rattle.std.specs.Prelude.{◌≡◌, refl, List, [], ◌∷◌, ℕ, zero, suc, ◌-◌, ◌≤◌, ◌<◌, length}
+use Rattle.std.specs.Prelude.{◌≡◌, refl, List, [], ◌∷◌, ℕ, zero, suc, ◌≤◌, ◌<◌, length}
 use Rattle.std.proofs.Common.{ap, sym, ◌∙◌, subst, arith}
 use Rattle.grammar.specs.Document.{Element}
 use Rattle.grammar.specs.Look.{contents_of, elements}

@@ -3,7 +3,7 @@ use Rattle.std.specs.Prelude.{◌≡◌, Bool, ltb, T, ℤ, negsuc, neg_ℤ, nat
 use Rattle.std.proofs.Math.Path.{refl, sym, ap}
 use Rattle.std.proofs.Common.{◌∙◌, true≢false, arith, pow-suc, mul_assoc, Fits, SFits, of_z, to_z}
 use Rattle.std.proofs.Math.Bool.{true, false, and-false}
-use Prim.Native.Nat.{ℕ, zero, suc, ◌+◌, ◌*◌, ◌-◌, ◌^◌, ◌≤◌, ◌<◌}
+use Prim.Native.Nat.{ℕ, zero, suc, ◌+◌, ◌*◌, ◌^◌, ◌≤◌, ◌<◌}
 use Rattle.std.proofs.Math.Dec.{eqb, leb}
 use Rattle.std.specs.Int.Signed.{lt_z, non_neg}
 use Rattle.std.proofs.Math.IntN.{pos, +ℤ_idl}

@@ -2,7 +2,7 @@
 use Rattle.std.proofs.Math.Path.{◌≡◌, refl, sym, ap}
 use Rattle.std.proofs.Common.{◌∙◌, arith, rules}
 use mathlib.Core.List.{List, [], ◌∷◌, ◌++◌, append-nil}
-use Rattle.std.specs.Prelude.{Bool, ◌||◌, ℕ, ◌+◌, ◌-◌, ◌≤◌, eqb, ℤ, ◌-ℤ◌}
+use Rattle.std.specs.Prelude.{Bool, ◌||◌, ℕ, ◌≤◌, eqb, ℤ, ◌-ℤ◌}
 use Rattle.std.proofs.Math.Bool.{true, false}
 use Rattle.std.proofs.Math.IntN.{pos}
 use Rattle.lists.proofs.Laws.Booleans.{clash}

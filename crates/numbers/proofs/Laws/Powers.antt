@@ -1,5 +1,5 @@
 -- POWERS OF TEN: what was a decimal before them is one, with the same digits and the negative of its places; and what a.bEx is read as.
-use Rattle.std.specs.Prelude.{◌≡◌, Bool, ℕ, ◌+◌, ◌≤◌, ℤ, neg_ℤ, ◌-ℤ◌, drop}
+use Rattle.std.specs.Prelude.{◌≡◌, Bool, ℕ, ◌≤◌, ℤ, neg_ℤ, ◌-ℤ◌, drop}
 use Rattle.std.proofs.Math.Path.{refl, sym, ap}
 use Rattle.std.proofs.Common.{◌∙◌, arith}
 use mathlib.Core.List.{List, [], ◌∷◌, ◌++◌, append_assoc, append-nil}

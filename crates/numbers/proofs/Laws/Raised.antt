@@ -1,7 +1,7 @@
 -- The digits of a power: what their reader finds.
 use Rattle.std.proofs.Math.Path.{◌≡◌, refl, ap}
 use Rattle.std.proofs.Common.{sym, ◌∙◌, arith, rules}
-use Rattle.std.specs.Prelude.{List, [], Bool, true, not, ℕ, ◌+◌, ◌-◌, ◌^◌, ◌≤◌, ◌<◌, ℤ, ◌-ℤ◌, length}
+use Rattle.std.specs.Prelude.{List, Bool, true, not, ℕ, ◌+◌, ◌-◌, ◌^◌, ◌≤◌, ◌<◌, ℤ, ◌-ℤ◌, length}
 use Rattle.std.proofs.Math.Bool.{false}
 use Rattle.std.proofs.Math.IntN.{pos}
 use Rattle.std.proofs.lemmas.Bool.{not-false}

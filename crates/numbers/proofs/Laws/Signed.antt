@@ -1,5 +1,5 @@
 -- A number below 10^15 fits, with either sign.
-use Rattle.std.specs.Prelude.{◌≡◌, refl, Bool, true, false, ℕ, zero, suc, ◌+◌, ◌-◌, ◌^◌, ◌<◌, pos, neg_ℤ, ◌-ℤ◌}
+use Rattle.std.specs.Prelude.{◌≡◌, refl, Bool, true, false, ℕ, zero, suc, ◌^◌, ◌<◌, pos, neg_ℤ, ◌-ℤ◌}
 use Rattle.std.proofs.Common.{◌∙◌, arith, SFits, to_z, of_z}
 use Rattle.std.proofs.Math.IntN.{+ℤ_idl}
 use Rattle.std.specs.Int.{w64}

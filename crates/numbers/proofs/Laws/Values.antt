@@ -1,5 +1,5 @@
 -- Values of attributes: whole numbers, three lengths, dimension lists, exponents.
-use Rattle.std.specs.Prelude.{◌≡◌, refl, List, [], ◌∷◌, true, false, ℕ, ◌+◌, ◌-◌, ◌≤◌, ◌<◌, length, get_or}
+use Rattle.std.specs.Prelude.{◌≡◌, refl, List, [], ◌∷◌, true, false, ℕ, ◌+◌, ◌≤◌, ◌<◌, length, get_or}
 use Rattle.std.proofs.Math.Path.{sym}
 use Rattle.std.proofs.Common.{ap, ◌∙◌, arith, rules, drop_of_length-le}
 use Rattle.lists.proofs.Laws.Booleans.{clash}
@@ -17,10 +17,7 @@ use Rattle.numbers.specs.declared.Source.{Source}
 use Rattle.numbers.specs.declared.Source.TheVariants.{Value}
 use Rattle.numbers.specs.declared.Part.{Part}
 use Rattle.numbers.specs.declared.Part.TheVariants.{Comma, Last, No}
-use Rattle.numbers.specs.declared.Whole.{Whole}
 use Rattle.numbers.specs.declared.Whole.TheVariants as wholes
-use Rattle.numbers.specs.declared.Three.TheVariants as threes
-use Rattle.numbers.specs.declared.Exponent.TheVariants as exponents
 
 -- where a value is read: behind its quote
 pub there : (text : List ℕ) (at : ℕ) → value_there text at ≡ stream (Value (get_or text at 0)) text (at + 1)

@@ -6,7 +6,6 @@ use Rattle.grammar.specs.Look.{Word}
 use Rattle.lists.specs.Lists.{lists, all}
 use Rattle.numbers.specs.Numbers.{numbers, whole}
 use Rattle.numbers.specs.Numbers.{volume_dimensions, dimension_list, exponent, exponent_value}
-use Rattle.numbers.specs.Numbers.{power}
 use Rattle.numbers.specs.Numbers.{decimal, decimal_value, equal_to, at_most, wholes, values}
 use Rattle.numbers.specs.Numbers.{sixteen, key_value, key, key_list, listed_keys, same_key, colour}
 

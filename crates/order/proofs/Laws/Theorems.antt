@@ -10,7 +10,7 @@ use Rattle.grammar.specs.Grammar.{Writes}
 use Rattle.grammar.specs.Erased.{erased, WritesDocument}
 use Rattle.grammar.proofs.Laws.Plain.{plain_same}
 use Rattle.shortlist.specs.Making.{Lists}
-use Rattle.shortlist.proofs.Laws.ListUnique.{list_unique}
+use Rattle.shortlist.proofs.Laws.Unique.{list_unique}
 use Rattle.shortlist.specs.declared.answer.Model as short
 use Rattle.shortlist.specs.declared.answer.Listed as made
 use Rattle.cifti.specs.Text.{Answers}

@@ -1,8 +1,6 @@
 -- The turns of the check: no document, or a root and what the walk says of it.
 use Rattle.std.specs.Prelude.{◌≡◌, refl, List, Bool, true, false, ℕ, ◌<◌}
 use Rattle.std.proofs.Common.{ap, sym, ◌∙◌, arith, rules}
-use Rattle.std.proofs.Math.Option.{Option}
-use Rattle.std.proofs.Math.Option
 use Rattle.grammar.specs.Document.{Element}
 use Rattle.grammar.specs.Grammar.{Writes}
 use Rattle.grammar.proofs.Laws.Theorems.{parse_iff}

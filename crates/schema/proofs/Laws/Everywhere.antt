@@ -1,5 +1,5 @@
 -- What is proved of Walk.
-use Rattle.std.specs.Prelude.{◌≡◌, refl, [], Bool, true, false, ◌||◌}
+use Rattle.std.specs.Prelude.{◌≡◌, refl, Bool, true, false, ◌||◌}
 use Rattle.std.proofs.Common.{ap, ◌∙◌}
 use Prim.Native.String.{String}
 use Rattle.lists.specs.Lists.{any}

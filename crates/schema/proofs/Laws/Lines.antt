@@ -1,9 +1,8 @@
 -- The turns of the functions on the lines of children.
-use Rattle.std.specs.Prelude.{◌≡◌, List, [], Bool, leb, ltb, length, drop}
+use Rattle.std.specs.Prelude.{◌≡◌, List, Bool, leb, ltb, length, drop}
 use Rattle.std.proofs.Math.Path.{refl, sym}
 use Rattle.std.proofs.Common.{ap, ◌∙◌, drop-drop, rules}
 use Rattle.std.proofs.Math.Option.{Option, some}
-use Rattle.std.proofs.Math.Option
 use Rattle.std.proofs.Math.Bool.{true, false, not, cond}
 use Prim.Native.Nat.{ℕ, zero, suc, ◌+◌, ◌-◌, ◌<◌, ◌≤◌}
 use Prim.Native.String.{String}

@@ -4,7 +4,6 @@ use Rattle.std.proofs.Math.Path.{refl, ap}
 use Rattle.std.proofs.Common.{ap₂, ◌∙◌}
 use mathlib.Core.List.{List, [], ◌∷◌}
 use Rattle.std.proofs.Math.Option.{Option, some}
-use Rattle.std.proofs.Math.Option
 use Rattle.std.proofs.Math.Bool.{cond, true, false}
 use Rattle.lists.specs.Lists.{each, is_some, if_there}
 use Rattle.lists.proofs.Laws.Lists.{all_same, all_each, each_each, each_same}

@@ -1,5 +1,5 @@
 -- A search for a word among those of a table: one law for every loop that seeks the first, and what the place found says.
-use Rattle.std.specs.Prelude.{◌≡◌, refl, List, [], Bool, true, false, ◌||◌, cond, ltb}
+use Rattle.std.specs.Prelude.{◌≡◌, refl, List, Bool, true, false, ◌||◌, cond, ltb}
 use Rattle.std.proofs.Math.Path.{ap, sym}
 use Rattle.std.proofs.Common.{◌∙◌, arith, rules, ltb-true, ltb-false, lt-ltb, le-ltb}
 use Prim.Native.Nat.{ℕ, zero, suc, ◌+◌, ◌-◌, ◌<◌, ◌≤◌}

@@ -1,5 +1,5 @@
 -- The turns of the functions on values and texts.
-use Rattle.std.specs.Prelude.{◌≡◌, List, [], Bool, not, ℕ, zero, suc, ◌+◌, ◌-◌, ltb}
+use Rattle.std.specs.Prelude.{◌≡◌, List, Bool, not, ℕ, zero, suc, ◌+◌, ◌-◌, ltb}
 use Rattle.std.proofs.Math.Path.{refl, ap, sym}
 use Rattle.std.proofs.Common.{◌∙◌, arith, rules}
 use Rattle.std.proofs.Math.Bool.{true, false, cond}

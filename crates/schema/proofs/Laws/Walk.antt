@@ -3,7 +3,6 @@ use Rattle.std.specs.Prelude.{◌≡◌, List, [], ◌∷◌, Bool, ◌||◌, �
 use Rattle.std.proofs.Math.Path.{refl, ap, sym}
 use Rattle.std.proofs.Common.{◌∙◌, true≢false, ne_eqb, leb-true, rules}
 use Rattle.std.proofs.Math.Option.{Option, some}
-use Rattle.std.proofs.Math.Option
 use Rattle.std.proofs.Math.Bool.{true, false, not}
 use native.Mathlib.Omega.{arith}
 use Rattle.lists.specs.Lists.{all, any, count}
@@ -35,7 +34,7 @@ use Rattle.grammar.specs.Bytes.{blank}
 use Rattle.schema.specs.Table.{kind_cell, lines_of_kind, lines_from, lines_to, text_at, order_at, watched_word}
 use Rattle.schema.specs.Lines.{in_turn, kind_next}
 use Rattle.schema.specs.Tallied.{times_by, holding, Meets}
-use Rattle.schema.specs.Faults.{fault, sooner, fault_of}
+use Rattle.schema.specs.Faults.{sooner, fault_of}
 use Rattle.schema.specs.Parts.{own_fault, text_shaped, times_right, order_right, frame_right, kids_fault}
 use Rattle.schema.specs.Asked.{Known, Timed, Tallying}
 use Rattle.schema.specs.Walked.{Owns, Walks, refused_walk, finished_walk}

@@ -1,7 +1,7 @@
 -- TWO READINGS ALIKE: of a text, and of the same text with its line ends translated. Both fail, or both have read, and what the second
 -- leaves is what the first leaves, translated.
 use Rattle.std.specs.Prelude.{◌≡◌, Bool, ℕ, zero, suc, ◌<◌}
-use mathlib.Core.List.{List, []}
+use mathlib.Core.List.{List}
 use Rattle.std.proofs.Math.Bool.{true, false}
 use Rattle.std.proofs.Common.{arith}
 use Rattle.std.proofs.Math.ListN.{length}

@@ -24,7 +24,6 @@ use Rattle.steps.proofs.Laws.Row.{pieces_halt, pieces_go}
 use Rattle.steps.proofs.Laws.Row.{piece_tails, piece_eats}
 use Rattle.steps.specs.Pieces.{plain, halted, stopped_by}
 use Rattle.steps.specs.declared.pieces.Between.{Between}
-use Rattle.steps.specs.declared.pieces.Between.TheVariants as Between
 
 -- one piece further
 between_bind : (n : ℕ) (p : Piece) (m : Read (List Piece)) → stopped_by n (bind m (λ l r. got (p ∷ l) r)) ≡ stopped_by n m

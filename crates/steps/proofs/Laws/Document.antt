@@ -1,9 +1,8 @@
 -- The whole text, step by step.
-use Rattle.std.specs.Prelude.{◌≡◌, refl, ℕ, ◌-◌, ◌≤◌, ◌<◌, Bool, eqb}
+use Rattle.std.specs.Prelude.{◌≡◌, refl, ℕ, ◌≤◌, ◌<◌, Bool, eqb}
 use Rattle.std.proofs.Common.{sym, ◌∙◌, arith, rules}
 use mathlib.Core.List.{List, []}
 use Rattle.std.proofs.Math.Option.{Option}
-use Rattle.std.proofs.Math.Option
 use Rattle.std.proofs.Math.Bool.{true, false}
 use Rattle.std.proofs.Math.ListN.{length, drop}
 use borrow.Author.Tests.{eqb-true, eqb-false}

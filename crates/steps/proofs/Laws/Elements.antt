@@ -1,5 +1,5 @@
 -- Elements and contents, step by step.
-use Rattle.std.specs.Prelude.{◌≡◌, List, [], ◌∷◌, ◌++◌, ℕ, suc, ◌+◌, ◌-◌, ◌≤◌, ◌<◌, length, drop}
+use Rattle.std.specs.Prelude.{◌≡◌, List, ◌∷◌, ◌++◌, ℕ, suc, ◌+◌, ◌-◌, ◌≤◌, ◌<◌, length, drop}
 use Rattle.std.proofs.Math.Path.{refl}
 use Rattle.std.proofs.Common.{ap, sym, ◌∙◌, subst, append_assoc, arith, rules, length-drop}
 use Rattle.lists.proofs.Laws.Booleans.{clash}
@@ -27,9 +27,7 @@ use Rattle.steps.proofs.Laws.Row.{children_by, contents_split}
 use Rattle.steps.specs.Tags.{ended, opened, close_at, closing_at}
 use Rattle.steps.specs.Pieces.{halted, stopped_by}
 use Rattle.steps.specs.declared.tags.Opened.{Opened}
-use Rattle.steps.specs.declared.tags.Opened.TheVariants as Opened
 use Rattle.steps.specs.declared.pieces.Between.{Between}
-use Rattle.steps.specs.declared.pieces.Between.TheVariants as Between
 use Rattle.steps.proofs.Laws.Parsing.{stuck, follows}
 
 -- what a turn of the contents' loop finds, by what stops the pieces

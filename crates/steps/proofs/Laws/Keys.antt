@@ -1,10 +1,10 @@
 -- Keys and single attributes, at a position of the text: one law for each way through the code.
-use Rattle.std.specs.Prelude.{◌≡◌, refl, List, ◌++◌, ℕ, ◌+◌, ◌-◌, ◌≤◌, ◌<◌, length, drop}
+use Rattle.std.specs.Prelude.{◌≡◌, refl, List, ◌++◌, ℕ, ◌-◌, ◌≤◌, ◌<◌, length, drop}
 use Rattle.std.proofs.Common.{ap, sym, ◌∙◌, append_assoc, arith, length-append, length-drop, take_at}
 use Rattle.lists.proofs.Laws.Booleans.{clash}
 use Rattle.grammar.specs.Bytes.{ascii, blank}
 use Rattle.grammar.specs.Document.{attribute}
-use Rattle.grammar.specs.Read.{Read, fail, got, Reader, bind, ◌>>=◌, ◌>>◌}
+use Rattle.grammar.specs.Read.{Read, fail, got, Reader, bind}
 use Rattle.grammar.proofs.Laws.Read.{Ok, good, bind_ok, ok_got, mark_sound}
 use Rattle.grammar.proofs.Laws.Read.{span_sound}
 use Rattle.grammar.specs.Parser.{name_at, gap_at, equals_at, value_at, attribute_at_lem, attributes_at}

@@ -1,5 +1,5 @@
 -- What is proved of Leaves.
-use Rattle.std.specs.Prelude.{◌≡◌, refl, List, [], ◌∷◌, ℕ, ◌-◌, ◌<◌, Bool, true, false, length}
+use Rattle.std.specs.Prelude.{◌≡◌, refl, List, ◌∷◌, ℕ, ◌<◌, Bool, true, false, length}
 use Rattle.grammar.specs.Read.{fail, bind, mark, span}
 use Rattle.grammar.proofs.Laws.Read.{Ok, ok_map, mark_sound, span_sound, byte_complete, byte_other}
 use Rattle.grammar.specs.Parser.{name_at, gap_at, equals_at, literal_at, reference_at, line_end_at, value_character_at, value_at}
@@ -10,7 +10,6 @@ use Rattle.grammar.proofs.Laws.Tokens.{line_end_long, value_character_long, rema
 use Rattle.grammar.proofs.Laws.Data.{data_character_long, skipped_long}
 use Rattle.grammar.proofs.Laws.Unfuelled.{less}
 use Rattle.steps.proofs.Laws.Step.{Tails, tails}
-use Rattle.steps.specs.declared.characters.Reference.TheVariants as reference
 use Rattle.steps.specs.Leaves.{anything, character_at}
 
 pub span_tails : (p : ℕ → Bool) (s : List ℕ) → Ok (Tails s) (span p s)

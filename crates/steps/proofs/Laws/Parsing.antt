@@ -1,5 +1,5 @@
 -- One reader after another, at positions of a text.
-use Rattle.std.specs.Prelude.{◌≡◌, List, [], ℕ, length, drop}
+use Rattle.std.specs.Prelude.{◌≡◌, List, ℕ, length, drop}
 use Rattle.std.proofs.Common.{ap, sym, ◌∙◌}
 use Rattle.grammar.specs.Read.{Read, got, Reader, bind}
 use Rattle.grammar.proofs.Laws.Read.{Ok}

@@ -1,5 +1,5 @@
 -- The readers between tags, step by step.
-use Rattle.std.specs.Prelude.{◌≡◌, refl, List, [], ◌∷◌, ℕ, ◌+◌, ◌-◌, ◌≤◌, ◌<◌, Bool, eqb, drop, get_or}
+use Rattle.std.specs.Prelude.{◌≡◌, refl, List, [], ◌∷◌, ℕ, ◌+◌, ◌≤◌, ◌<◌, Bool, eqb, drop, get_or}
 use Rattle.std.proofs.Math.Path.{ap, sym}
 use Rattle.std.proofs.Common.{◌∙◌, rules}
 use native.Mathlib.Omega.{arith}
@@ -27,9 +27,7 @@ use Rattle.steps.specs.declared.Step.TheVariants.{To, No}
 use Rattle.steps.specs.Row.{character, remark, text_piece_at, piece_by, piece_at}
 use Rattle.steps.specs.Pieces.{front, halted}
 use Rattle.steps.specs.declared.pieces.Front.{Front}
-use Rattle.steps.specs.declared.pieces.Front.TheVariants as Front
 use Rattle.steps.specs.declared.pieces.Between.{Between}
-use Rattle.steps.specs.declared.pieces.Between.TheVariants as Between
 
 -- the front
 module _ (s : List ℕ) (at : ℕ) where

@@ -1,10 +1,10 @@
 -- The readers of what stands round the root, step by step.
-use Rattle.std.specs.Prelude.{◌≡◌, ℕ, ◌<◌, ◌+◌, ◌-◌, ◌≤◌, Bool, not, eqb, drop, get_or}
+use Rattle.std.specs.Prelude.{◌≡◌, ℕ, ◌<◌, ◌+◌, ◌≤◌, Bool, not, eqb, drop, get_or}
 use Rattle.std.proofs.Math.Path.{refl, ap, sym}
 use mathlib.Core.List.{List, [], ◌∷◌, ◌++◌, append_assoc}
 use Rattle.std.proofs.Math.ListN.{length, length-drop}
 use Rattle.grammar.specs.Bytes.{ascii, begins}
-use Rattle.grammar.specs.Read.{Read, got, Reader, bind, ◌>>=◌, ◌>>◌, mark, byte}
+use Rattle.grammar.specs.Read.{Read, got, Reader, bind, mark, byte}
 use Rattle.grammar.proofs.Laws.Read.{Ok, good, bind_ok, ok_map}
 use Rattle.grammar.proofs.Laws.Read.{all_of_sound}
 use Rattle.grammar.specs.Bytes.{quote}

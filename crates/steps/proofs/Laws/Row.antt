@@ -1,11 +1,11 @@
 -- What is proved of Row.
-use Rattle.std.specs.Prelude.{◌≡◌, List, [], ◌∷◌, ℕ, zero, suc, ◌-◌, ◌≤◌, ◌<◌, true, false, not, length}
+use Rattle.std.specs.Prelude.{◌≡◌, List, [], ◌∷◌, ℕ, zero, suc, ◌≤◌, ◌<◌, true, false, not, length}
 use Rattle.std.proofs.Math.Path.{refl, sym}
 use Rattle.std.proofs.Common.{ap, ◌∙◌, arith, length-append}
 use Rattle.grammar.specs.Bytes.{ascii, blank, begins}
 use Rattle.grammar.specs.Document.{Element, Contents, nothing, child, merged}
 use Rattle.grammar.specs.Grammar.{TextCharacter}
-use Rattle.grammar.specs.Read.{Read, fail, got, Reader, bind, ◌>>=◌, ◌>>◌, pure, test, mark, span, alt, many_step}
+use Rattle.grammar.specs.Read.{Read, fail, got, Reader, bind, ◌>>=◌, pure, test, mark, span, alt, many_step}
 use Rattle.grammar.proofs.Laws.Read.{Ok, failed}
 use Rattle.grammar.proofs.Laws.Read.{good, bind_ok, ok_map, Takes, test_sound, all_of_sound}
 use Rattle.grammar.specs.Parser.{Look, at_close, at_comment, at_data, at_element, at_text, look, comment_at, data_at_lem, text_at, name_at}
