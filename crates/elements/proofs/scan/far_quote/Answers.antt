@@ -1,0 +1,11 @@
+use Rattle.elements.proofs.Laws.Tags.{values-on}
+use Rattle.elements.proofs.scan.far_quote.Goals as goal
+
+pub loop-i-init : goal.loop-i-init
+loop-i-init c = search values-on
+
+pub returns-then-text-i : goal.returns-then-text-i
+returns-then-text-i c = search values-on
+
+pub loop-i-preserved : goal.loop-i-preserved
+loop-i-preserved c = search values-on

@@ -1,0 +1,14 @@
+use Rattle.elements.proofs.Laws.Tags.{nearing}
+use Rattle.elements.proofs.scan.near_sign.Goals as goal
+
+pub loop-k-init : goal.loop-k-init
+loop-k-init c = search nearing
+
+pub returns-then-turns_tag : goal.returns-then-turns_tag
+returns-then-turns_tag c = search nearing
+
+pub loop-k-preserved : goal.loop-k-preserved
+loop-k-preserved c = search nearing
+
+pub returns : goal.returns
+returns c = search nearing

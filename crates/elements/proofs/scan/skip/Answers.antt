@@ -1,0 +1,11 @@
+use Rattle.nodes.proofs.Laws.Skip.{skipping}
+use Rattle.elements.proofs.scan.skip.Goals as goal
+
+pub returns-in-Open : goal.returns-in-Open
+returns-in-Open c = search skipping
+
+pub returns-in-Bare : goal.returns-in-Bare
+returns-in-Bare c = search skipping
+
+pub returns-in-No : goal.returns-in-No
+returns-in-No c = search skipping
