@@ -10,7 +10,7 @@ use super::taking::{place_in, record_in};
 use records::Place;
 
 // The counts; whether the second is walked turned round; and whether records go down along the walk.
-#[derive(Drop)]
+#[derive(Clone, Copy)]
 pub(crate) struct Way {
     pub(crate) n: usize,
     pub(crate) m: usize,
