@@ -61,8 +61,8 @@ def prepared(names):
 
 
 @contextlib.contextmanager
-def room(name):
-    """The folder of a crate in a new room."""
+def room(name, begun=True):
+    """The folder of a crate in a new room; where it is not begun, without what was proved of the crate itself, but with its edits."""
     with tempfile.TemporaryDirectory(prefix="room-") as folder:
         top, each = pathlib.Path(folder), [*below(name), name]
         (top / "crates.txt").write_text("".join(f"{lines()[one]}\n" for one in each), encoding="utf-8")
@@ -74,10 +74,12 @@ def room(name):
             (there / "out").mkdir()
             if one != name and (here / "out" / "rlib").is_dir():
                 shutil.copytree(here / "out" / "rlib", there / "out" / "rlib", copy_function=link)
-        kept = ROOT / "crates" / name / "out" / "incremental"
-        if kept.is_dir():
-            shutil.copytree(kept, top / "crates" / name / "out" / "incremental", copy_function=link_proofs)
-        yield top / "crates" / name
+        here, there = ROOT / "crates" / name, top / "crates" / name
+        if begun and (here / "out" / "incremental").is_dir():
+            shutil.copytree(here / "out" / "incremental", there / "out" / "incremental", copy_function=link_proofs)
+        if not begun and (here / "must-fail").is_dir():
+            shutil.copytree(here / "must-fail", there / "must-fail")
+        yield there
 
 
 def check(crate, *flags):
