@@ -1,6 +1,7 @@
 pub mod Good
 pub mod Kinds
 pub mod MapKind
+pub mod Fill
 pub mod Table
 pub mod Fields
 pub mod Seen

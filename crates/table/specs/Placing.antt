@@ -3,7 +3,7 @@ use Rattle.std.specs.Prelude.{◌≡◌, List, [], ℕ, ◌+◌, ◌<◌, ◌≤
 use Rattle.lists.specs.Lists.{total}
 use Rattle.nodes.specs.Places.{the}
 use Rattle.cifti.specs.Maps.{Model, model_of, locations}
-use Rattle.maps.proofs.Laws.Fill.{filled}
+use Rattle.maps.specs.Fill.{filled}
 use Rattle.maps.specs.Table.{model_records}
 use Rattle.models.specs.Held.{Holding, models_at}
 use Rattle.models.specs.declared.gather.Models.{Models}

@@ -4,7 +4,6 @@ use Rattle.lists.specs.Lists.{any, two_of}
 use Rattle.nodes.specs.Places.{the}
 use Rattle.cifti.specs.Maps.{Map, map_of, length_of}
 use Rattle.cifti.specs.Conditions.{alike, uneven, beyond}
-use Rattle.maps.proofs.Laws.Fill as Fill
 use Rattle.models.specs.Brain.{BrainAt}
 use Rattle.models.specs.Gathered.{Gathered}
 use Rattle.models.specs.declared.gather.Models.{Models}

@@ -42,6 +42,7 @@ module _ {text : List ℕ} {at : ℕ} (w : List ℕ) (st : Stands text at) {f : 
   found_value {v} h = go (lookup w (attributes_of (the text at))) (rw (sym e ∙ h) at (attribute_law w st))
     where
       go : (o : Option Word) → Held text (At v) o → value_there text v ≡ or_empty o
+      go Option.none x' = elim x' [ ]
       go (some x) (held k) = value_law k
 
   pub found_none : f ≡ Nothing → attribute_word w (the text at) ≡ []
@@ -49,6 +50,7 @@ module _ {text : List ℕ} {at : ℕ} (w : List ℕ) (st : Stands text at) {f : 
   found_none h = go (lookup w (attributes_of (the text at))) (rw (sym e ∙ h) at (attribute_law w st))
     where
       go : (o : Option Word) → Held text Nothing o → or_empty o ≡ []
+      go (some _) x'' = elim x'' [ ]
       go Option.none missing = refl
 
   -- the paths of `attribute_number`

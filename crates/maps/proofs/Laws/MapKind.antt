@@ -46,6 +46,7 @@ same_words = refl
 -- what a computed equation says of all kinds holds of each
 pub of_all : {A : Type 0} (f : Kind → A) (a : A) (l : List Kind) {k : Kind} → each f l ≡ replicate (length l) a → Among k l → f k ≡ a
 unfolding each
+of_all {A = A} f a [] {k = k} h x'' = elim x'' [ ]
 of_all f a (j ∷ l) h here = cc
 of_all f a (j ∷ l) h (further m) = of_all f a l (cc) m
 

@@ -14,7 +14,8 @@ use Rattle.cifti.proofs.Laws.Cover.{ranges_within}
 use Rattle.cifti.proofs.Laws.Meaning.{even_iff}
 use Rattle.cifti.proofs.Laws.Repeats.{lists_count_lem}
 use Rattle.maps.proofs.Laws.Chain.{Counting, none_counts, one_counts, OnceBelow}
-use Rattle.maps.proofs.Laws.Fill.{filled, entry_at, Fitting, none_fits, one_fits, filled_law, table_same}
+use Rattle.maps.specs.Fill.{filled, entry_at, Fitting, none_fits, one_fits}
+use Rattle.maps.proofs.Laws.Fill.{filled_law, table_same}
 use Rattle.maps.specs.Table.{model_records}
 
 record_entry : (l : List Model) (n : ℕ) → entry_at model_records l n ≡ record_at l n

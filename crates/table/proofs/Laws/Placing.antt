@@ -8,7 +8,7 @@ use Rattle.std.proofs.Math.Seq.{drop-length}
 use Rattle.lists.specs.Lists.{total}
 use Rattle.records.specs.Fill.{wrote, length_wrote}
 use Rattle.cifti.specs.Maps.{Model}
-use Rattle.maps.proofs.Laws.Fill.{filled}
+use Rattle.maps.specs.Fill.{filled}
 use Rattle.maps.specs.Table.{model_records}
 use Rattle.models.specs.Held.{held_model, models_at}
 use Rattle.lists.proofs.Laws.Tables.{size_of_table, entry_of_table}

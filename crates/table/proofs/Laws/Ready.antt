@@ -11,8 +11,8 @@ use Rattle.cifti.specs.Maps.{voxels, Model, model_of, length_of, locations}
 use Rattle.cifti.specs.Conditions.{uneven, beyond}
 use Rattle.cifti.specs.Answer.{stretch}
 use Rattle.maps.proofs.Laws.Chain.{Counting, none_counts, one_counts}
-use Rattle.maps.proofs.Laws.Fill.{filled, Fitting, none_fits}
-use Rattle.maps.proofs.Laws.Fill as Fill
+use Rattle.maps.specs.Fill.{filled, Fitting, none_fits}
+use Rattle.maps.specs.Fill as Fill
 use Rattle.maps.specs.Table.{model_records}
 use Rattle.maps.proofs.Laws.Table.{fitting, table_law}
 use Rattle.maps.proofs.Laws.Good.{AllGood, none_left, one_good}
