@@ -41,8 +41,7 @@ On a terminal there is the command `dzwonolin` (docs/USING.md), and still:
     python3 python/dzwonolin.py compare OLD NEW              two sheets: how many are same, moved, first, second; then what changed
 
 Standard library only. The shared library is looked for in DZWONOLIN_LIBRARY (a path), beside this file, in the
-folders lib, build, target/native and target above it, and then where the system keeps its own. The library is for x86-64 Linux; on
-another processor bench/native makes one to try.
+folders lib, build and target above it, and then where the system keeps its own. The library is for x86-64 Linux.
 """
 from __future__ import annotations
 
@@ -103,7 +102,7 @@ _FUNCTIONS.update({"dz_label_keys": _SLICE * 2 + (ctypes.c_uint64,) * 2 + _SLICE
 
 def _places():
     here = pathlib.Path(__file__).resolve().parent
-    folders = [here] + [here.parent / folder for folder in ("lib", "build", "target/native", "target")] + [here.parent.parent]
+    folders = [here] + [here.parent / folder for folder in ("lib", "build", "target")] + [here.parent.parent]
     for folder in folders:
         yield from (folder / name for name in ("libdzwonolin.so", "libdzwonolin.so.1"))
 
