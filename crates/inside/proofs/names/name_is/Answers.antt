@@ -1,0 +1,23 @@
+use Rattle.nodes.proofs.Laws.Names.{naming}
+use Rattle.inside.proofs.names.name_is.Goals as goal
+
+pub returns-then-text-at : goal.returns-then-text-at
+returns-then-text-at c = search naming
+
+pub returns-then-text-at-ne60 : goal.returns-then-text-at-ne60
+returns-then-text-at-ne60 c = search naming
+
+pub slice_bounds-equal-count : goal.slice_bounds-equal-count
+slice_bounds-equal-count c = search naming
+
+pub slice_bounds-equal-start : goal.slice_bounds-equal-start
+slice_bounds-equal-start c = search naming
+
+pub slice_bounds-equal-end : goal.slice_bounds-equal-end
+slice_bounds-equal-end c = search naming
+
+pub returns-in-To : goal.returns-in-To
+returns-in-To c = search naming
+
+pub returns-in-No : goal.returns-in-No
+returns-in-No c = search naming
