@@ -58,14 +58,14 @@ pub enum Next {
 }
 
 // Where characters come from: a value in a quote, or the text of an element.
-#[derive(Drop)]
+#[derive(Clone, Copy)]
 pub enum Source {
     Value(u8),
     Contents,
 }
 
 // Digits in a row: what they write, how many they are, the place behind them.
-#[derive(Drop)]
+#[derive(Clone, Copy)]
 pub struct Run {
     pub value: u64,
     pub count: u64,
