@@ -1,5 +1,5 @@
 -- THEOREMS ON THE PART: one answer, its place holds it, and it is those records of the longer sheet, in its width. Assumes nothing.
-use Rattle.std.specs.Prelude.{◌≡◌, refl, true, cond, List, [], ◌∷◌, map, ◌⊎◌, ℕ, zero, suc, ◌+◌, ◌-◌, ◌*◌, ◌≤◌, ◌<◌, eqb, length, take, drop}
+use Rattle.std.specs.Prelude.{◌≡◌, refl, true, cond, List, [], ◌∷◌, map, ℕ, zero, suc, ◌+◌, ◌-◌, ◌*◌, ◌≤◌, ◌<◌, eqb, length, take, drop}
 use Rattle.std.proofs.Common.{sym, ap, ◌∙◌, subst, ⊎_elim, arith, mul-zero, mul-suc, mul-add, length-drop, drop-drop, lt-ltb, le-ltb, eq-eqb, ne_eqb}
 use Rattle.lists.proofs.Laws.Numbers.{eq?}
 use Rattle.records.specs.Outcome.{unless}
