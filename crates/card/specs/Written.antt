@@ -46,6 +46,10 @@ pub record WritesOut (bytes out : List ℕ) (count : ℕ) (outAfter : List ℕ) 
   pub counted : count ≡ cond (leb (length bytes) (length out)) (length bytes) 0
   pub filled : outAfter ≡ cond (leb (length bytes) (length out)) (wrote 0 bytes out) out
 
+-- so many bytes are there at the start
+abbrev pub IsPrefixLen : (count : ℕ) → (bytes : List ℕ) → Type 0
+IsPrefixLen n bytes = (n ≤ length bytes) × (n ≡ length (take n bytes))
+
 -- one word with a byte behind it, at a place
 pub record Puts (word : Word) (then at : ℕ) (out : List ℕ) (next : ℕ) (outAfter : List ℕ) : Type 0 where
   pub behind : next ≡ at + (length word + 1)

@@ -1,12 +1,12 @@
 // The bytes of a line.
 ghost use Rattle.std.specs.Prelude.{◌≡◌, [], ◌∷◌, ◌+◌, ◌≤◌, length, take};
-ghost use Rattle.io.specs.Counts.{IsPrefixLen};
 ghost use Rattle.grammar.specs.Bytes.{ascii};
-ghost use Rattle.card.specs.Written.{in_tens, spaced, line_bytes, Puts, Spells, WritesOut};
+ghost use Rattle.card.specs.Written.{in_tens, spaced, line_bytes, IsPrefixLen, Puts, Spells, WritesOut};
 ghost use Rattle.cifti.specs.Maps.{kind_word, kind_bytes};
 
 use super::line::Line;
 use cifti::Kind;
+use itoa::Buffer;
 use records::{Index, Place, Vertex};
 
 // The first `count` letters are a word.
@@ -21,8 +21,8 @@ fn put_word(out: &mut [u8], at: usize, word: &[u8], then: u8) -> usize
     requires { (length word.now ≤ 20) × (at + 21 ≤ length out.old) }
     ensures { Puts word.now then at out.old result out.new }
 {
-    bytes::copy(word, &mut out[at..]);
     let next = at + word.len();
+    out[at..next].copy_from_slice(word);
     out[next] = then;
     next + 1
 }
@@ -31,9 +31,9 @@ fn put_number(out: &mut [u8], at: usize, n: u64, then: u8) -> usize
     requires { at + 21 ≤ length out.old }
     ensures { Puts (in_tens n) then at out.old result out.new }
 {
-    let mut digits = [0u8; 20];
-    let k = io::decimal(n, &mut digits);
-    put_word(out, at, &digits[..k], then)
+    let mut digits = Buffer::new();
+    let word = digits.format(n);
+    put_word(out, at, word.as_bytes(), then)
 }
 
 fn refused_row(out: &mut [u8], number: u64) -> usize
@@ -168,6 +168,6 @@ pub fn write_line(line: Line, out: &mut [u8]) -> usize
     if out.len() < n {
         return 0;
     }
-    bytes::copy(&space[..n], out);
+    out[..n].copy_from_slice(&space[..n]);
     n
 }

@@ -1,18 +1,15 @@
 -- The bytes of a line: a word put down, words in a row, and the line in the slice lent.
-use Rattle.std.specs.Prelude.{◌≡◌, List, [], ◌∷◌, ◌++◌, Bool, true, false, ℕ, zero, suc, ◌+◌, ◌*◌, ◌-◌, ◌/◌, ◌%◌, ◌^◌, ◌≤◌, ◌<◌, leb, length, take, drop, set}
+use Rattle.std.specs.Prelude.{◌≡◌, List, [], ◌∷◌, ◌++◌, Bool, true, false, ℕ, cond, zero, suc, ◌+◌, ◌*◌, ◌/◌, ◌%◌, ◌^◌, ◌≤◌, ◌<◌, ltb, leb, length, take, drop, set}
 use Rattle.std.proofs.Math.Path.{refl}
-use Rattle.std.proofs.Common.{sym, ap, ◌∙◌, append_assoc, append-nil, pow-suc, arith, rules, lt-ltb, le-ltb, le-leb, leb-true, leb-false, length-append, length-take, length-drop, drop_of_length-le, take_all, take_at, drop-drop}
+use Rattle.std.proofs.Common.{sym, ap, subst, ◌∙◌, append_assoc, append-nil, pow-suc, arith, rules, lt-ltb, ltb-true, ltb-false, le-leb, leb-true, leb-false, length-append, length-take, length-take-le, length-drop, drop_of_length-le, take_all, take_at, drop-drop}
 use Rattle.std.proofs.lemmas.Bool.{lt-leb}
-use borrow.Rule.Slice.PartMut.{mid_of, post_of, put_mid}
-use Rattle.std.proofs.Math.Seq.{take-length}
-use Rattle.io.specs.Digits as io
-use Rattle.io.specs.Counts.{IsPrefixLen}
-use Rattle.io.proofs.Counting.{prefix_len_of_le}
+use borrow.Rule.Slice.PartMut.{put_mid}
+use Rattle.std.specs.Fmt.{decimal}
+use Rattle.std.proofs.lemmas.Fmt.{decimal_digit, decimal_step}
 use Rattle.grammar.specs.Bytes.{ascii}
 use Rattle.grammar.specs.Look.{Word}
-use Rattle.numbers.proofs.Laws.Cuts.{powers}
 use Rattle.records.specs.Fill.{wrote, wrote_on, wrote_one, length_wrote}
-use Rattle.card.specs.Written.{in_tens_up_to, in_tens, spaced, words_of, line_bytes, WritesOut, Puts}
+use Rattle.card.specs.Written.{in_tens_up_to, in_tens, spaced, words_of, line_bytes, IsPrefixLen, WritesOut, Puts}
 use Rattle.cifti.specs.Maps.{kind_word, kind_bytes, kind_bytes_lem}
 use Rattle.card.specs.Written.{Spells}
 use Rattle.cifti.specs.declared.answer.Kind.{Kind}
@@ -24,26 +21,12 @@ use Rattle.records.specs.declared.counters.Place.{Place}
 
 -- ---- A word, and the byte behind it.
 
-module _ (s w t : List ℕ) (at : ℕ) (fits : at + length w ≤ length s)
-    (copied : t ≡ take (length w) w ++ drop (length w) (mid_of at (length s - at) s)) where
-  mid : mid_of at (length s - at) s ≡ drop at s
-  mid = take_all (length s - at) (drop at s) (omega (arith, length-drop at s))
-
-  post : post_of at (length s - at) s ≡ []
-  post = drop-drop (length s - at) at s ∙ (let h : length s ≤ at + (length s - at) = omega arith in drop_of_length-le s h)
-
-  is : t ≡ w ++ drop (at + length w) s
-  is = copied ∙ rw (mid, take-length w, drop-drop (length w) at s) refl
-
-  put_copied : put_mid at (length s - at) s t ≡ wrote at w s
-  put_copied = rw (post, is, append-nil (w ++ drop (at + length w) s)) (sym (append_assoc (take at s) w (drop (at + length w) s)))
-
-pub put_word : (s w t : List ℕ) (at b : ℕ) → (length w ≤ 20) × (at + 21 ≤ length s) → t ≡ take (length w) w
-    ++ drop (length w) (mid_of at (length s - at) s)
-    → Puts w b at s (at + length w + 1) (set (put_mid at (length s - at) s t) (at + length w) b)
-put_word s w t at b h copied =
-    let e : put_mid at (length s - at) s t ≡ wrote at w s = put_copied s w t at (omega arith) copied in
-    let long : length (wrote at w s) ≡ length s = length_wrote at w s (omega arith) in
+pub put_word : (s w t : List ℕ) (at b k : ℕ) → (length w ≤ 20) × (at + 21 ≤ length s) → k ≡ length w → t ≡ w
+    → Puts w b at s (at + length w + 1) (set (put_mid at k s t) (at + length w) b)
+put_word s w t at b k h long copied =
+    let e : put_mid at k s t ≡ wrote at w s = ap (λ j. put_mid at j s t) long ∙ ap (put_mid at (length w) s) copied
+    ∙ ap (λ l. take at s ++ (w ++ l)) (drop-drop (length w) at s) ∙ sym (append_assoc (take at s) w (drop (at + length w) s)) in
+    let kept : length (wrote at w s) ≡ length s = length_wrote at w s (omega arith) in
     record {
       behind = omega arith;
       short = omega arith;
@@ -53,43 +36,26 @@ put_word s w t at b h copied =
 
 -- ---- A number: the fewest digits that hold it.
 
-fewest : (m k n : ℕ) → io.IsDigitCount 10 1 n k → k ≤ m → io.last_digits 10 k n ≡ in_tens_up_to m n
+-- what std writes of a number
+fewest : (m n : ℕ) → n < 2 ^ 64 → n < 10 ^ suc m → decimal n ≡ in_tens_up_to (suc m) n
 unfolding in_tens_up_to
-fewest zero k n f h = absurd (omega arith)
-fewest (suc m) zero n f h = absurd (omega arith)
-fewest (suc m) (suc zero) n f h =
-    let few : n < 10 = omega arith in
-    let last : n % 10 ≡ n = omega arith in
-    rw (last, lt-ltb n 10 few) refl
-fewest (suc m) (suc (suc k)) n f h =
-    let less : suc (suc k) - 1 ≡ suc k = omega arith in
-    let least : suc k - 1 ≡ k = omega arith in
-    let wide : 10 ^ suc k ≤ n = rw less at (f.2 (omega arith)) in
-    let more : 10 ^ suc k ≡ 10 ^ k * 10 = pow-suc 10 k in
-    let most : 10 ^ suc (suc k) ≡ 10 ^ suc k * 10 = pow-suc 10 (suc k) in
-    let some : 10 ^ 0 ≤ 10 ^ k = powers 0 k (omega arith) in
-    let many : 10 ≤ n = omega arith in
-    let small : n % 10 < 10 = omega arith in
-    let below : n / 10 < 10 ^ suc k = omega (arith, f.1) in
-    let above : 10 ^ k ≤ n / 10 = omega arith in
-    rw (le-ltb n 10 many, lt-ltb (n % 10) 10 small)
-    (ap (λ l. l ++ ((48 + n % 10) ∷ [])) (fewest m (suc k) (n / 10) (omega arith, below, λ l. rw least above) (omega arith)))
-
-pub few_digits : (n k : ℕ) → n < 100000000000000000000 → io.IsDigitCount 10 1 n k → k ≤ 20
-few_digits n k small f = go (leb k 20) refl
+fewest zero n h small = decimal_digit n (omega arith) ∙ (let e : ltb n 10 ≡ true = lt-ltb n 10 (omega arith) in rw e refl)
+fewest (suc m) n h small = go (ltb n 10) refl (fewest m (n / 10))
   where
-    go : (b : Bool) → leb k 20 ≡ b → k ≤ 20
-    go true e = leb-true k 20 e
-    go false e =
-        let more : 20 < k = leb-false k 20 e in
-        let wide : 10 ^ (k - 1) ≤ n = f.2 (omega arith) in
-        let least : 10 ^ 20 ≤ 10 ^ (k - 1) = powers 20 (k - 1) (omega arith) in
-        absurd (omega arith)
+    go : (b : Bool) → ltb n 10 ≡ b → (n / 10 < 2 ^ 64 → n / 10 < 10 ^ suc m → decimal (n / 10) ≡ in_tens_up_to (suc m) (n / 10))
+        → decimal n ≡ cond b ((48 + n) ∷ []) (in_tens_up_to (suc m) (n / 10) ++ ((48 + n % 10) ∷ []))
+    go true e f = decimal_digit n (ltb-true n 10 e)
+    go false e f =
+        let many : 10 ≤ n = ltb-false n 10 e in
+        let more : 10 ^ suc (suc m) ≡ 10 ^ suc m * 10 = pow-suc 10 (suc m) in
+        decimal_step n many h ∙ ap (λ l. l ++ ((48 + n % 10) ∷ [])) (f (omega arith) (omega arith))
 
-pub put_number : (n k : ℕ) (ds : List ℕ) → io.IsDigitCount 10 1 n k → take k ds ≡ io.last_digits 10 k n → k ≤ 20 → {b at r : ℕ} {s t : List ℕ}
-    → Puts (take k ds) b at s r t → Puts (in_tens n) b at s r t
+pub in_tens_decimal : (n : ℕ) → n < 2 ^ 64 → decimal n ≡ in_tens n
 unfolding in_tens
-put_number n k ds f are room p = let e : take k ds ≡ in_tens_up_to 20 n = are ∙ fewest 20 k n f room in rw e at p
+in_tens_decimal n h = fewest 19 n h (omega arith)
+
+pub put_number : (n : ℕ) {w : Word} {b at r : ℕ} {s t : List ℕ} → n < 2 ^ 64 → w ≡ decimal n → Puts w b at s r t → Puts (in_tens n) b at s r t
+put_number n {w} {b} {at} {r} {s} {t} h e p = subst (λ v. Puts v b at s r t) (e ∙ in_tens_decimal n h) p
 
 -- ---- Words in a row, from the start of a slice that has room.
 
@@ -230,18 +196,17 @@ module _ {bytes s : List ℕ} {n : ℕ} (spelled : Spells bytes n s) where
       let e : leb (length bytes) (length out) ≡ false = lt-leb (length bytes) (length out) (omega (arith, spelled.counted)) in
       record { counted = rw e refl; filled = rw e refl }
 
-  pub write_all : (out : List ℕ) → n ≤ length out → {t : List ℕ} → t ≡ take (length (take n s)) (take n s)
-      ++ drop (length (take n s)) out → WritesOut bytes out n t
+  pub write_all : (out : List ℕ) → n ≤ length out → {t : List ℕ} → t ≡ take n s → WritesOut bytes out n (put_mid 0 n out t)
   write_all out h {t} copied =
       let e : leb (length bytes) (length out) ≡ true = le-leb (length bytes) (length out) (omega (arith, spelled.counted)) in
-      let z : 0 + length bytes ≡ length bytes = omega arith in
-      record { counted = rw e spelled.counted; filled = rw e (copied ∙ rw (take-length (take n s), spelled.are, z) refl) }
+      let places : n ≡ 0 + length bytes = omega (arith, spelled.counted) in
+      record {
+        counted = rw e spelled.counted;
+        filled = rw e (ap (λ l. l ++ drop n out) (copied ∙ spelled.are) ∙ ap (λ j. bytes ++ drop j out) places);
+      }
 
-  pub write_counts : (out : List ℕ) → n ≤ length out → {t : List ℕ} → t ≡ take (length (take n s)) (take n s)
-      ++ drop (length (take n s)) out → IsPrefixLen n t
+  pub write_counts : (out : List ℕ) → n ≤ length out → {t : List ℕ} → t ≡ take n s → IsPrefixLen n (put_mid 0 n out t)
   write_counts out h {t} copied =
-      let e : t ≡ take n s ++ drop (length (take n s)) out = copied ∙ rw (take-length (take n s)) refl in
-      let long : length t ≡ length (take n s) + (length out - length (take n s)) =
-      ap length e ∙ length-append (take n s) (drop (length (take n s)) out)
-      ∙ ap (λ k. length (take n s) + k) (length-drop (length (take n s)) out) in
-      prefix_len_of_le n t (omega (arith, spelled_part))
+      let long : length t ≡ n = ap length copied ∙ sym spelled_part in
+      let room : n ≤ length (put_mid 0 n out t) = omega (arith, long, length-append t (drop n out)) in
+      (room, sym (length-take-le n (put_mid 0 n out t) room))

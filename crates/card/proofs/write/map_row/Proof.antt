@@ -1,9 +1,0 @@
-use Rattle.card.proofs.Laws.Write.{rowSteps}
-use borrow.Author.Rules.{rules}
-use Rattle.card.proofs.write.map_row.Statement.{statement}
-use Rattle.card.proofs.write.map_row.Tie as tie
-
-pub map-row-spec : {M : Type 1} → statement M
-map-row-spec =
-    tie.close
-    (tie.spec (λ c κs. search rules) (λ c κs. search rules) (λ c κs. search rules) (λ c. search rules) (λ c. search rowSteps))
