@@ -1,0 +1,17 @@
+use Rattle.schema.proofs.Laws.Lines.{of-child}
+use Rattle.lookup.proofs.lines.child_kind.Goals as goal
+
+pub returns-then-to-line : goal.returns-then-to-line
+returns-then-to-line c = search of-child
+
+pub out_of_turn-requires : goal.out_of_turn-requires
+out_of_turn-requires c = search of-child
+
+pub returns-then-out_of_turn : goal.returns-then-out_of_turn
+returns-then-out_of_turn c = search of-child
+
+pub line_kind-requires : goal.line_kind-requires
+line_kind-requires c = search of-child
+
+pub returns : goal.returns
+returns c = search of-child
