@@ -1,11 +1,9 @@
 -- Marking a place.
-use mathlib.Core.Path.{◌≡◌, refl, sym, ap, ◌∙◌}
-use mathlib.Core.List.{List, [], ◌∷◌}
+use mathlib.Core.Path.{◌≡◌, sym, ap, ◌∙◌}
+use mathlib.Core.List.{List}
 use mathlib.Core.Bool.{true, false, false≢true}
-use Prim.Native.Nat.{ℕ, zero, suc, ◌+◌, ◌/◌, ◌%◌, ◌^◌, ◌≤◌, ◌<◌}
+use Prim.Native.Nat.{ℕ, ◌+◌, ◌/◌, ◌%◌, ◌^◌, ◌≤◌, ◌<◌}
 use native.Mathlib.Omega.{arith}
-use native.Mathlib.Nat.{zero-div}
-use lib.Dec.{eqb}
 use borrow.Author.Rules.{rules}
 use lib.ListN.{length, get_or, set, length-set}
 use lib.Seq.{get_or-set_same, get_or-set_other}
@@ -36,22 +34,6 @@ set_before before place {at} {w} ea ew h =
     let e : w ≡ get_or before (place / 64) 0 = ew ∙ ap (λ (x : ℕ). get_or before x 0) ea in
     not_new (λ r. sym (ap (λ (x : ℕ). bit x (place % 64)) e) ∙ omega (arith, h))
 
--- past the end nothing is marked
-past_end : (l : List ℕ) (i : ℕ) → length l ≤ i → get_or l i 0 ≡ 0
-past_end [] i h = refl
-past_end (a ∷ l) zero h = absurd (omega arith)
-past_end (a ∷ l) (suc i) h = past_end l i (omega arith)
-
-pub none_there : (work : List ℕ) (place : ℕ) {at : ℕ} → at ≡ place / 64 → length work ≤ at → false ≡ eqb (marked work place) 1
-none_there work place {at} e h =
-    let z : get_or work (place / 64) 0 ≡ 0 = past_end work (place / 64) (omega arith) in
-    let b : marked work place ≡ 0 = ap (λ (x : ℕ). bit x (place % 64)) z ∙ ap (λ (x : ℕ). x % 2) (zero-div (2 ^ (place % 64))) in
-    rw b refl
-
-pub told_by_bit : (work : List ℕ) (place : ℕ) {at : ℕ} → at ≡ place / 64
-    → eqb (bit (get_or work at 0) (place % 64)) 1 ≡ eqb (marked work place) 1
-told_by_bit work place e = rw e refl
-
 module _ (before : List ℕ) (place : ℕ) {at w v : ℕ} (ea : at ≡ place / 64) (inside : at < length before) (ew : w ≡ get_or before at 0)
     (zero_bit : bit w (place % 64) ≡ 0) (ev : v ≡ w + 2 ^ (place % 64)) where
   same_word : (i : ℕ) → i ≡ at → get_or (set before at v) i 0 ≡ w + 2 ^ (place % 64)
@@ -76,5 +58,3 @@ module _ (before : List ℕ) (place : ℕ) {at w v : ℕ} (ea : at ≡ place / 6
       is_set = ap (λ (x : ℕ). bit x (place % 64)) (same_word (place / 64) (sym ea)) ∙ sets w (place % 64) zero_bit
 
 pub ruleset marking = (one_shifted, sum_fits, unset_here, no_room, set_before, newly, rules)
-
-pub ruleset marked-there = (none_there, told_by_bit, rules)
