@@ -1,5 +1,5 @@
 -- A WAY HAS ONE PLACE IN A TEXT: it is where the walk by places leads to.
-use Rattle.std.specs.Prelude.{◌≡◌, List, [], ℕ, ◌+◌, ◌-◌, ◌≤◌, length, take, drop}
+use Rattle.std.specs.Prelude.{◌≡◌, List, ℕ, ◌+◌, ◌≤◌, length, take, drop}
 use Rattle.nodes.specs.Scan.{tag_at}
 use Rattle.nodes.specs.ScanSteps.{tag_told}
 use Rattle.nodes.specs.Inside.{between_tags}

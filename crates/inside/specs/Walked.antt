@@ -1,6 +1,5 @@
 -- A WAY BY PLACES: what a walk over first and next children finds; and that it finds what the way reaches in the document.
 use Rattle.std.specs.Prelude.{List, [], ◌∷◌, Bool, ℕ, zero, suc, length}
-use Rattle.std.proofs.Math.Option
 use Rattle.lists.specs.Lists.{those}
 use Rattle.nodes.specs.Places.{the}
 use Rattle.nodes.specs.Children.{first_child, next}

@@ -2,7 +2,6 @@
 -- `reached` says what a way leads to in a document; `WayPlace` says where that stands in a text, by the grammar.
 use Rattle.std.specs.Prelude.{◌≡◌, List, [], ◌∷◌, Bool, true, ℕ, zero, suc, length}
 use Rattle.std.proofs.Math.Option.{Option, some}
-use Rattle.std.proofs.Math.Option
 use Rattle.lists.specs.Lists.{those, count}
 use Rattle.grammar.specs.Bytes.{◌⊹◌, ascii, blank, Each, Sequence}
 use Rattle.grammar.specs.Document.{Attribute, Element, Contents}

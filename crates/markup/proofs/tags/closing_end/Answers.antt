@@ -7,27 +7,27 @@ returns-then-text-from c = search closing
 
 pub slice_bounds-close_end-count : goal.slice_bounds-close_end-count
 slice_bounds-close_end-count c = omega (
-      arith,
-      name_span c.args.text.now
-          c.args.from 0 c.name_end.ensures
-          c.in-To.is c.if-text-from.false,
-    )
+  arith,
+  name_span c.args.text.now
+      c.args.from 0 c.name_end.ensures
+      c.in-To.is c.if-text-from.false,
+)
 
 pub slice_bounds-close_end-start : goal.slice_bounds-close_end-start
 slice_bounds-close_end-start c = omega (
-      arith,
-      name_span c.args.text.now
-          c.args.from 0 c.name_end.ensures
-          c.in-To.is c.if-text-from.false,
-    )
+  arith,
+  name_span c.args.text.now
+      c.args.from 0 c.name_end.ensures
+      c.in-To.is c.if-text-from.false,
+)
 
 pub slice_bounds-close_end-end : goal.slice_bounds-close_end-end
 slice_bounds-close_end-end c = omega (
-      arith,
-      name_span c.args.text.now
-          c.args.from 0 c.name_end.ensures
-          c.in-To.is c.if-text-from.false,
-    )
+  arith,
+  name_span c.args.text.now
+      c.args.from 0 c.name_end.ensures
+      c.in-To.is c.if-text-from.false,
+)
 
 pub returns-in-To : goal.returns-in-To
 returns-in-To c =
