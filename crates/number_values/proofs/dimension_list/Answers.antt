@@ -1,0 +1,8 @@
+use Rattle.numbers.proofs.Laws.Lists.{counting-all}
+use Rattle.number_values.proofs.dimension_list.Goals as goal
+
+pub returns : goal.returns
+returns c = search counting-all
+
+pub dimensions_between-requires : goal.dimensions_between-requires
+dimensions_between-requires c = search counting-all
