@@ -3,10 +3,12 @@
 // value), run (`#`) and end (`>`), in the order of the text. Values and runs are decoded, in hexadecimal.
 #![tactic(auto)]
 
+ghost use Rattle.std.specs.Prelude.{◌≤◌, length};
+
 use elements::children::root_of;
-use libc::{STDERR_FILENO, STDIN_FILENO, STDOUT_FILENO};
 use markup::well_formed;
 use nodes::Kid;
+use std::io::{Read, Write};
 
 // The bytes of lines.
 mod lines;
@@ -24,23 +26,47 @@ fn lines_of(out: &mut [u8], text: &[u8]) -> usize {
     }
 }
 
-fn print(out: &[u8], size: usize) {
+// Until the bytes lent are full, the input ends, or a read fails.
+fn read_full<R: Read>(from: &mut R, bytes: &mut [u8]) -> usize
+    ensures { result ≤ length bytes.new }
+{
+    let mut n = 0;
+    while n < bytes.len() {
+        match from.read(&mut bytes[n..]) {
+            Ok(more) => {
+                if more == 0 {
+                    return n;
+                }
+                n += more;
+            }
+            Err(_) => {
+                return n;
+            }
+        }
+    }
+    n
+}
+
+fn print<W: Write, E: Write>(to: &mut W, told: &mut E, out: &[u8], size: usize) {
     if size <= out.len() {
-        if io::write_all(STDOUT_FILENO, &out[..size]) {
+        if to.write_all(&out[..size]).is_ok() {
             return;
         }
     }
-    io::write_all(STDERR_FILENO, b"outline: writing failed\n");
+    let _ = told.write_all(b"outline: writing failed\n");
 }
 
-fn main() {
+fn main(rt: HostRuntime) {
     let mut text = [0u8; 32769];
     let mut out = [0u8; 131072];
-    let size = io::read_full(STDIN_FILENO, &mut text);
+    let mut from = rt.stdin();
+    let mut to = rt.stdout();
+    let mut told = rt.stderr();
+    let size = read_full(&mut from, &mut text);
     if 32768 < size {
-        print(b"refused 2\n", 10);
+        print(&mut to, &mut told, b"refused 2\n", 10);
         return;
     }
     let n = lines_of(&mut out, &text[..size]);
-    print(&out, n);
+    print(&mut to, &mut told, &out, n);
 }
