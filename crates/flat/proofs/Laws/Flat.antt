@@ -1,6 +1,6 @@
 -- The fill of a lent slice, row by row.
 use Rattle.std.specs.Prelude.{◌≡◌, refl, List, ◌++◌, ℕ, ◌+◌, ◌≤◌, ◌<◌, length, get_or, set, take}
-use Rattle.std.proofs.Common.{sym, ap, ◌∙◌, true≢false, arith, le-leb, le-ltb, length-take, take_all, rules, Fits, SFits, to_z, of_z}
+use Rattle.std.proofs.Common.{sym, ap, ◌∙◌, arith, le-leb, length-take, take_all, rules}
 use Rattle.std.proofs.lemmas.Bool.{lt-leb}
 use Rattle.records.specs.Fill.{wrote, wrote_none, wrote_on, wrote_next, length_wrote}
 use Rattle.cifti.specs.Answer.{filled_with, unused}
