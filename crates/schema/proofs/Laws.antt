@@ -1,5 +1,6 @@
 pub mod Erased
 pub mod Renamed
+pub mod WalkStep
 pub mod Good
 pub mod Letters
 pub mod Table

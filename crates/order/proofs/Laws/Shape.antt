@@ -16,7 +16,8 @@ use Rattle.grammar.specs.Look.{is, name_of, attributes_of, contents_of, elements
 use Rattle.schema.specs.Schema.{Times, once, at_most_once, any_times, at_least_once, needed_below, Which, always, chosen, chosen_else, ChildRow}
 use Rattle.schema.specs.Schema.{child, any_order, in_order, Row, branch, leaf, kind_by, kind_of, child_rows, everywhere, below, stands_so}
 use Rattle.schema.specs.Schema.{child_shaped, orderly, children_shaped, shaped, numbered}
-use Rattle.schema.specs.Walk.{at_child, walk_step}
+use Rattle.schema.specs.Walk.{at_child}
+use Rattle.schema.proofs.Laws.WalkStep.{walk_step}
 use Rattle.schema.proofs.Laws.Everywhere.{called, below_children}
 use Rattle.cifti.specs.Rows.{ElementKind, cifti, matrix, meta_data, md, text_leaf, brain_models, series, scalars, named_map, volume, transform}
 use Rattle.cifti.specs.Rows.{surface, voxels, vertex_indices, voxel_indices, labels, labelled_map, label_table, label, rows}

@@ -18,7 +18,8 @@ use Rattle.schema.specs.Schema.{any_value, word, number, AttributeRow, required,
 use Rattle.schema.specs.Schema.{kind_of, child_rows, everywhere, is_text}
 use Rattle.schema.specs.Schema.{shaped, numbered, attributes_shaped, attribute_shaped, attribute_numbered, is_word, is_number}
 use Rattle.schema.specs.Schema.{children_shaped, child_shaped}
-use Rattle.schema.specs.Walk.{at_child, walk_step}
+use Rattle.schema.specs.Walk.{at_child}
+use Rattle.schema.proofs.Laws.WalkStep.{walk_step}
 use Rattle.schema.specs.Good.{Good, One}
 
 -- a child that its parent's rows know, good as what they take it for

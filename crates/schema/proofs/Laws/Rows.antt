@@ -12,7 +12,8 @@ use Rattle.grammar.specs.Look.{attributes_of, contents_of, elements, characters,
 use Rattle.schema.specs.Schema.{AttributeRow, ChildRow, child_rows, Order, any_order, in_order, is_named, attributes_shaped}
 use Rattle.schema.specs.Schema.{attribute_shaped}
 use Rattle.schema.specs.Schema.{attribute_numbered, children_shaped, orderly, in_order_of, kind_of, shaped, numbered, everywhere}
-use Rattle.schema.specs.Walk.{at_child, walk_step}
+use Rattle.schema.specs.Walk.{at_child}
+use Rattle.schema.proofs.Laws.WalkStep.{walk_step}
 use Rattle.schema.specs.Table.{text_at, order_at, order_by, row_by, rows_of, attributes_of_kind, lines_of_kind, lines_from, lines_to}
 use Rattle.schema.specs.Faults.{fault, sooner, fault_of}
 use Rattle.schema.specs.Parts.{named_only, attributes_fault, text_shaped, text_numbered, text_fault, own_fault, times_right, order_right}
