@@ -21,7 +21,7 @@ use nodes::Found;
 pub use rows::{KeyRow, fill_from};
 
 // Keys as words parted by blanks; or in Base64, four bytes a key, the greatest first or the least.
-#[derive(Drop)]
+#[derive(Clone, Copy)]
 pub enum Encoding {
     Plain,
     Big,
@@ -29,7 +29,7 @@ pub enum Encoding {
 }
 
 // A place among the keys: a place of the text, and the bytes that are read and not yet given, as one number.
-#[derive(Drop)]
+#[derive(Clone, Copy)]
 pub struct KeyPlace {
     pub at: usize,
     pub held: u64,
@@ -37,7 +37,7 @@ pub struct KeyPlace {
 }
 
 // The next key, and the place behind it; or how many bytes are left over.
-#[derive(Drop)]
+#[derive(Clone, Copy)]
 pub enum NextKey {
     Key(i32, KeyPlace),
     End(usize),

@@ -9,7 +9,7 @@ use super::{Encoding, KeyPlace, NextKey, key_next, place};
 use base64_reader::quick_bits;
 
 // How many keys stand at the front of the slice, and the place behind them; where there is room for more, how many bytes are left over.
-#[derive(Drop)]
+#[derive(Clone, Copy)]
 pub struct KeyRow {
     pub count: usize,
     pub next: KeyPlace,

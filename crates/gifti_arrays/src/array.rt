@@ -12,7 +12,7 @@ use maps::fields::attribute_number;
 use nodes::Found;
 
 // Where the Data of an array stands, how it writes the keys, and how many they are to be.
-#[derive(Drop)]
+#[derive(Clone, Copy)]
 pub struct ArrayNote {
     pub from: usize,
     pub encoding: Encoding,
@@ -21,7 +21,7 @@ pub struct ArrayNote {
 
 // Whether an array has as many keys as it is to have, and no bytes left over; how many, and how many of them stand in the part of the
 // table.
-#[derive(Drop)]
+#[derive(Clone, Copy)]
 pub struct ArrayTold {
     pub fits: bool,
     pub keys: usize,

@@ -10,7 +10,7 @@ use nodes::Kid;
 
 // How many arrays there are, whether each has as many keys as it is to have; how many keys, and how many of them stand in the part of the
 // table.
-#[derive(Drop)]
+#[derive(Clone, Copy)]
 pub struct Told {
     pub arrays: usize,
     pub fit: bool,

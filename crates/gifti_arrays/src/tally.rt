@@ -9,7 +9,7 @@ use array_keys::{Encoding, fill_from, keys_start, letter_values};
 use known_keys::known_among;
 
 // How many keys there are, how many of them stand in the part of the table, and how many bytes are left over behind the last.
-#[derive(Drop)]
+#[derive(Clone, Copy)]
 pub struct Tally {
     pub keys: usize,
     pub known: usize,

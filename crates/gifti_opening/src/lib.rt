@@ -15,7 +15,7 @@ mod root;
 mod arrays;
 
 // The number of the first that applies; where it is 0, the root begins at `root`.
-#[derive(Drop)]
+#[derive(Clone, Copy)]
 pub struct GiftiOpening {
     pub number: u64,
     pub root: usize,

@@ -6,7 +6,7 @@ use super::labels::{first_label, key_of, next_label};
 use nodes::{Found, Kid};
 
 // What those answer that write keys into a lent slice: the number of the refusal, or 0, and then how many keys were written.
-#[derive(Drop)]
+#[derive(Clone, Copy)]
 pub struct Filled {
     pub number: u64,
     pub count: usize,

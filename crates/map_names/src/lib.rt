@@ -18,7 +18,7 @@ use numbers::Whole;
 use records::Index;
 
 // The number of the refusal, or 0, and then where the name starts in the text, and its length.
-#[derive(Drop)]
+#[derive(Clone, Copy)]
 pub struct NamePlace {
     pub number: u64,
     pub start: usize,

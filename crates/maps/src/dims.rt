@@ -1,5 +1,5 @@
 // How often each digit stands in a list, told up to twice.
-#[derive(Drop)]
+#[derive(Clone, Copy)]
 pub struct Dims {
     pub has: [u64; 10],
 }

@@ -20,7 +20,7 @@ use numbers::Next;
 use records::Vertex;
 
 // The first of 11 and 12 that applies, or 0; and whether every place that was to be marked was new.
-#[derive(Drop)]
+#[derive(Clone, Copy)]
 pub struct Verdict {
     pub number: u64,
     pub apart: bool,

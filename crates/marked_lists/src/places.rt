@@ -10,7 +10,7 @@ use std::num::wrapping_add_u64;
 
 // A voxel is marked by the low bits of its numbers, which `i`, `j` and `k` leave: those of j from `row` on, those of k from `layer` on.
 // `behind` is the first place behind them all.
-#[derive(Drop)]
+#[derive(Clone, Copy)]
 pub struct Grid {
     pub i: u64,
     pub j: u64,

@@ -1,6 +1,6 @@
 // The models in the order of the text: where each begins, its IndexOffset and IndexCount, its type and structure (`kind`: 32 for voxels,
 // and the structure's number). Where two share type and structure, only that is told.
-#[derive(Drop)]
+#[derive(Clone, Copy)]
 pub struct Models {
     pub count: usize,
     pub shared: bool,

@@ -6,7 +6,7 @@ use super::gather::Models;
 
 // Of one map: the first of 10, 11 and 12 that applies to it, or 0; whether its locations were seen to be apart, which decides 14, or else
 // 14 is not decided; and what was gathered of its models.
-#[derive(Drop)]
+#[derive(Clone, Copy)]
 pub struct Ruling {
     pub number: u64,
     pub apart: bool,
@@ -15,7 +15,7 @@ pub struct Ruling {
 
 // Of all maps: the first of 10, 11 and 12 that applies to some map, or 0; whether the locations of each map were seen to be apart; and what
 // was gathered of the models of each.
-#[derive(Drop)]
+#[derive(Clone, Copy)]
 pub struct Judged {
     pub number: u64,
     pub apart: bool,

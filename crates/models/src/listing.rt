@@ -9,7 +9,7 @@ use number_lists::{next_number, quick_number};
 use numbers::Next;
 
 // The next voxel of a list and the place behind it, or the end; `Cut`: one or two numbers are left.
-#[derive(Drop)]
+#[derive(Clone, Copy)]
 pub enum Triple {
     Voxel(u64, u64, u64, usize),
     End,

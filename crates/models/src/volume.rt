@@ -1,5 +1,5 @@
 // The sizes of a volume.
-#[derive(Drop)]
+#[derive(Clone, Copy)]
 pub struct Sizes {
     pub i: u64,
     pub j: u64,

@@ -21,7 +21,7 @@ pub(crate) fn kind_of(text: &[u8], at: usize) -> Kind
 }
 
 // The first `count` letters are a name.
-#[derive(Drop)]
+#[derive(Clone, Copy)]
 struct Letters {
     letters: [u8; 16],
     count: usize,

@@ -11,7 +11,7 @@ use maps::limits::{MOST_BYTES, MOST_RECORDS};
 use nodes::Kid;
 
 // The number of the first that applies; where it is 0, the matrix begins at `matrix`.
-#[derive(Drop)]
+#[derive(Clone, Copy)]
 pub struct Opening {
     pub number: u64,
     pub matrix: usize,

@@ -8,7 +8,7 @@ use noting::{maps_of, no_maps};
 use opening::opened;
 
 // The number of the first that applies; where it is 0, the maps.
-#[derive(Drop)]
+#[derive(Clone, Copy)]
 pub struct Survey {
     pub number: u64,
     pub maps: Maps,

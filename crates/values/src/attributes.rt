@@ -18,7 +18,7 @@ use steps::Step;
 use steps::attributes::Key;
 
 // Where an attribute stands, and a place in the tag.
-#[derive(Drop)]
+#[derive(Clone, Copy)]
 struct Sought {
     place: Found,
     at: usize,
@@ -52,7 +52,7 @@ fn seek(text: &[u8], at: usize, i: usize, name: &[u8]) -> Sought
 }
 
 // A fault of attributes, and a place in the tag: those before it are of the row.
-#[derive(Drop)]
+#[derive(Clone, Copy)]
 pub(crate) struct Walk {
     pub(crate) fault: u8,
     pub(crate) at: usize,
@@ -145,7 +145,7 @@ fn name_listed(name: &[u8], table: &[u32], letters: &[u8], from: usize, to: usiz
 }
 
 // Whether every attribute is listed, and a place in the tag: up to it they were passed.
-#[derive(Drop)]
+#[derive(Clone, Copy)]
 pub(crate) struct Listed {
     pub(crate) right: bool,
     pub(crate) at: usize,

@@ -19,7 +19,7 @@ mod attributes;
 mod text;
 
 // The fault of an element's own part, and a place in its start tag: the attributes before it were passed.
-#[derive(Drop)]
+#[derive(Clone, Copy)]
 pub struct Own {
     pub fault: u8,
     pub place: usize,
