@@ -18,7 +18,7 @@ use steps::Step;
 use steps::attributes::Key;
 
 // Where an attribute stands, and a place in the tag.
-#[derive(Clone, Copy)]
+#[derive(Drop)]
 struct Sought {
     place: Found,
     at: usize,

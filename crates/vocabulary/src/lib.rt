@@ -17,7 +17,7 @@ use schema::Checked;
 mod table;
 
 // An answer: conditions 3, 6 and 7, or a number among words. Only what was asked for is promised.
-#[derive(Clone, Copy)]
+#[derive(Drop)]
 struct Answer {
     checked: Checked,
     number: u64,
