@@ -1,5 +1,5 @@
 -- THE KIND OF A RECORD IS THAT OF ITS LOCATION, and so that of the model that lists the location.
-use Rattle.std.specs.Prelude.{◌≡◌, refl, List, ◌∷◌, Bool, true, false, cond, ℕ, ◌+◌}
+use Rattle.std.specs.Prelude.{◌≡◌, refl, List, [], ◌∷◌, Bool, true, false, cond, ℕ, ◌+◌}
 use Rattle.std.proofs.Common.{ap, ◌∙◌}
 use Rattle.lists.specs.Lists.{each}
 use Rattle.records.specs.Record.{Location, on_surface, in_volume, location_of, location_in, is_voxel, structure_of, payload_of, i_of, j_of, k_of}
@@ -25,6 +25,7 @@ kind_located r = go (is_voxel r)
 each_kind : {A : Type 0} (f : A → Location) (k : ℕ) → ((a : A) → location_kind (f a) ≡ k) → (l : List A) {i : ℕ} {x : Location}
     → Entry (each f l) i x → location_kind x ≡ k
 unfolding each
+each_kind f k h [] x' = elim x' [ ]
 each_kind f k h (a ∷ l) here = h a
 each_kind f k h (a ∷ l) (further e) = each_kind f k h l e
 
