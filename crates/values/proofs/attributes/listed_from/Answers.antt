@@ -1,0 +1,58 @@
+use mathlib.Core.Path.{ap}
+use mathlib.Core.Bool.{not}
+use Rattle.schema.proofs.Laws.Keys.{listing, listing_end}
+use Rattle.values.proofs.attributes.listed_from.Goals as goal
+
+pub slice_bounds-name_listed-count : goal.slice_bounds-name_listed-count
+slice_bounds-name_listed-count c = search listing
+
+pub slice_bounds-name_listed-start : goal.slice_bounds-name_listed-start
+slice_bounds-name_listed-start c = search listing
+
+pub slice_bounds-name_listed-end : goal.slice_bounds-name_listed-end
+slice_bounds-name_listed-end c = search listing
+
+pub returns-then-not-name_listed : goal.returns-then-not-name_listed
+returns-then-not-name_listed c = search listing
+
+pub loop-f-smaller : goal.loop-f-smaller
+loop-f-smaller c = search listing
+
+pub loop-f-preserved : goal.loop-f-preserved
+loop-f-preserved c = search listing
+
+pub returns-in-No-value_end : goal.returns-in-No-value_end
+returns-in-No-value_end c = search listing
+
+pub returns-in-No : goal.returns-in-No
+returns-in-No c = search listing
+
+pub returns : goal.returns
+returns c = listing_end c.loop-f.invariant c.tag_ends.ensures (ap not c.loop-f-test.false)
+
+pub loop-f-init : goal.loop-f-init
+loop-f-init c = search listing
+
+pub tag_ends-requires : goal.tag_ends-requires
+tag_ends-requires c = search listing
+
+pub key_at-requires : goal.key_at-requires
+key_at-requires c = search listing
+
+pub enum_known-f : goal.enum_known-f
+enum_known-f c = search listing
+
+pub name_listed-requires : goal.name_listed-requires
+name_listed-requires c = search listing
+
+pub value_end-requires : goal.value_end-requires
+value_end-requires c = search listing
+
+pub enum_known-j : goal.enum_known-j
+enum_known-j c = search listing
+
+pub enum_told-1 : goal.enum_told-1
+enum_told-1 c = search listing
+
+pub enum_told-in-No : goal.enum_told-in-No
+enum_told-in-No c = search listing
