@@ -8,3 +8,4 @@ pub mod Accepted
 pub mod Unique
 pub mod Decimals
 pub mod Write
+pub mod Printed

@@ -162,6 +162,7 @@ fn spell(line: Line, out: &mut [u8]) -> usize
 pub fn write_line(line: Line, out: &mut [u8]) -> usize
     ensures writes_out { WritesOut (line_bytes line) out.old result out.new }
     ensures prefix_len { IsPrefixLen result out.new }
+    ensures fits { length (line_bytes line) ≤ 128 }
 {
     let mut space = [0u8; 128];
     let n = spell(line, &mut space);

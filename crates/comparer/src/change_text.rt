@@ -1,8 +1,7 @@
 // The bytes of a line of the comparer.
 ghost use Rattle.std.specs.Prelude.{◌++◌, ◌≤◌, length};
-ghost use Rattle.io.specs.Counts.{IsPrefixLen};
 ghost use Rattle.card.specs.Card.{record_line};
-ghost use Rattle.card.specs.Written.{line_bytes, Spells, WritesOut};
+ghost use Rattle.card.specs.Written.{line_bytes, IsPrefixLen, Spells, WritesOut};
 ghost use Rattle.comparer.specs.Output.{change_bytes, line_at};
 
 use card::record_line;
@@ -14,8 +13,8 @@ fn spell_behind(word: &[u8], index: Index, r: u64, out: &mut [u8]) -> usize
     requires { (length word.now ≤ 20) × (128 ≤ length out.old) }
     ensures { Spells (word.now ++ line_bytes (record_line index.0 r)) result out.new }
 {
-    bytes::copy(word, out);
     let at = word.len();
+    out[..at].copy_from_slice(word);
     at + card::write_line(record_line(index, r), &mut out[at..])
 }
 
@@ -58,6 +57,6 @@ pub fn write_change(first: &[u64], second: &[u64], n: usize, out: &mut [u8]) -> 
     if out.len() < size {
         return 0;
     }
-    bytes::copy(&space[..size], out);
+    out[..size].copy_from_slice(&space[..size]);
     size
 }

@@ -5,12 +5,13 @@
 mod change_text;
 
 ghost use Rattle.std.specs.Prelude.{◌≡◌, false, ◌+◌, ◌≤◌, length};
+ghost use Rattle.std.specs.Io.KnownBytes.{Appends};
 ghost use Rattle.comparison.specs.Compare.{records_of, compare_refusal};
 ghost use Rattle.comparer.specs.Output.{output_bytes, refusal_bytes, program_bytes};
 
 use card::Line;
 use input::read_bytes;
-use libc::{STDERR_FILENO, STDOUT_FILENO};
+use std::io::Write;
 
 // How many bytes were written, or that a write failed.
 #[derive(Drop)]
@@ -19,22 +20,24 @@ struct Printed {
     failed: bool,
 }
 
-fn print_refusal(number: u64) -> Printed
-    ensures { result.failed ≡ false → result.bytes ≡ length (refusal_bytes number) }
+fn print_refusal<W: Write>(to: &mut W, number: u64) -> Printed
+    ensures count { result.failed ≡ false → result.bytes ≡ length (refusal_bytes number) }
+    ensures bytes { result.failed ≡ false → Appends (W.contents to.old) (W.contents to.new) (refusal_bytes number) }
 {
     let mut bytes = [0u8; 128];
     let size = card::write_line(Line::Refused(number), &mut bytes);
-    let written = io::write_all(STDOUT_FILENO, &bytes[..size]);
+    let failed = to.write_all(&bytes[..size]).is_err();
     Printed {
         bytes: size,
-        failed: !written,
+        failed: failed,
     }
 }
 
 // The lines of the indices of the first, and then of the second. Every line fits 128 bytes (`line_fits`).
-fn print_lines(first: &[u64], second: &[u64]) -> Printed
+fn print_lines<W: Write>(to: &mut W, first: &[u64], second: &[u64]) -> Printed
     requires { length first.now + length second.now ≤ 13104 }
-    ensures { result.failed ≡ false → result.bytes ≡ length (output_bytes first.now second.now) }
+    ensures count { result.failed ≡ false → result.bytes ≡ length (output_bytes first.now second.now) }
+    ensures bytes { result.failed ≡ false → Appends (W.contents to.old) (W.contents to.new) (output_bytes first.now second.now) }
 {
     let count = first.len() + second.len();
     let mut n = 0;
@@ -42,7 +45,7 @@ fn print_lines(first: &[u64], second: &[u64]) -> Printed
     while n < count {
         let mut bytes = [0u8; 128];
         let size = change_text::write_change(first, second, n, &mut bytes);
-        if !io::write_all(STDOUT_FILENO, &bytes[..size]) {
+        if to.write_all(&bytes[..size]).is_err() {
             return Printed {
                 bytes: written,
                 failed: true,
@@ -69,10 +72,12 @@ fn within(count: u64) -> usize
 }
 
 // Of two sheets that are not refused.
-fn print_both(first: &[u8], second: &[u8]) -> Printed
+fn print_both<W: Write>(to: &mut W, first: &[u8], second: &[u8]) -> Printed
     requires { compare_refusal first.now second.now 6552 ≡ 0 }
-    ensures { result.failed ≡ false
+    ensures count { result.failed ≡ false
         → result.bytes ≡ length (output_bytes (records_of first.now) (records_of second.now)) }
+    ensures bytes { result.failed ≡ false
+        → Appends (W.contents to.old) (W.contents to.new) (output_bytes (records_of first.now) (records_of second.now)) }
 {
     let mut a = [0u64; 6552];
     let mut b = [0u64; 6552];
@@ -80,40 +85,44 @@ fn print_both(first: &[u8], second: &[u8]) -> Printed
     let two = sheets::unpack(second, &mut b);
     let n = within(one.value);
     let m = within(two.value);
-    print_lines(&a[..n], &b[..m])
+    print_lines(to, &a[..n], &b[..m])
 }
 
-fn print_answer(input: &[u8]) -> Printed
+fn print_answer<W: Write>(to: &mut W, input: &[u8]) -> Printed
     requires { length input.now ≤ 32768 }
-    ensures { result.failed ≡ false → result.bytes ≡ length (program_bytes input.now) }
+    ensures count { result.failed ≡ false → result.bytes ≡ length (program_bytes input.now) }
+    ensures bytes { result.failed ≡ false → Appends (W.contents to.old) (W.contents to.new) (program_bytes input.now) }
 {
     let mut work = [0u64; 6552];
     let end = compare::first_end(input);
     let answer = compare::compare(&input[..end], &input[end..], &mut work);
     if answer.number != 0 {
-        return print_refusal(answer.number);
+        return print_refusal(to, answer.number);
     }
-    print_both(&input[..end], &input[end..])
+    print_both(to, &input[..end], &input[end..])
 }
 
-fn fail() {
-    io::write_all(STDERR_FILENO, b"comparer: reading or writing failed\n");
+fn fail<W: Write>(to: &mut W) {
+    let _ = to.write_all(b"comparer: reading or writing failed\n");
 }
 
-fn main() {
+fn main(rt: HostRuntime) {
     let mut input = [0u8; 32769];
-    let came = read_bytes(&mut input);
+    let mut from = rt.stdin();
+    let mut to = rt.stdout();
+    let mut told = rt.stderr();
+    let came = read_bytes(&mut from, &mut input);
     if came.failed {
-        fail();
+        fail(&mut told);
         return;
     }
     let count = came.count;
     let printed = if count <= 32_768 {
-        print_answer(&input[..count])
+        print_answer(&mut to, &input[..count])
     } else {
-        print_refusal(15)
+        print_refusal(&mut to, 15)
     };
     if printed.failed {
-        fail();
+        fail(&mut told);
     }
 }

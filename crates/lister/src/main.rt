@@ -5,11 +5,13 @@
 mod decision;
 
 ghost use Rattle.std.specs.Prelude.{◌≡◌, false};
+ghost use Rattle.std.specs.Io.KnownBytes.{Appends};
 ghost use Rattle.card.specs.Card.{card_lines};
+ghost use Rattle.card.specs.Written.{card_bytes};
 
 use cifti::Answer;
 use input::{read_line, read_past};
-use libc::{STDERR_FILENO, STDOUT_FILENO};
+use std::io::Write;
 
 // How many lines were written, or that a write failed.
 #[derive(Drop)]
@@ -19,15 +21,16 @@ struct Printed {
 }
 
 // Every line of the card, unless a write fails.
-fn print_card(answer: Answer, records: &[u64]) -> Printed
-    ensures { result.failed ≡ false → result.lines ≡ card_lines answer records.now }
+fn print_card<W: Write>(to: &mut W, answer: Answer, records: &[u64]) -> Printed
+    ensures lines { result.failed ≡ false → result.lines ≡ card_lines answer records.now }
+    ensures bytes { result.failed ≡ false → Appends (W.contents to.old) (W.contents to.new) (card_bytes answer records.now) }
 {
     let count = card::line_count(answer, records);
     let mut n = 0;
     while n < count {
         let mut bytes = [0u8; 128];
         let size = card::write_line(card::line_at(answer, records, n), &mut bytes);
-        if !io::write_all(STDOUT_FILENO, &bytes[..size]) {
+        if to.write_all(&bytes[..size]).is_err() {
             return Printed {
                 lines: n,
                 failed: true,
@@ -41,25 +44,28 @@ fn print_card(answer: Answer, records: &[u64]) -> Printed
     }
 }
 
-fn fail() {
-    io::write_all(STDERR_FILENO, b"lister: reading or writing failed\n");
+fn fail<W: Write>(to: &mut W) {
+    let _ = to.write_all(b"lister: reading or writing failed\n");
 }
 
-fn main() {
+fn main(rt: HostRuntime) {
     let mut line = [0u8; 24];
     let mut text = [0u8; 32768];
     let mut records = [0u64; 2048];
     let mut work = [0u64; 2048];
-    let first = read_line(&mut line);
-    let body = read_past(&mut text);
+    let mut from = rt.stdin();
+    let mut to = rt.stdout();
+    let mut told = rt.stderr();
+    let first = read_line(&mut from, &mut line);
+    let body = read_past(&mut from, &mut text);
     if first.failed | body.failed {
-        fail();
+        fail(&mut told);
         return;
     }
     let before = first.count;
     let answer = decision::decide(&line[..before], &text, body.count, &mut records, &mut work);
-    let printed = print_card(answer, &records);
+    let printed = print_card(&mut to, answer, &records);
     if printed.failed {
-        fail();
+        fail(&mut told);
     }
 }
