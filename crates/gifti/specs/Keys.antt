@@ -1,7 +1,6 @@
 -- THE KEYS OF ONE ARRAY, written from the start of the list lent; what lies past stays, and a refused call writes nothing.
 use Rattle.std.specs.Prelude.{List, [], ℕ, zero, suc, ℤ, length}
 use Rattle.std.proofs.Math.Option.{Option, some}
-use Rattle.std.proofs.Math.Option
 use Rattle.grammar.specs.Document.{Element}
 use Rattle.cifti.specs.Labels.{overwritten}
 use Rattle.cifti.specs.Text.{Answers}

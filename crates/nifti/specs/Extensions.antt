@@ -1,7 +1,6 @@
 -- EXTENSIONS: what each is, how it is written, and the list of them as a relation from extensions to bytes. Assumes nothing.
 use Rattle.std.specs.Prelude.{◌≡◌, List, [], ◌∷◌, ◌++◌, cond, ℕ, ◌+◌, ◌%◌, ◌^◌, ◌≤◌, ◌<◌, eqb, length}
 use Rattle.std.proofs.Math.Option.{Option, some}
-use Rattle.std.proofs.Math.Option
 use Rattle.nifti.specs.Fields.{field}
 use Rattle.nifti.specs.declared.Order.{Order}
 

@@ -1,7 +1,6 @@
 -- THE FRONT OF A FILE: its fields, the list that is written in it, the conditions in their order, the answer, and the promise.
 use Rattle.std.specs.Prelude.{◌≡◌, List, [], ◌∷◌, Bool, ◌&&◌, ◌||◌, not, cond, ℕ, zero, suc, ◌+◌, ◌*◌, ◌≤◌, eqb, ltb, ℤ, pos, length, get_or, take, drop}
 use Rattle.std.proofs.Math.Option.{Option, some}
-use Rattle.std.proofs.Math.Option
 use Rattle.std.proofs.Math.Seq.{slice}
 use Rattle.lists.specs.Lists.{all_below, is_some}
 use Rattle.lists.specs.Refusals.{Refusal, ◌when◌, first}

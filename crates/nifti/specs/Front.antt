@@ -1,6 +1,5 @@
 -- What is known of a file behind 20; and of one with the body of an extension in it.
-use Rattle.std.specs.Prelude.{◌≡◌, List, [], true, ℕ, ◌+◌, ◌≤◌, length}
-use Rattle.std.proofs.Math.Option
+use Rattle.std.specs.Prelude.{◌≡◌, List, true, ℕ, ◌+◌, ◌≤◌, length}
 use Rattle.nifti.specs.File.{front_stands}
 use Rattle.nifti.specs.Header.{OrderKnown}
 use Rattle.nifti.specs.declared.Order.{Order}

@@ -1,5 +1,5 @@
 -- What is known of a file of 544 bytes or more: its order; a place among its lengths; the answer where nothing is refused.
-use Rattle.std.specs.Prelude.{◌≡◌, List, [], ℕ, ◌≤◌, ◌<◌, length, take, drop}
+use Rattle.std.specs.Prelude.{◌≡◌, List, ℕ, ◌≤◌, ◌<◌, length, take, drop}
 use Rattle.nifti.specs.Extensions.{without_zeros}
 use Rattle.nifti.specs.File.{order_of, length_count}
 use Rattle.nifti.specs.File.{length_at, front_with}

@@ -1,7 +1,6 @@
 -- THE LIST OF BYTES, FOUND: extension by extension, from the first byte on; and what the code's walk over it answers.
 use Rattle.std.specs.Prelude.{List, [], ◌∷◌, Bool, true, false, ◌&&◌, cond, ℕ, zero, suc, ◌+◌, ◌-◌, ◌%◌, ◌^◌, eqb, leb, ltb, ℤ, pos, negsuc, length, take, drop}
 use Rattle.std.proofs.Math.Option.{Option, some}
-use Rattle.std.proofs.Math.Option
 use Rattle.std.proofs.Math.Seq.{slice}
 use Rattle.nifti.specs.Fields.{number_at}
 use Rattle.nifti.specs.Extensions.{Extension, size_of}

@@ -1,7 +1,6 @@
 -- What the table says of a text, as CIFTI and as GIFTI: conditions 3, 6 and 7, and the numbers of words.
 use Rattle.std.specs.Prelude.{◌≡◌, List, Bool, true, false, cond, ℕ}
 use Rattle.std.proofs.Math.Option.{Option, some}
-use Rattle.std.proofs.Math.Option
 use Rattle.grammar.specs.Document.{Element}
 use Rattle.grammar.specs.Parser.{parse}
 use Rattle.nodes.specs.Places.{Stands, the}

@@ -2,7 +2,6 @@
 -- or the rest of it where its first bytes are gone. proofs/Laws/Meets says of each which of the grammar's readers it is.
 use Rattle.std.specs.Prelude.{List, [], ◌∷◌, ◌++◌, ℕ, zero, suc, Bool, true, false, cond, ◌&&◌, not, eqb, leb, ltb, length}
 use Rattle.std.proofs.Math.Option.{Option, some}
-use Rattle.std.proofs.Math.Option
 use Rattle.grammar.specs.Bytes.{ascii, blank, letter, name_start, name_byte, quote, skipped}
 use Rattle.grammar.specs.Characters.{lead1, lead2, lead3, lead4, continues, noncharacter}
 use Rattle.grammar.specs.Parser.{CharacterWidth, one, two, three, four, width_by, width, same_bytes}

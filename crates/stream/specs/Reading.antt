@@ -1,7 +1,6 @@
 -- A READING IN PARTS: what is left of the text, how many bytes came, and the verdict once the end was told.
 use Rattle.std.specs.Prelude.{◌≡◌, List, [], ◌∷◌, ℕ, ◌+◌, ◌≤◌, Bool, true, false, ◌&&◌, leb, length}
 use Rattle.std.proofs.Math.Option.{Option, some}
-use Rattle.std.proofs.Math.Option
 use Rattle.steps.specs.WellFormed.{WellFormed}
 use Rattle.stream.specs.Jobs.{Left, read_byte, outset, idle_left}
 

@@ -3,7 +3,6 @@ use Rattle.std.specs.Prelude.{◌≡◌, List, ◌++◌, Bool, not, ℤ}
 use Rattle.std.proofs.Math.Path.{refl, ap}
 use Rattle.std.proofs.Common.{◌∙◌}
 use Rattle.std.proofs.Math.Option.{Option, some}
-use Rattle.std.proofs.Math.Option
 use Prim.Native.Nat.{ℕ, zero, suc, ◌≤◌}
 use Prim.Native.String.{String}
 use Rattle.std.proofs.Math.ListN.{length}

@@ -1,8 +1,7 @@
 -- CIFTI's numbers are CIFTI's rows: one computed theorem; so what the walker says is conditions 3, 6 and 7.
 use Rattle.std.specs.Prelude.{◌≡◌, refl, List, [], ◌∷◌, Bool, true, false, not, cond, ℕ, zero, suc, get_or}
 use Rattle.std.proofs.Common.{ap, ap₂, sym, ◌∙◌, true≢false, rules}
-use Rattle.std.proofs.Math.Option.{Option, some}
-use Rattle.std.proofs.Math.Option
+use Rattle.std.proofs.Math.Option.{some}
 use Rattle.lists.specs.Lists.{count_up, each}
 use Rattle.grammar.specs.Document.{Element}
 use Rattle.grammar.specs.Look.{Word}
@@ -10,7 +9,6 @@ use Rattle.grammar.specs.Parser.{parse}
 use Rattle.grammar.proofs.Laws.Theorems.{parse_iff}
 use Rattle.lists.proofs.Laws.Booleans.{never_some}
 use Rattle.nodes.specs.Values.{value_there}
-use Rattle.nodes.specs.Root.{root}
 use Rattle.schema.specs.Schema.{everywhere, shaped, numbered, Row}
 use Rattle.cifti.specs.Rows.{ElementKind, cifti, rows, row_table, element_kinds, element_number, at_number}
 use Rattle.cifti.specs.Maps.{kind_words, case_word, words_of_kinds}

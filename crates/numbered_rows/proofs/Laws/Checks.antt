@@ -1,7 +1,6 @@
 -- What is proved of Checks.
 use Rattle.std.specs.Prelude.{◌≡◌, refl, List, Bool, true, false, cond, ℕ}
 use Rattle.std.proofs.Math.Option.{Option, some}
-use Rattle.std.proofs.Math.Option
 use Rattle.std.proofs.Common.{arith}
 use Rattle.grammar.specs.Document.{Element}
 use Rattle.grammar.specs.Parser.{parse}

@@ -2,7 +2,6 @@
 -- 01 with its two models exchanged, as texts.
 use Rattle.std.specs.Prelude.{refl, List, [], ◌∷◌, ◌++◌, ℕ}
 use Rattle.std.proofs.Math.Option.{Option, some}
-use Rattle.std.proofs.Math.Option
 use Prim.Native.String.{String}
 use Rattle.lists.specs.Lists.{lists}
 use Rattle.lists.proofs.Laws.Permuted as P

@@ -1,5 +1,5 @@
 -- WHAT IS MADE OF THE RECORDS: the order 15, 16, 26, 17, and the list lent as it is filled. Assumes nothing.
-use Rattle.std.specs.Prelude.{◌≡◌, List, [], ◌∷◌, ◌++◌, Bool, cond, ◌||◌, ℕ, zero, suc, ◌+◌, ◌<◌, ◌≤◌, leb, length, get_or, set, drop}
+use Rattle.std.specs.Prelude.{◌≡◌, List, [], ◌∷◌, ◌++◌, Bool, cond, ◌||◌, ℕ, zero, suc, ◌<◌, ◌≤◌, leb, length, get_or, set, drop}
 use Rattle.std.proofs.Math.Path.{refl, sym}
 use Rattle.std.proofs.Common.{ap, ◌∙◌, subst, arith, drop-cons}
 use Rattle.std.proofs.Math.Bool.{true, false, not}

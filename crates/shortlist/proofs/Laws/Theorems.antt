@@ -6,7 +6,7 @@ use Rattle.std.proofs.Common.{ap, ◌∙◌, subst, arith, eqb-true, eq-eqb, ne_
 use Rattle.std.proofs.Math.Bool.{true, false, not}
 use Rattle.std.proofs.lemmas.Bool.{not-false}
 use Rattle.lists.specs.Lists.{all, any, total}
-use Rattle.lists.specs.Refusals.{◌when◌, first, positive}
+use Rattle.lists.specs.Refusals.{◌when◌, positive}
 use Rattle.lists.proofs.Laws.Booleans.{or_neither, or_second, and_both, and_left, and_no}
 use Rattle.lists.proofs.Laws.Refusals.{given_none, row_fails, rows_behind}
 use Rattle.records.specs.Record.{is_voxel, structure_of, legal_record}

@@ -12,7 +12,6 @@ use borrow.Author.Tests.{leb-true}
 use Rattle.lists.specs.Lists.{all}
 use Rattle.lists.proofs.Laws.Booleans.{and_left, and_right, and_both}
 use Rattle.grammar.specs.Bytes.{ascii, blank, name_start, name_byte}
-use Rattle.grammar.specs.Parser.{one}
 use Rattle.steps.specs.Noted.{among}
 use Rattle.stream.specs.Jobs
 use Rattle.stream.specs.Jobs.{Job, Change, dead, turn, admits, close_tag, change_equals, deeper, change_tagging, change_gapped}

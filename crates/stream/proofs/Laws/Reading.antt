@@ -2,7 +2,6 @@
 use Rattle.std.specs.Prelude.{◌≡◌, refl, List, [], ◌∷◌, ◌++◌, ℕ, ◌+◌, Bool, true, false, ◌&&◌, leb, length}
 use Rattle.std.proofs.Common.{ap, sym, ◌∙◌, arith, length-append, leb-true, le-leb}
 use Rattle.std.proofs.Math.Option.{Option, some}
-use Rattle.std.proofs.Math.Option
 use Rattle.lists.proofs.Laws.Booleans.{both_ways, clash}
 use Rattle.grammar.specs.Document.{together}
 use Rattle.steps.specs.WellFormed.{WellFormed, well_formed_unique}
