@@ -1,11 +1,9 @@
 -- FILES WHOSE FIELDS ARE ALIKE: the same number in each, in the order of its own file. With the same list they have the same front.
-use Rattle.std.specs.Prelude.{◌≡◌, List, pos, length, get_or}
+use Rattle.std.specs.Prelude.{◌≡◌, List, ℕ, zero, suc, ◌+◌, ◌*◌, ◌≤◌, ◌<◌, pos, length, get_or}
 use Rattle.std.proofs.Math.Path.{refl, ap}
-use Rattle.std.proofs.Common.{sym, ◌∙◌, arith}
+use Rattle.std.proofs.Common.{sym, ◌∙◌, arith, le-ltb}
 use Rattle.std.proofs.Math.Option.{Option, some}
-use Prim.Native.Nat.{ℕ, zero, suc, ◌+◌, ◌*◌, ◌≤◌, ◌<◌}
 use Rattle.std.proofs.Math.Seq.{slice}
-use borrow.Author.Tests.{le-ltb}
 use Rattle.lists.specs.Lists.{all_below}
 use Rattle.nifti.specs.Fields.{number_at, signed}
 use Rattle.nifti.specs.Extensions.{Extension, Body, ExtensionList}

@@ -2,12 +2,12 @@
 -- further than that.
 use Rattle.std.specs.Prelude.{◌≡◌, List, Bool, ◌&&◌, ◌||◌, ℕ, ◌+◌, ◌*◌, ◌≤◌, ◌<◌, ltb, pos, length, get_or}
 use Rattle.std.proofs.Math.Path.{refl, sym, ap}
-use Rattle.std.proofs.Common.{◌∙◌, arith, get_or-take, length-take-le}
+use Rattle.std.proofs.Common.{◌∙◌, arith, le-leb, get_or-take, length-take-le}
 use Rattle.std.proofs.Math.Bool.{true, false, not}
 use Rattle.std.proofs.Math.Decide.{dec_lt}
 use Rattle.std.proofs.Math.ListN.{take}
 use Rattle.std.proofs.Math.Seq.{take-take}
-use borrow.Author.Tests.{lt-ltb, le-leb, lt-leb}
+use Rattle.std.proofs.lemmas.Bool.{lt-ltb, lt-leb}
 use Rattle.lists.specs.Lists.{all_below}
 use Rattle.lists.specs.Refusals.{first}
 use Rattle.nifti.specs.Fields.{number_at, field_at_least}

@@ -1,5 +1,4 @@
-use Prim.Native.Nat.{◌-◌}
-use lib.ListN.{length}
+use Rattle.std.proofs.Common.{◌-◌, length}
 use Rattle.flat.proofs.Laws.Flat.{Putting}
 use Rattle.flat.proofs.slices.put.Given as goal
 

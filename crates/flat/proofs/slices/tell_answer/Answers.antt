@@ -1,5 +1,4 @@
-use mathlib.Core.Path.{refl}
-use native.Mathlib.Omega.{arith}
+use Rattle.std.proofs.Common.{refl, arith}
 use Rattle.flat.specs.Flat.{answer_numbers}
 use Rattle.flat.proofs.Laws.Flat.{told_short, answer_stored}
 use Rattle.flat.proofs.slices.tell_answer.Goals as goal

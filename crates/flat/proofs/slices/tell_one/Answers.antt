@@ -1,7 +1,6 @@
-use mathlib.Core.Path.{◌∙◌}
+use Rattle.std.proofs.Common.{◌∙◌, arith}
 use Rattle.records.specs.Fill.{wrote_one}
 use Rattle.flat.proofs.Laws.Flat.{told_all, told_short}
-use native.Mathlib.Omega.{arith}
 use Rattle.flat.proofs.slices.tell_one.Goals as goal
 
 pub returns-then-slice-gt0 : goal.returns-then-slice-gt0

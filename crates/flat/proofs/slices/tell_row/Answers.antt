@@ -1,4 +1,4 @@
-use borrow.Author.Rules.{rules}
+use Rattle.std.proofs.Common.{rules}
 use Rattle.flat.proofs.Laws.Flat.{told_short, told_row}
 use Rattle.flat.proofs.slices.tell_row.Goals as goal
 

@@ -1,8 +1,6 @@
-use mathlib.Core.Path.{◌∙◌}
-use mathlib.Core.List.{[], ◌∷◌}
-use lib.Seq.{sets-eq}
+use Rattle.std.proofs.Common.{◌∙◌, [], ◌∷◌, arith}
+use Rattle.std.proofs.lemmas.List.Edits.{sets-eq}
 use Rattle.flat.proofs.Laws.Flat.{told_short, told_all}
-use native.Mathlib.Omega.{arith}
 use Rattle.flat.proofs.slices.tell_two.Goals as goal
 
 pub returns-then-slice-lt2 : goal.returns-then-slice-lt2

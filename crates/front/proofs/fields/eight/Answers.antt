@@ -1,4 +1,4 @@
-use borrow.Author.Rules.{rules}
+use Rattle.std.proofs.Common.{rules}
 use Rattle.nifti.proofs.Laws.Header.{eight_most, eight_least}
 use Rattle.front.proofs.fields.eight.Goals as goal
 

@@ -1,4 +1,4 @@
-use borrow.Author.Rules.{rules}
+use Rattle.std.proofs.Common.{rules}
 use Rattle.nifti.proofs.Laws.Header.{four_most, four_least}
 use Rattle.front.proofs.fields.four.Goals as goal
 

@@ -1,4 +1,4 @@
-use borrow.Author.Rules.{rules}
+use Rattle.std.proofs.Common.{rules}
 use Rattle.nifti.proofs.Laws.Header.{four_joined, four_below}
 use Rattle.front.proofs.fields.joined.Goals as goal
 

@@ -1,4 +1,4 @@
-use borrow.Author.Rules.{rules}
+use Rattle.std.proofs.Common.{rules}
 use Rattle.nifti.proofs.Laws.Header.{counted_so, dims_none, dims_ones, dims_rest}
 use Rattle.front.proofs.header.dims_stand.Goals as goal
 

@@ -1,4 +1,4 @@
-use borrow.Author.Rules.{rules}
+use Rattle.std.proofs.Common.{rules}
 use Rattle.nifti.proofs.Laws.Header.{front_unsized, front_unmagic, front_rest}
 use Rattle.front.proofs.header.front_stands.Goals as goal
 

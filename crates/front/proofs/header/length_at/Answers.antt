@@ -1,4 +1,4 @@
-use borrow.Author.Rules.{rules}
+use Rattle.std.proofs.Common.{rules}
 use Rattle.nifti.proofs.Laws.Header.{length_there, length_negative, length_none}
 use Rattle.front.proofs.header.length_at.Goals as goal
 

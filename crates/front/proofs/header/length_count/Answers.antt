@@ -1,4 +1,4 @@
-use borrow.Author.Rules.{rules}
+use Rattle.std.proofs.Common.{rules}
 use Rattle.nifti.proofs.Laws.Header.{count_six, count_seven, count_other}
 use Rattle.front.proofs.header.length_count.Goals as goal
 

@@ -1,4 +1,4 @@
-use borrow.Author.Rules.{rules}
+use Rattle.std.proofs.Common.{rules}
 use Rattle.nifti.proofs.Laws.Header.{length_low, length_high}
 use Rattle.front.proofs.header.length_stands.Goals as goal
 

@@ -1,4 +1,4 @@
-use borrow.Author.Rules.{rules}
+use Rattle.std.proofs.Common.{rules}
 use Rattle.nifti.proofs.Laws.Header.{counting-down, asked_so, told_yes, told_no}
 use Rattle.front.proofs.header.lengths_stand.Goals as goal
 

@@ -1,4 +1,4 @@
-use borrow.Author.Rules.{rules}
+use Rattle.std.proofs.Common.{rules}
 use Rattle.nifti.proofs.Laws.Header.{counting-down, magic_yes, magic_no}
 use Rattle.front.proofs.header.magic_stands.Goals as goal
 

@@ -1,4 +1,4 @@
-use borrow.Author.Rules.{rules}
+use Rattle.std.proofs.Common.{rules}
 use Rattle.nifti.proofs.Laws.Header.{offset_low, offset_high}
 use Rattle.front.proofs.header.offset_stands.Goals as goal
 

@@ -1,4 +1,4 @@
-use borrow.Author.Rules.{rules}
+use Rattle.std.proofs.Common.{rules}
 use Rattle.nifti.proofs.Laws.Header.{counting-down, one_yes, one_no}
 use Rattle.front.proofs.header.ones_stand.Goals as goal
 

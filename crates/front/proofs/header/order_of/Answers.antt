@@ -1,4 +1,4 @@
-use borrow.Author.Rules.{rules}
+use Rattle.std.proofs.Common.{rules}
 use Rattle.nifti.proofs.Laws.Header.{order_most, order_least}
 use Rattle.front.proofs.header.order_of.Goals as goal
 

@@ -1,4 +1,4 @@
-use borrow.Author.Rules.{rules}
+use Rattle.std.proofs.Common.{rules}
 use Rattle.nifti.proofs.Laws.Header.{size_test}
 use Rattle.front.proofs.header.size_stands.Goals as goal
 

@@ -1,4 +1,4 @@
-use borrow.Author.Rules.{rules}
+use Rattle.std.proofs.Common.{rules}
 use Rattle.nifti.proofs.Laws.Walk.{sizing}
 use Rattle.front.proofs.list.good_size.Goals as goal
 

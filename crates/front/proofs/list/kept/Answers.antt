@@ -1,4 +1,4 @@
-use borrow.Author.Rules.{rules}
+use Rattle.std.proofs.Common.{rules}
 use Rattle.nifti.proofs.Laws.Zeros.{stripping}
 use Rattle.front.proofs.list.kept.Goals as goal
 

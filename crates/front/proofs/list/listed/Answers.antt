@@ -1,4 +1,4 @@
-use borrow.Author.Rules.{rules}
+use Rattle.std.proofs.Common.{rules}
 use Rattle.nifti.proofs.Laws.Front.{beginning, list_empty, list_past, list_walked}
 use Rattle.front.proofs.list.listed.Goals as goal
 

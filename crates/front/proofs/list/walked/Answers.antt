@@ -1,4 +1,4 @@
-use borrow.Author.Rules.{rules}
+use Rattle.std.proofs.Common.{rules}
 use Rattle.nifti.proofs.Laws.Walk.{walking, walk_ends, walk_takes, walk_other, walk_past}
 use Rattle.front.proofs.list.walked.Goals as goal
 

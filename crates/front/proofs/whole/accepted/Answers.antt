@@ -1,4 +1,4 @@
-use borrow.Author.Rules.{rules}
+use Rattle.std.proofs.Common.{rules}
 use Rattle.nifti.proofs.Laws.Front.{accepted_so}
 use Rattle.front.proofs.whole.accepted.Goals as goal
 

@@ -1,4 +1,4 @@
-use borrow.Author.Rules.{rules}
+use Rattle.std.proofs.Common.{rules}
 use Rattle.nifti.proofs.Laws.Front.{fronting}
 use Rattle.nifti.proofs.Laws.Header.{told_yes, told_no}
 use Rattle.front.proofs.whole.front.Goals as goal

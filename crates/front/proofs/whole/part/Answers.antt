@@ -1,5 +1,4 @@
-use native.Mathlib.Omega.{arith}
-use borrow.Author.Rules.{rules}
+use Rattle.std.proofs.Common.{arith, rules}
 use Rattle.nifti.proofs.Laws.Front.{part_inside, part_cut}
 use Rattle.front.proofs.whole.part.Goals as goal
 

@@ -1,5 +1,5 @@
-use mathlib.Core.Path.{ap}
-use lib.Dec.{eqb}
+use Rattle.std.proofs.Common.{ap}
+use Rattle.std.specs.Prelude.{eqb}
 use Rattle.shortlist.specs.Asking.{is_record}
 use Rattle.shortlisting.proofs.kinds.is_record.Goals as goal
 

@@ -1,4 +1,4 @@
-use native.Mathlib.Omega.{arith}
+use Rattle.std.proofs.Common.{arith}
 use Rattle.shortlist.proofs.Laws.Runs.{structure_small, voxel_kind, surface_kind}
 use Rattle.shortlisting.proofs.kinds.kind_of.Goals as goal
 

@@ -1,5 +1,5 @@
 use Rattle.shortlist.proofs.Laws.Location.{voxel_again, surface_again}
-use borrow.Author.Rules.{rules}
+use Rattle.std.proofs.Common.{rules}
 use Rattle.shortlisting.proofs.kinds.made_again.Goals as goal
 
 pub returns-then-is_voxel : goal.returns-then-is_voxel

@@ -1,6 +1,4 @@
-use mathlib.Core.Path.{◌≡◌}
-use Prim.Native.Nat.{◌-◌}
-use lib.ListN.{length, drop}
+use Rattle.std.proofs.Common.{◌≡◌, ◌-◌, length, drop}
 use Rattle.lists.specs.Lists.{all}
 use Rattle.records.specs.Record.{legal_record}
 use Rattle.shortlisting.proofs.runs.all_legal.Given as goal

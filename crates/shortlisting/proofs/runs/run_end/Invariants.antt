@@ -1,5 +1,4 @@
-use Prim.Native.Nat.{◌-◌}
-use lib.ListN.{length}
+use Rattle.std.proofs.Common.{◌-◌, length}
 use Rattle.shortlist.proofs.Laws.Walking.{OfKind}
 use Rattle.shortlisting.proofs.runs.run_end.Given as goal
 

@@ -1,5 +1,4 @@
-use Prim.Native.Nat.{◌-◌}
-use lib.ListN.{length}
+use Rattle.std.proofs.Common.{◌-◌, length}
 use Rattle.shortlist.proofs.Laws.Walking.{Walked}
 use Rattle.shortlisting.proofs.runs.runs_of.Given as goal
 

@@ -1,5 +1,4 @@
-use native.Mathlib.Omega.{arith}
-use lib.ListN.{length}
+use Rattle.std.proofs.Common.{arith, length}
 use Rattle.shortlist.proofs.Laws.Entry.{seeking, inside}
 use Rattle.shortlisting.proofs.search.sought.Goals as goal
 

@@ -1,5 +1,5 @@
 use Rattle.shortlist.proofs.Laws.Entry.{naming, taken_is}
-use borrow.Author.Rules.{rules}
+use Rattle.std.proofs.Common.{rules}
 use Rattle.shortlisting.proofs.search.with_entry.Goals as goal
 
 pub kind_in-kind-requires : goal.kind_in-kind-requires
