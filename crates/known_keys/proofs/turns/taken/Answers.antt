@@ -1,0 +1,5 @@
+use Rattle.known_keys.proofs.Laws.Turns.{codes_small, taken_so}
+use Rattle.known_keys.proofs.turns.taken.Goals as goal
+
+pub returns : goal.returns
+returns c = taken_so c.gather-turn.ensures c.arrange.ensures
