@@ -5,7 +5,7 @@
 
 mod names;
 // Labels.
-mod labels;
+mod label_doors;
 // GIFTI label files.
 mod label_files;
 

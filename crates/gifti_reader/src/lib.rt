@@ -4,6 +4,6 @@
 // 9, 24, 18, 30 and 31.
 mod number;
 // 17, and the keys.
-mod keys;
+mod lent_keys;
 
-pub use keys::gifti_keys;
+pub use lent_keys::gifti_keys;

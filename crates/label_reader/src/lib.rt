@@ -4,10 +4,10 @@
 
 mod before;
 // The keys of a table, in a lent slice.
-mod keys;
+mod lent_keys;
 // The name of a key, and where it stands in the text.
 mod names;
 
-pub use keys::label_keys;
+pub use lent_keys::label_keys;
 pub use label_table::Filled;
 pub use names::{label_name, label_name_number, label_place};

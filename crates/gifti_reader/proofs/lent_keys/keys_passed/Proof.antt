@@ -1,6 +1,6 @@
 use Rattle.gifti_reader.proofs.Laws.Keys.{passing}
-use Rattle.gifti_reader.proofs.keys.keys_passed.Statement.{statement}
-use Rattle.gifti_reader.proofs.keys.keys_passed.Tie as tie
+use Rattle.gifti_reader.proofs.lent_keys.keys_passed.Statement.{statement}
+use Rattle.gifti_reader.proofs.lent_keys.keys_passed.Tie as tie
 
 pub keys-passed-spec : {M : Type 1} → statement M
 keys-passed-spec {M = M} =

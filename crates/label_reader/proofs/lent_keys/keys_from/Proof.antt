@@ -1,6 +1,6 @@
 use Rattle.label_reader.proofs.Laws.Keys.{writing, written_short}
-use Rattle.label_reader.proofs.keys.keys_from.Statement.{statement}
-use Rattle.label_reader.proofs.keys.keys_from.Tie as tie
+use Rattle.label_reader.proofs.lent_keys.keys_from.Statement.{statement}
+use Rattle.label_reader.proofs.lent_keys.keys_from.Tie as tie
 
 short : tie.Need-returns
 short c =

@@ -1,6 +1,6 @@
 use Rattle.gifti_reader.proofs.Laws.Keys.{opening}
-use Rattle.gifti_reader.proofs.keys.gifti_keys.Statement.{statement}
-use Rattle.gifti_reader.proofs.keys.gifti_keys.Tie as tie
+use Rattle.gifti_reader.proofs.lent_keys.gifti_keys.Statement.{statement}
+use Rattle.gifti_reader.proofs.lent_keys.gifti_keys.Tie as tie
 
 pub gifti-keys-spec : {M : Type 1} → statement M
 gifti-keys-spec =

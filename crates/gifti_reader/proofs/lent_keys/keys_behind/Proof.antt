@@ -1,6 +1,6 @@
 use Rattle.gifti_reader.proofs.Laws.Keys.{behind}
-use Rattle.gifti_reader.proofs.keys.keys_behind.Statement.{statement}
-use Rattle.gifti_reader.proofs.keys.keys_behind.Tie as tie
+use Rattle.gifti_reader.proofs.lent_keys.keys_behind.Statement.{statement}
+use Rattle.gifti_reader.proofs.lent_keys.keys_behind.Tie as tie
 
 pub keys-behind-spec : {M : Type 1} → statement M
 keys-behind-spec =

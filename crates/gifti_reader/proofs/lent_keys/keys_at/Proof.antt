@@ -1,7 +1,7 @@
 use Rattle.gifti_reader.proofs.Laws.Keys.{writing, wrote_all}
 use borrow.Author.Rules.{rules}
-use Rattle.gifti_reader.proofs.keys.keys_at.Statement.{statement}
-use Rattle.gifti_reader.proofs.keys.keys_at.Tie as tie
+use Rattle.gifti_reader.proofs.lent_keys.keys_at.Statement.{statement}
+use Rattle.gifti_reader.proofs.lent_keys.keys_at.Tie as tie
 
 returns-2 : tie.Need-returns-2
 returns-2 c = search (wrote_all, rules)

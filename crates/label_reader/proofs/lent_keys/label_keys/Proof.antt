@@ -1,6 +1,6 @@
 use Rattle.label_reader.proofs.Laws.Keys.{keying, keys_found}
-use Rattle.label_reader.proofs.keys.label_keys.Statement.{statement}
-use Rattle.label_reader.proofs.keys.label_keys.Tie as tie
+use Rattle.label_reader.proofs.lent_keys.label_keys.Statement.{statement}
+use Rattle.label_reader.proofs.lent_keys.label_keys.Tie as tie
 
 found : tie.Need-returns-2
 found c =

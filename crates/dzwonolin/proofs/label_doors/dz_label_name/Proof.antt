@@ -1,4 +1,4 @@
--- `dzwonolin::labels::dz_label_name` meets its contract: what `label_place` promises, and what `tell_two` wrote.
+-- `dzwonolin::label_doors::dz_label_name` meets its contract: what `label_place` promises, and what `tell_two` wrote.
 use mathlib.Core.Path.{◌≡◌, refl, subst}
 use mathlib.Core.List.{[], ◌∷◌}
 use lib.IntN.{ℤ}
@@ -6,8 +6,8 @@ use mir.Syntax.{w32}
 use mir.ValLaws.{to_z-of_z}
 use Rattle.label_reader.specs.Names.{LabelPlaced}
 use Rattle.flat.specs.Flat.{laid_over}
-use Rattle.dzwonolin.proofs.labels.dz_label_name.Statement.{statement}
-use Rattle.dzwonolin.proofs.labels.dz_label_name.Tie as tie
+use Rattle.dzwonolin.proofs.label_doors.dz_label_name.Statement.{statement}
+use Rattle.dzwonolin.proofs.label_doors.dz_label_name.Tie as tie
 
 abbrev start : tie.After-label-place → tie.Start
 start c = c.before.before.before.before

@@ -1,10 +1,10 @@
--- `dzwonolin::labels::dz_label_keys` meets its contract: what `label_keys` promises, and what `tell_one` wrote.
+-- `dzwonolin::label_doors::dz_label_keys` meets its contract: what `label_keys` promises, and what `tell_one` wrote.
 use mathlib.Core.Path.{◌≡◌}
 use mathlib.Core.List.{[], ◌∷◌}
 use Rattle.cifti.specs.Labels.{Keys}
 use Rattle.flat.specs.Flat.{laid_over}
-use Rattle.dzwonolin.proofs.labels.dz_label_keys.Statement.{statement}
-use Rattle.dzwonolin.proofs.labels.dz_label_keys.Tie as tie
+use Rattle.dzwonolin.proofs.label_doors.dz_label_keys.Statement.{statement}
+use Rattle.dzwonolin.proofs.label_doors.dz_label_keys.Tie as tie
 
 abbrev start : tie.After-label-keys → tie.Start
 start c = c.before.before.before.before.before
