@@ -18,4 +18,4 @@ pub returns-then-b-quote : goal.returns-then-b-quote
 returns-then-b-quote c = search decoding
 
 pub returns : goal.returns
-returns c = above _ _ _ c.if-text-at.false c.if-b-quote.false c.if-b-le38.false
+returns c = above c.args.text.now c.args.at c.args.quote c.if-text-at.false c.if-b-quote.false (omega arith)
