@@ -66,7 +66,7 @@ def functions_of(crate, program):
 def own_errors(said):
     """The errors that are a declaration's own: of each the file, the declaration and what is said."""
     found = (ERROR.match(line) for line in said.splitlines())
-    return [one.groups() for one in found if one and one.group(2) and not RESTS.search(one.group(3))]
+    return [one.groups() for one in found if one and one.group(2) and not RESTS.search(one.group(3)) and not UNFIT.search(one.group(3))]
 
 
 def open_goals(said):
@@ -77,11 +77,16 @@ def open_goals(said):
             yield tuple(function.split("::")), goal
 
 
-def function_refused(said, function):
-    """Whether a function is not proved for a reason of its own: an error of its proof, or a goal that is left open."""
+def proof_of(function):
+    """What the files of a function's proof are called."""
     *modules, name = function
     folder = re.escape("/".join(["proofs", *modules]))
-    proof = re.compile(rf"{folder}/(?:{name}|\+(?:\w+_)?{name}(?:_\w+)?)/\w+\.antt")
+    return re.compile(rf"{folder}/(?:{name}|\+(?:\w+_)?{name}(?:_\w+)?)/\w+\.antt")
+
+
+def function_refused(said, function):
+    """Whether a function is not proved for a reason of its own: an error of its proof, or a goal that is left open."""
+    proof = proof_of(function)
     return any(proof.fullmatch(file) for file, _, _ in own_errors(said)) or any(of == tuple(function) for of, _ in open_goals(said))
 
 
@@ -112,8 +117,16 @@ def refused(said, crate, program):
 
 
 def unfit(said):
-    """The first line that says that a text or a proof does not fit, which shows nothing."""
-    return next((line for line in said.splitlines() if "error" in line and UNFIT.search(line)), "")
+    """The lines that say that a text or a proof does not fit, which shows nothing: of each the file and the line."""
+    found = [line for line in said.splitlines() if re.search(r"error[:\[]", line) and UNFIT.search(line)]
+    return [(line.removeprefix("./").partition(":")[0], line) for line in found]
+
+
+def does_not_fit(said, crate, program):
+    """The first line that says that the proof of a wrong program's function does not fit it."""
+    proofs = [proof_of(function) for function in functions_of(crate, program)]
+    files = {program.place[0]} if program.place else set()
+    return next((line for file, line in unfit(said) if file in files or any(proof.fullmatch(file) for proof in proofs)), "")
 
 
 def apply(room, changes):
@@ -127,15 +140,32 @@ def apply(room, changes):
     return ""
 
 
-def tried(name, changes):
-    """What a check of a crate with these changes says; and why it shows nothing, if so."""
+def fit(room, said):
+    """Gives answers whose goals are gone the names of the goals that are left open; whether there are as many of these. A goal is called by
+    the code, so that other code may ask the same under another name."""
+    gone = re.findall(r"^\./(proofs/\S+?):\d+:\d+: error: `([^`]*)`: `goal\.[^`]*`: module `[^`]*` has no `\2`", said, re.M)
+    left = re.findall(r"^note: src/\S+: it is not proved that .*\(`([^`]*)`\)", said, re.M)
+    if not gone or len(gone) != len(left):
+        return False
+    for (file, old), new in zip(gone, left):
+        path = room / file
+        path.write_text(re.sub(rf"(?<![\w'-]){re.escape(old)}(?![\w'-])", new, path.read_text(encoding="utf-8")), encoding="utf-8")
+    return True
+
+
+def tried(name, changes, fits=False):
+    """What a check of a crate with these changes says, where wanted with its answers fitted; and why it shows nothing at all, if so."""
     with rooms.room(name) as room:
         why = apply(room, changes)
         if why:
             return "", why
         status, said = rooms.check(room)
+        if fits and fit(room, said):
+            status, said = rooms.check(room)
     if status == 0:
         return said, "it is proved"
-    if not re.search(r"^logic=not-proved", said, re.M):
-        return said, unfit(said) or f"the check gave no verdict: {said.strip().splitlines()[-1] if said.strip() else 'it said nothing'}"
-    return said, unfit(said)
+    lines = said.strip().splitlines()
+    read = [line for file, line in unfit(said) if not file.startswith("proofs/")]
+    if read or not re.search(r"^logic=not-proved", said, re.M):
+        return said, read[0] if read else f"the check gave no verdict: {lines[-1] if lines else 'it said nothing'}"
+    return said, ""
