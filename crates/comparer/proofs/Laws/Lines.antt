@@ -2,7 +2,10 @@
 -- many bytes the first n have.
 use Rattle.std.specs.Prelude.{◌≡◌, Bool, true, false, cond, ℕ, zero, suc, ◌+◌, ◌*◌, ◌-◌, ◌/◌, ◌%◌, ◌≤◌, ◌<◌, eqb, ltb, get_or}
 use Rattle.std.proofs.Math.Path.{refl, ap}
-use Rattle.std.proofs.Common.{sym, ◌∙◌, ne_eqb, le-leb, add-one}
+use Rattle.std.specs.Prelude.{Option}
+use Rattle.std.proofs.Common.{sym, ◌∙◌, subst, append-nil, ne_eqb, le-leb, add-one}
+use Rattle.std.specs.Io.KnownBytes.{Appends}
+use Rattle.std.proofs.KnownBytes.{Appends-nil, Appends-trans}
 use mathlib.Core.List.{List, [], ◌∷◌, ◌++◌, append_assoc}
 use native.Mathlib.Omega.{arith}
 use Rattle.std.proofs.Math.ListN.{length, length-append}
@@ -265,3 +268,30 @@ module _ (a b : List ℕ) where
 
     pub line_small : k ≤ 128
     line_small = omega (arith, all, line_fits a b n)
+
+-- ---- The lines below n, as they were printed.
+
+pub lines_below : (a b : List ℕ) → ℕ → List ℕ
+lines_below a b n = in_row (line_at a b) 0 n
+
+module _ (a b : List ℕ) where
+  pub printed_none : (x : Option (List ℕ)) → Appends x x (lines_below a b 0)
+  unfolding lines_below
+  printed_none x = subst (Appends x x) (sym (row_none (line_at a b) 0)) (Appends-nil x)
+
+  line_more : (n : ℕ) → lines_below a b n ++ line_at a b n ≡ lines_below a b (n + 1)
+  unfolding lines_below
+  line_more n =
+      let z : 0 + n ≡ n = omega arith in
+      let last : in_row (line_at a b) (0 + n) 1 ≡ line_at a b n =
+      rw z (row_suc (line_at a b) n 0 ∙ ap (λ l. line_at a b n ++ l) (row_none (line_at a b) (suc n)) ∙ append-nil (line_at a b n)) in
+      sym (row_parts (line_at a b) 0 n 1 ∙ ap (λ l. in_row (line_at a b) 0 n ++ l) last)
+
+  pub printed_next : (x y z : Option (List ℕ)) (n : ℕ) {bytes : List ℕ} → bytes ≡ line_at a b n → Appends x y (lines_below a b n)
+      → Appends y z bytes → Appends x z (lines_below a b (n + 1))
+  printed_next x y z n {bytes} e before p =
+      subst (Appends x z) (ap (λ l. lines_below a b n ++ l) e ∙ line_more n) (Appends-trans x y z (lines_below a b n) bytes before p)
+
+  pub printed_all : (x y : Option (List ℕ)) (n : ℕ) → n ≡ length a + length b → Appends x y (lines_below a b n) → Appends x y (output_bytes a b)
+  unfolding lines_below
+  printed_all x y n e p = subst (Appends x y) (ap (in_row (line_at a b) 0) e ∙ sym (output_row a b)) p

@@ -6,7 +6,6 @@ use Rattle.std.proofs.Math.Bool.{true, false}
 use borrow.Author.Tests.{le-leb, lt-ltb, le-ltb}
 use borrow.Rule.Slice.PartMut.{mid_of, post_of, put_mid}
 use Rattle.std.proofs.Math.ListN.{length}
-use Rattle.std.proofs.Math.Seq.{take-length}
 use Rattle.grammar.specs.Bytes.{ascii}
 use Rattle.grammar.specs.Look.{Word}
 use Rattle.records.specs.Record.{Location, on_surface, in_volume, location_of}
@@ -87,9 +86,9 @@ refusal_all n {out} written room =
 
 -- ---- A word, and a line behind it.
 
-module _ (w s : List ℕ) (room : (length w ≤ 20) × (128 ≤ length s)) {o : List ℕ} (copied : o ≡ take (length w) w ++ drop (length w) s) where
+module _ (w s : List ℕ) (room : (length w ≤ 20) × (128 ≤ length s)) {o v : List ℕ} (copied : v ≡ w) (put : o ≡ v ++ drop (length w) s) where
   is : o ≡ w ++ drop (length w) s
-  is = copied ∙ rw (take-length w) refl
+  is = put ∙ ap (λ l. l ++ drop (length w) s) copied
 
   long : length o ≡ length s
   long = omega (arith, ap length is, length-append w (drop (length w) s), length-drop (length w) s)

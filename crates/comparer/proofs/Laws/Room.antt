@@ -71,12 +71,18 @@ module _ (input : List ℕ) (short : length input ≤ 32768) {e : ℕ} (end : e 
       omega (arith, ap length one, ap length two, length-append (take e input) (drop e input), ap length (take-append-drop e input)) in
       rw (le-ltb 32768 (length input) short, sym end, sym one, sym two, sym (room_enough s t total), sym number) refl
 
-  pub output_said : n ≡ 0 → length (output_bytes (records_of s) (records_of t)) ≡ length (program_bytes input)
+  pub output_is : n ≡ 0 → output_bytes (records_of s) (records_of t) ≡ program_bytes input
   unfolding answer_bytes
-  output_said z = ap length (sym (said ∙ ap (λ k. answer_bytes k (records_of s) (records_of t)) z))
+  output_is z = sym (said ∙ ap (λ k. answer_bytes k (records_of s) (records_of t)) z)
+
+  pub refusal_is : (n ≡ 0 → ⊥) → refusal_bytes n ≡ program_bytes input
+  refusal_is h = sym (said ∙ by_number n (records_of s) (records_of t) h)
+
+  pub output_said : n ≡ 0 → length (output_bytes (records_of s) (records_of t)) ≡ length (program_bytes input)
+  output_said z = ap length (output_is z)
 
   pub refusal_said : (n ≡ 0 → ⊥) → length (refusal_bytes n) ≡ length (program_bytes input)
-  refusal_said h = ap length (sym (said ∙ by_number n (records_of s) (records_of t) h))
+  refusal_said h = ap length (refusal_is h)
 
 -- the number that `compare` tells
 pub number_told : {s t before after : List ℕ} {answer : Compared} → Compares s t before answer after → length before ≡ 6552
