@@ -1,0 +1,1 @@
+use Rattle.labels.proofs.twice.some_twice.Goals as goal
