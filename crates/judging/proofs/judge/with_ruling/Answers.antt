@@ -1,0 +1,14 @@
+use Rattle.models.proofs.Laws.Judged.{with-ruling}
+use Rattle.judging.proofs.judge.with_ruling.Goals as goal
+
+pub first_of-requires : goal.first_of-requires
+first_of-requires c = search with-ruling
+
+pub offset_bounds-more-i : goal.offset_bounds-more-i
+offset_bounds-more-i c = search with-ruling
+
+pub bounds-more-i : goal.bounds-more-i
+bounds-more-i c = search with-ruling
+
+pub returns : goal.returns
+returns c = search with-ruling
