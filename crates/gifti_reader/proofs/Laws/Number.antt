@@ -8,7 +8,8 @@ use Rattle.std.proofs.Math.Option
 use Rattle.lists.specs.Lists.{all, any, each, each_in, count}
 use Rattle.lists.proofs.Laws.Lists.{all_append, length_each}
 use Rattle.lists.proofs.Laws.Booleans.{and_left, and_right, or_false, refute}
-use Rattle.lists.specs.Refusals.{first}
+use Rattle.lists.specs.Refusals.{◌when◌, first}
+use Rattle.lists.proofs.Laws.Refusals.{first_row}
 use Rattle.grammar.specs.Bytes.{ascii}
 use Rattle.grammar.specs.Document.{Element}
 use Rattle.grammar.specs.Look.{is, attr}
@@ -177,11 +178,17 @@ module _ (i : ℕ) {text : List ℕ} {e : Element} {t : ℕ} (p : TableAt text e
 module _ {text : List ℕ} {e : Element} {t : ℕ} (p : TableAt text e t) {b : Bool} (q : b ≡ twice_at text t) where
   pub number_twice_lem : (i : ℕ) → b ≡ true → {n : ℕ} → n ≡ number_twice e → n ≡ first (rows_of_arrays i e)
   unfolding number_twice rows_of_arrays first
-  number_twice_lem i y h = h ∙ sym (rw (sym p.twice_is ∙ sym q ∙ y) refl)
+  number_twice_lem i y h =
+      h ∙ first_row 9 (arrays_wrong e) (24 when true ∷ [])
+      ∙ sym (rw (sym p.twice_is ∙ sym q ∙ y)
+          (first_row 9 (arrays_wrong e) (24 when true ∷ 18 when no_array i e ∷ 30 when length_wrong e ∷ 31 when key_unknown e ∷ [])))
 
   pub number_once_lem : (i : ℕ) → b ≡ false → {n : ℕ} → n ≡ number_once i e → n ≡ first (rows_of_arrays i e)
   unfolding number_once rows_of_arrays first
-  number_once_lem i y h = h ∙ sym (rw (sym p.twice_is ∙ sym q ∙ y) refl)
+  number_once_lem i y h =
+      h ∙ first_row 9 (arrays_wrong e) (18 when no_array i e ∷ 30 when length_wrong e ∷ 31 when key_unknown e ∷ [])
+      ∙ sym (rw (sym p.twice_is ∙ sym q ∙ y)
+          (first_row 9 (arrays_wrong e) (24 when false ∷ 18 when no_array i e ∷ 30 when length_wrong e ∷ 31 when key_unknown e ∷ [])))
 
 pub table_once : {text : List ℕ} {root t : ℕ} → FileHere text root → TableAt text (the text root) t → {b : Bool} → b ≡ twice_at text t
     → b ≡ false → TableOnce text root t
