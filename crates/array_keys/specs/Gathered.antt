@@ -1,5 +1,5 @@
 -- Bytes gathered until four are held, and the key of four bytes, as the code keeps them.
-use Rattle.std.specs.Prelude.{◌≡◌, List, [], ◌++◌, Bool, cond, ℕ, ◌+◌, ◌/◌, ◌%◌, ◌^◌, ◌<◌, ◌≤◌, ltb, ℤ}
+use Rattle.std.specs.Prelude.{◌≡◌, List, [], ◌++◌, Bool, cond, ℕ, ◌/◌, ◌%◌, ◌^◌, ◌<◌, ◌≤◌, ltb, ℤ}
 use Rattle.nodes.specs.Texts.{left}
 use Rattle.base64_text.specs.Fours.{in_endian, bits32, twos}
 use Rattle.base64_reader.specs.Groups.{letters_at, low_bytes, bytes_ahead}

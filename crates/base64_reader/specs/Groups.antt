@@ -1,7 +1,6 @@
 -- BASE64 FOUR LETTERS AT A TIME: what the reader answers, by what is ahead of a place.
 use Rattle.std.specs.Prelude.{◌≡◌, List, [], ◌∷◌, ◌++◌, Bool, cond, ℕ, zero, suc, ◌+◌, ◌/◌, ◌%◌, ◌^◌, ◌<◌, ◌≤◌, eqb, length, get_or}
 use Rattle.std.proofs.Math.Option.{Option, some}
-use Rattle.std.proofs.Math.Option
 use Rattle.lists.specs.Lists.{tabulated, all_below}
 use Rattle.grammar.specs.Look.{Word}
 use Rattle.nodes.specs.Texts.{says_at, left}

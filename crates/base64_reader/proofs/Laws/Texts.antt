@@ -3,7 +3,6 @@ use Rattle.std.specs.Prelude.{◌≡◌, refl, List, Bool, true, false, ℕ, zer
 use Rattle.std.proofs.Math.Path.{sym, ap}
 use Rattle.std.proofs.Common.{◌∙◌, arith, rules}
 use Rattle.std.proofs.Math.Option.{Option, some}
-use Rattle.std.proofs.Math.Option
 use Rattle.lists.specs.Lists.{is_some, those}
 use Rattle.nodes.specs.Texts.{says_at, left, inside, text_of_lem}
 use Rattle.nodes.proofs.Laws.TextSteps.{text_none, text_some}

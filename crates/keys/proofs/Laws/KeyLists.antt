@@ -1,5 +1,5 @@
 -- The next key of a list, and whether a text lists keys: one lemma for each way of the code.
-use Rattle.std.specs.Prelude.{◌≡◌, Bool, not, cond, ℕ, suc, ◌+◌, ◌-◌, ◌/◌, ◌%◌, ◌^◌, ◌<◌, ◌≤◌, ℤ, pos, leb}
+use Rattle.std.specs.Prelude.{◌≡◌, Bool, not, cond, ℕ, suc, ◌+◌, ◌/◌, ◌%◌, ◌^◌, ◌<◌, ◌≤◌, ℤ, pos, leb}
 use Rattle.std.proofs.Math.Path.{refl, sym, ap}
 use Rattle.std.proofs.Common.{◌∙◌, SFits, to_z, of_z, rules}
 use mathlib.Core.List.{List, [], ◌∷◌, ◌++◌, append-nil}

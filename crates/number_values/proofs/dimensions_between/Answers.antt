@@ -34,10 +34,10 @@ is_within-n-requires c = search listing
 
 pub overflow_add-n : goal.overflow_add-n
 overflow_add-n c = omega (
-      arith,
-      list_room c.loop-d.invariant
-          c.dimension_at.ensures _ c.is_within-n.ensures,
-    )
+  arith,
+  list_room c.loop-d.invariant
+      c.dimension_at.ensures _ c.is_within-n.ensures,
+)
 
 pub loop-d-smaller : goal.loop-d-smaller
 loop-d-smaller c = search listing
@@ -50,10 +50,10 @@ is_within-requires c = search listing
 
 pub overflow_add-result : goal.overflow_add-result
 overflow_add-result c = omega (
-      arith,
-      list_room c.loop-d.invariant
-          c.dimension_at.ensures _ c.is_within.ensures,
-    )
+  arith,
+  list_room c.loop-d.invariant
+      c.dimension_at.ensures _ c.is_within.ensures,
+)
 
 pub enum_told-1 : goal.enum_told-1
 enum_told-1 c = search listing

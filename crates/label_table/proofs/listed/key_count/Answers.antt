@@ -16,9 +16,9 @@ next_label-kid-requires c = search counting
 
 pub overflow_add-n : goal.overflow_add-n
 overflow_add-n c = omega (
-      arith,
-      counting_room c.loop-kid.invariant c.in-Child.is c.next_label-kid.ensures,
-    )
+  arith,
+  counting_room c.loop-kid.invariant c.in-Child.is c.next_label-kid.ensures,
+)
 
 pub loop-kid-smaller : goal.loop-kid-smaller
 loop-kid-smaller c = search counting
