@@ -5,8 +5,7 @@ use flat::{tell_one, tell_two};
 use label_reader::{label_keys, label_place};
 use records::Index;
 
-#[unsafe(no_mangle)]
-pub extern "C" fn dz_label_keys(
+pub fn dz_label_keys(
     text: &[u8],
     lengths: &[u64],
     dimension: u64,
@@ -22,8 +21,7 @@ pub extern "C" fn dz_label_keys(
     keyed.number
 }
 
-#[unsafe(no_mangle)]
-pub extern "C" fn dz_label_name(
+pub fn dz_label_name(
     text: &[u8],
     lengths: &[u64],
     dimension: u64,

@@ -4,8 +4,7 @@ ghost use Rattle.dzwonolin.specs.Gifti.{GiftiFlat};
 use flat::tell_one;
 use gifti_reader::gifti_keys;
 
-#[unsafe(no_mangle)]
-pub extern "C" fn dz_gifti_keys(text: &[u8], array: u64, keys: &mut [i32], count: &mut [u64]) -> u64
+pub fn dz_gifti_keys(text: &[u8], array: u64, keys: &mut [i32], count: &mut [u64]) -> u64
     ensures { GiftiFlat text.now array keys.old count.old result keys.new
         count.new }
 {

@@ -1,5 +1,6 @@
 // The library for C: include/dzwonolin.h says what each function takes and gives. A slice is a pointer and the number of its elements.
-// Here are the doors of texts and files. Those that need no text are in record_doors; ./library puts both into one library.
+// Here are the doors of texts and files, which dzwonolin_c exports to C. Those that need no text are in record_doors and record_doors_c;
+// ./library puts both into one library.
 // All names of a map.
 #![tactic(auto)]
 
@@ -12,12 +13,13 @@ mod label_files;
 ghost use Rattle.dzwonolin.specs.Promises.{ReadsFlat, NamesFlat, ReadsFileFlat, FileNamesFlat};
 
 use flat::{tell_answer, tell_two};
+pub use label_doors::{dz_label_keys, dz_label_name};
+pub use label_files::dz_gifti_keys;
 pub use names::dz_map_names;
 use reader::map_name_place;
 use records::Index;
 
-#[unsafe(no_mangle)]
-pub extern "C" fn dz_read(
+pub fn dz_read(
     text: &[u8],
     lengths: &[u64],
     records: &mut [u64],
@@ -32,8 +34,7 @@ pub extern "C" fn dz_read(
     said.number
 }
 
-#[unsafe(no_mangle)]
-pub extern "C" fn dz_map_name(
+pub fn dz_map_name(
     text: &[u8],
     lengths: &[u64],
     dimension: u64,
@@ -47,8 +48,7 @@ pub extern "C" fn dz_map_name(
     place.number
 }
 
-#[unsafe(no_mangle)]
-pub extern "C" fn dz_read_file(
+pub fn dz_read_file(
     file: &[u8],
     records: &mut [u64],
     work: &mut [u64],
@@ -62,8 +62,7 @@ pub extern "C" fn dz_read_file(
     filed.number
 }
 
-#[unsafe(no_mangle)]
-pub extern "C" fn dz_file_map_name(file: &[u8], dimension: u64, index: u64, part: &mut [u64]) -> u64
+pub fn dz_file_map_name(file: &[u8], dimension: u64, index: u64, part: &mut [u64]) -> u64
     ensures { FileNamesFlat file.now dimension index part.old result part.new }
 {
     let name = file_reader::file_map_name_place(file, dimension, Index(index));

@@ -4,8 +4,7 @@ ghost use Rattle.dzwonolin.specs.AllNames.{MapNamesFlat};
 use all_names::map_names;
 use flat::tell_one;
 
-#[unsafe(no_mangle)]
-pub extern "C" fn dz_map_names(
+pub fn dz_map_names(
     text: &[u8],
     lengths: &[u64],
     dimension: u64,

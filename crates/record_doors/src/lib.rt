@@ -1,5 +1,5 @@
 // The doors for C that read no text: records and sheets, the short list as four numbers a model, two sheets side by side, and where the
-// text of a file is.
+// text of a file is. record_doors_c exports them to C.
 // include/dzwonolin.h says what each takes and gives. A slice is a pointer and the number of its elements.
 // The short list made.
 #![tactic(auto)]
@@ -20,8 +20,7 @@ use flat::{tell_one, tell_row, tell_two};
 use making::list_numbers;
 use records::Index;
 
-#[unsafe(no_mangle)]
-pub extern "C" fn dz_find(records: &[u64], number: u64, place: &mut [u64]) -> u64
+pub fn dz_find(records: &[u64], number: u64, place: &mut [u64]) -> u64
     ensures { FindsFlat records.now number place.old result place.new }
 {
     let found = record_fields::find(records, number);
@@ -29,8 +28,7 @@ pub extern "C" fn dz_find(records: &[u64], number: u64, place: &mut [u64]) -> u6
     found.number
 }
 
-#[unsafe(no_mangle)]
-pub extern "C" fn dz_pack(records: &[u64], sheet: &mut [u8], count: &mut [u64]) -> u64
+pub fn dz_pack(records: &[u64], sheet: &mut [u8], count: &mut [u64]) -> u64
     ensures { PacksFlat records.now sheet.old count.old result sheet.new
         count.new }
 {
@@ -39,8 +37,7 @@ pub extern "C" fn dz_pack(records: &[u64], sheet: &mut [u8], count: &mut [u64]) 
     packed.number
 }
 
-#[unsafe(no_mangle)]
-pub extern "C" fn dz_unpack(sheet: &[u8], records: &mut [u64], count: &mut [u64]) -> u64
+pub fn dz_unpack(sheet: &[u8], records: &mut [u64], count: &mut [u64]) -> u64
     ensures { UnpacksFlat sheet.now records.old count.old result records.new
         count.new }
 {
@@ -51,8 +48,7 @@ pub extern "C" fn dz_unpack(sheet: &[u8], records: &mut [u64], count: &mut [u64]
 
 // ---- The short list: four numbers a model.
 
-#[unsafe(no_mangle)]
-pub extern "C" fn dz_model_list(records: &[u64], list: &mut [u64], count: &mut [u64]) -> u64
+pub fn dz_model_list(records: &[u64], list: &mut [u64], count: &mut [u64]) -> u64
     ensures { ListsFlat records.now list.old count.old result list.new
         count.new }
 {
@@ -61,36 +57,28 @@ pub extern "C" fn dz_model_list(records: &[u64], list: &mut [u64], count: &mut [
     made.number
 }
 
-#[unsafe(no_mangle)]
-pub extern "C" fn dz_structure_at(list: &[u64], index: u64, answer: &mut [u64]) -> u64
+pub fn dz_structure_at(list: &[u64], index: u64, answer: &mut [u64]) -> u64
     ensures { TellsFlat list.now index answer.old result answer.new }
 {
     let told = structure_in(list, Index(index));
-    let kind = told_type(told);
-    let structure = told_structure(told);
+    let kind = told_type(&told);
+    let structure = told_structure(&told);
     tell_two(answer, kind, structure);
-    told_number(told)
+    told_number(&told)
 }
 
-#[unsafe(no_mangle)]
-pub extern "C" fn dz_index_of(list: &[u64], records: &[u64], number: u64, place: &mut [u64]) -> u64
+pub fn dz_index_of(list: &[u64], records: &[u64], number: u64, place: &mut [u64]) -> u64
     ensures { SeeksFlat list.now records.now number place.old result place.new }
 {
     let sought = index_in(list, records, number);
-    let index = sought_index(sought);
+    let index = sought_index(&sought);
     tell_one(place, index);
-    sought_number(sought)
+    sought_number(&sought)
 }
 
 // ---- Two sheets side by side.
 
-#[unsafe(no_mangle)]
-pub extern "C" fn dz_compare(
-    first: &[u8],
-    second: &[u8],
-    work: &mut [u64],
-    counts: &mut [u64],
-) -> u64
+pub fn dz_compare(first: &[u8], second: &[u8], work: &mut [u64], counts: &mut [u64]) -> u64
     ensures { ComparesFlat first.now second.now work.old counts.old result
         work.new counts.new }
 {
@@ -104,8 +92,7 @@ pub extern "C" fn dz_compare(
     compared.number
 }
 
-#[unsafe(no_mangle)]
-pub extern "C" fn dz_tail(first: &[u8], second: &[u8], work: &mut [u64], part: &mut [u64]) -> u64
+pub fn dz_tail(first: &[u8], second: &[u8], work: &mut [u64], part: &mut [u64]) -> u64
     ensures { TailsFlat first.now second.now work.old part.old result work.new
         part.new }
 {
@@ -120,8 +107,7 @@ pub extern "C" fn dz_tail(first: &[u8], second: &[u8], work: &mut [u64], part: &
 
 // ---- Where the text of a file is.
 
-#[unsafe(no_mangle)]
-pub extern "C" fn dz_front(file: &[u8], front: &mut [u64]) -> u64
+pub fn dz_front(file: &[u8], front: &mut [u64]) -> u64
     ensures { FrontsFlat file.now front.old result front.new }
 {
     let placed = front::front(file);
