@@ -1,7 +1,0 @@
-use Rattle.maps.proofs.Laws.LengthsAgree.{length_there}
-use Rattle.all_names.proofs.length_at.Statement.{statement}
-use Rattle.all_names.proofs.length_at.Tie as tie
-
-pub length-at-spec : {M : Type 1} → statement M
-length-at-spec = tie.close (tie.spec (λ c. search length_there) (λ c. search length_there) (λ c. search length_there)
-    (λ c. search length_there))
