@@ -1,7 +1,6 @@
 -- THE PROMISE on the place of a map name: the number is that of the map name;
 -- where it is 0, the part is what stands at the place of the way to the name.
-use Rattle.std.specs.Prelude.{◌≡◌, List, [], ℕ, ◌+◌, ◌≤◌, length, take, drop}
-use Rattle.std.proofs.Math.Option
+use Rattle.std.specs.Prelude.{◌≡◌, List, ℕ, ◌+◌, ◌≤◌, length, take, drop}
 use Rattle.cifti.specs.Names.{NameNumber, NamePart}
 use Rattle.inside.specs.Way.{WayStep, WayPlace}
 use Rattle.map_names.specs.Way.{name_way}

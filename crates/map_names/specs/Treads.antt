@@ -6,7 +6,6 @@ use Rattle.nodes.specs.Values.{value_there}
 use Rattle.nodes.specs.Root.{root}
 use Rattle.nodes.specs.declared.Found.{Found}
 use Rattle.nodes.specs.declared.Found.TheVariants.{At, Nothing}
-use Rattle.numbers.specs.Numbers as Numbers
 use Rattle.numbers.specs.Answers.{between_in}
 use Rattle.numbers.specs.declared.Whole.{Whole}
 use Rattle.numbers.specs.declared.Whole.TheVariants as whole

@@ -1,5 +1,5 @@
 -- A BRAIN MAP AT A PLACE OF A TEXT, good as conditions 6 and 7 ask: what it holds, and what its children are.
-use Rattle.std.specs.Prelude.{◌≡◌, List, [], ℕ}
+use Rattle.std.specs.Prelude.{◌≡◌, List, ℕ}
 use Rattle.nodes.specs.Places.{Stands, the}
 use Rattle.cifti.specs.Rows.{brain_models}
 use Rattle.cifti.specs.Maps.{kind_of_map}

@@ -1,5 +1,5 @@
 -- THE MODELS OF A MAP, GATHERED: what the struct `Models` holds of a text.
-use Rattle.std.specs.Prelude.{◌≡◌, List, [], false, ℕ, ◌+◌, ◌<◌, ◌≤◌, length, get_or, take, set}
+use Rattle.std.specs.Prelude.{◌≡◌, List, false, ℕ, ◌+◌, ◌<◌, ◌≤◌, length, get_or, take, set}
 use Rattle.lists.specs.Lists.{each, two_of}
 use Rattle.grammar.specs.Bytes.{ascii}
 use Rattle.grammar.specs.Document.{Element}

@@ -1,7 +1,6 @@
 -- THE GATHERED MODELS, as lists: what the arrays hold is what the map's models are.
 use Rattle.std.specs.Prelude.{List, ℕ, ◌<◌, get_or}
-use Rattle.lists.specs.Lists.{tabulated, count}
-use Rattle.lists.specs.Ranges.{holds}
+use Rattle.lists.specs.Lists.{tabulated}
 use Rattle.nodes.specs.Places.{the}
 use Rattle.cifti.specs.Maps.{Model, model_of}
 use Rattle.models.specs.Brain.{BrainAt}

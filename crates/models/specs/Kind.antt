@@ -1,5 +1,5 @@
 -- The type and the structure of a model, in one number: two models share both if it is the same.
-use Rattle.std.specs.Prelude.{List, [], ℕ, ◌+◌}
+use Rattle.std.specs.Prelude.{List, ℕ, ◌+◌}
 use Rattle.nodes.specs.Places.{Stands, the}
 use Rattle.cifti.specs.Maps.{Listed, vertices, voxels, Model}
 use Rattle.maps.specs.Kinds.{GoodModel}

@@ -3,7 +3,6 @@ use Rattle.std.specs.Prelude.{◌≡◌, List, [], ◌∷◌, true, ℕ, ◌<◌
 use Rattle.lists.specs.Lists.{all}
 use Rattle.nodes.specs.Texts.{says_at, left}
 use Rattle.numbers.specs.Numbers.{digits, words, values}
-use Rattle.numbers.specs.declared.Next.TheVariants.{End}
 use Rattle.models.specs.declared.listing.Triple.{Triple}
 use Rattle.models.specs.declared.listing.Triple.TheVariants as triple
 

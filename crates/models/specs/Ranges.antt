@@ -1,7 +1,6 @@
 -- THE RANGES OF THE GATHERED MODELS, as the arrays hold them.
 use Rattle.std.specs.Prelude.{List, cond, ℕ, ◌<◌, ◌≤◌, ltb, get_or}
 use Rattle.std.proofs.Math.Option.{Option, some}
-use Rattle.std.proofs.Math.Option
 use Rattle.lists.specs.Lists.{tabulated}
 use Rattle.lists.specs.Ranges.{Range}
 use Rattle.models.specs.Gathered.{Sized}

@@ -1,5 +1,5 @@
 -- WHAT CONDITIONS 11 AND 12 SAY OF LISTS: 11 where one is uneven, else 12 where one goes beyond its surface or volume, else 0.
-use Rattle.std.specs.Prelude.{List, [], Bool, cond, not, ℕ, ◌*◌, eqb, ltb, length}
+use Rattle.std.specs.Prelude.{List, Bool, cond, not, ℕ, ◌*◌, eqb, ltb, length}
 use Rattle.lists.specs.Lists.{any, all}
 use Rattle.cifti.specs.Maps.{Voxel, voxel, Model, Map, threes}
 use Rattle.cifti.specs.Conditions.{lists_count, uneven, outside, beyond}

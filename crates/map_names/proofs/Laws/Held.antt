@@ -2,7 +2,6 @@
 use Rattle.std.specs.Prelude.{◌≡◌, refl, List, [], ◌∷◌, Bool, true, false, cond, ◌&&◌, ◌||◌, ℕ, ltb, length, replicate}
 use Rattle.std.proofs.Common.{sym, ◌∙◌, subst, arith, eqb-true, le-ltb}
 use Rattle.std.proofs.Math.Option.{Option, some}
-use Rattle.std.proofs.Math.Option
 use Prim.Native.String.{String}
 use Rattle.lists.specs.Lists.{all, count, each, those}
 use Rattle.lists.proofs.Laws.Booleans.{never_some, and_left}

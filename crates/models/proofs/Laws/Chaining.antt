@@ -1,9 +1,8 @@
 -- The turns of the chain: from 0, each range goes on where the last one ended.
-use Rattle.std.specs.Prelude.{◌≡◌, refl, [], Bool, true, false, ℕ, zero, suc, ◌+◌, ◌*◌, ◌-◌, ◌<◌, ◌≤◌, ◌^◌, eqb, get_or}
+use Rattle.std.specs.Prelude.{◌≡◌, refl, Bool, true, false, ℕ, zero, suc, ◌+◌, ◌*◌, ◌-◌, ◌<◌, ◌≤◌, ◌^◌, eqb, get_or}
 use Rattle.std.proofs.Math.Path.{sym}
 use Rattle.std.proofs.Common.{◌∙◌, subst, arith, rules, eqb-true, lt-ltb, le-ltb}
 use Rattle.std.proofs.Math.Option.{some}
-use Rattle.std.proofs.Math.Option
 use Rattle.std.proofs.lemmas.Bool.{eqb-false}
 use Rattle.lists.specs.Lists.{count_up, tabulated, total}
 use Rattle.lists.specs.Ranges.{Range, sum_of, tiling, begins_at, Chain, start, on}

@@ -1,5 +1,5 @@
 -- Maps to which 10, 11 and 12 do not apply, by the first map and the others.
-use Rattle.std.specs.Prelude.{◌≡◌, refl, List, [], ◌∷◌, Bool, true, cond, ◌&&◌, ◌||◌}
+use Rattle.std.specs.Prelude.{◌≡◌, refl, List, ◌∷◌, Bool, true, cond, ◌&&◌, ◌||◌}
 use Rattle.std.proofs.Common.{sym, ◌∙◌}
 use Rattle.std.proofs.Math.Bool.{false}
 use Rattle.lists.proofs.Laws.Booleans.{or_left, or_right}

@@ -1,5 +1,5 @@
 -- The type and the structure of a model, as the code reads them.
-use Rattle.std.specs.Prelude.{◌≡◌, refl, List, [], Bool, true, false, ◌&&◌, ℕ, ◌+◌, ◌<◌, ◌≤◌, eqb, ◌^◌}
+use Rattle.std.specs.Prelude.{◌≡◌, refl, List, Bool, true, false, ◌&&◌, ℕ, ◌+◌, ◌<◌, ◌≤◌, eqb, ◌^◌}
 use Rattle.std.proofs.Common.{sym, ne_eqb, ◌∙◌, rules}
 use native.Mathlib.Omega.{arith}
 use Rattle.lists.proofs.Laws.Numbers.{eqb_same}

@@ -1,11 +1,3 @@
-use mathlib.Core.Path.{◌≡◌}
-use mathlib.Core.List.{List}
-use Prim.Native.Nat.{ℕ, ◌+◌}
-use lib.ListN.{get_or}
-use Rattle.records.specs.Fill.{wrote}
-use Rattle.maps.specs.Table.{model_records}
-use Rattle.models.specs.declared.gather.Models.{Models}
-use Rattle.table.specs.Placing.{nth_model}
 use Rattle.table.proofs.Laws.Placing.{placing, placed_offset, placed_sum, placed_can, placed_on, placed_done}
 use native.Mathlib.Omega.{arith}
 use Rattle.filling.proofs.placing.fill_models.Goals as goal
@@ -42,10 +34,10 @@ bounds-models-i-in-loop-i-2 c = search placing
 
 pub overflow_add-start : goal.overflow_add-start
 overflow_add-start c = omega (
-      arith,
-      placed_offset c.loop-i.invariant
-          c.loop-i-test.true,
-    )
+  arith,
+  placed_offset c.loop-i.invariant
+      c.loop-i-test.true,
+)
 
 pub fill_model-requires : goal.fill_model-requires
 fill_model-requires c =

@@ -1,4 +1,4 @@
-use Rattle.known_keys.proofs.Laws.Turns.{codes_small, taken_so}
+use Rattle.known_keys.proofs.Laws.Turns.{taken_so}
 use Rattle.known_keys.proofs.turns.taken.Goals as goal
 
 pub returns : goal.returns
