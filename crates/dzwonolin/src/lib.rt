@@ -48,12 +48,7 @@ pub fn dz_map_name(
     place.number
 }
 
-pub fn dz_read_file(
-    file: &[u8],
-    records: &mut [u64],
-    work: &mut [u64],
-    answer: &mut [u64],
-) -> u64
+pub fn dz_read_file(file: &[u8], records: &mut [u64], work: &mut [u64], answer: &mut [u64]) -> u64
     ensures { ReadsFileFlat file.now records.old work.old answer.old result
         records.new work.new answer.new }
 {
