@@ -1,5 +1,5 @@
 -- CONDITION 13, map after map.
-use Rattle.std.specs.Prelude.{[], cond, ℕ, length}
+use Rattle.std.specs.Prelude.{cond, ℕ}
 use Rattle.cifti.specs.Maps.{is_brain}
 use Rattle.maps.specs.declared.survey.MapNote.{MapNote}
 

@@ -1,5 +1,5 @@
 -- WHAT THE ANSWER SAYS OF THE MAPS.
-use Rattle.std.specs.Prelude.{List, [], cond, ℕ}
+use Rattle.std.specs.Prelude.{List, cond, ℕ}
 use Rattle.nodes.specs.Places.{the}
 use Rattle.cifti.specs.Maps.{is_brain, is_series, series_of}
 use Rattle.cifti.specs.Answer.{no_series, as_series}

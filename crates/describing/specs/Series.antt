@@ -3,7 +3,7 @@ use Rattle.std.specs.Prelude.{List, ℕ, ℤ, pos}
 use Rattle.grammar.specs.Document.{Element}
 use Rattle.grammar.specs.Look.{Word, attr}
 use Rattle.nodes.specs.Places.{Stands, the}
-use Rattle.numbers.specs.Numbers.{decimal_value, no_decimal, exponent, exponent_value}
+use Rattle.numbers.specs.Numbers.{decimal_value, no_decimal, exponent_value}
 use Rattle.numbers.specs.Answers.{decimal_in, exponent_in}
 use Rattle.numbers.specs.declared.Decimal.{Decimal}
 use Rattle.numbers.specs.declared.Decimals.{Decimals}

@@ -1,5 +1,5 @@
 -- CONDITIONS 4 AND 29, as the code asks them.
-use Rattle.std.specs.Prelude.{[], Bool, not}
+use Rattle.std.specs.Prelude.{Bool, not}
 use Rattle.grammar.specs.Document.{Element}
 use Rattle.gifti.specs.Conditions.{array_read}
 

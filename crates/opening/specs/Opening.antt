@@ -1,7 +1,6 @@
 -- CONDITIONS 1 TO 7, one after the other: the number of the first that applies, or that none does and where the matrix stands.
-use Rattle.std.specs.Prelude.{◌≡◌, List, [], ◌∷◌, false, cond, ℕ, ◌-◌, ◌≤◌, length}
+use Rattle.std.specs.Prelude.{◌≡◌, List, [], ◌∷◌, false, cond, ℕ, ◌≤◌, length}
 use Rattle.std.proofs.Math.Option.{some}
-use Rattle.std.proofs.Math.Option
 use Rattle.grammar.specs.Document.{Element}
 use Rattle.grammar.specs.Look.{children}
 use Rattle.grammar.specs.Parser.{parse}

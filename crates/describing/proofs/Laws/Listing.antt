@@ -1,5 +1,5 @@
 -- Whether a map lists a dimension, by how often it is counted.
-use Rattle.std.specs.Prelude.{◌≡◌, refl, List, [], true, false, ℕ, min, eqb}
+use Rattle.std.specs.Prelude.{◌≡◌, refl, List, true, false, ℕ, min, eqb}
 use Rattle.std.proofs.Common.{arith, eq-eqb}
 use Rattle.lists.specs.Lists.{any, count}
 use Rattle.lists.proofs.Laws.Lists.{none_counted}

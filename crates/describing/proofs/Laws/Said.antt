@@ -1,8 +1,8 @@
 -- What is proved of Said.
-use Rattle.std.specs.Prelude.{◌≡◌, List, [], ◌∷◌, Bool, true, false, cond, ℕ, ◌+◌, ◌*◌, ◌^◌, ◌≤◌, ◌<◌, eqb, length, get_or}
+use Rattle.std.specs.Prelude.{◌≡◌, List, [], ◌∷◌, Bool, true, false, cond, ℕ, ◌+◌, ◌*◌, ◌^◌, ◌≤◌, ◌<◌, eqb, get_or}
 use Rattle.std.proofs.Math.Path.{refl, sym}
 use Rattle.std.proofs.Common.{◌∙◌, arith, rules}
-use Rattle.lists.specs.Lists.{any, count}
+use Rattle.lists.specs.Lists.{any}
 use Rattle.nodes.specs.Places.{the}
 use Rattle.cifti.specs.Maps.{Map, map_of, is_brain, is_series, series_of, dimensions_of}
 use Rattle.cifti.specs.Answer.{no_series, as_series, dimension_by, unused, described, reach, dimension_at, accepted_with}

@@ -18,7 +18,6 @@ use Rattle.numbers.specs.declared.Decimals.TheVariants as decimals
 use Rattle.numbers.specs.declared.Exponent.{Exponent}
 use Rattle.numbers.specs.declared.Exponent.TheVariants as exponents
 use Rattle.cifti.specs.Words.{units, number_in}
-use Rattle.cifti.specs.Rows as kinds
 use Rattle.cifti.specs.declared.answer.Series as S
 use Rattle.maps.proofs.Laws.Kinds.{SeriesFacts, series_facts}
 use Rattle.maps.specs.Fields.{attribute_word}

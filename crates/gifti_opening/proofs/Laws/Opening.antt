@@ -3,7 +3,6 @@ use Rattle.std.specs.Prelude.{◌≡◌, List, [], ◌∷◌, Bool, true, false,
 use Rattle.std.proofs.Math.Path.{sym}
 use Rattle.std.proofs.Common.{ap, ◌∙◌, arith, rules, lt-ltb, le-ltb}
 use Rattle.std.proofs.Math.Option.{Option, some}
-use Rattle.std.proofs.Math.Option
 use Rattle.lists.specs.Lists.{there, is_some}
 use Rattle.lists.specs.Refusals.{Refusal, ◌when◌, first}
 use Rattle.lists.proofs.Laws.Refusals.{first_row}

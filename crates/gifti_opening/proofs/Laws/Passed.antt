@@ -4,7 +4,6 @@ use Rattle.std.specs.Prelude.{◌≡◌, List, ℕ, length}
 use Rattle.std.proofs.Math.Path.{refl, sym, ap, subst}
 use Rattle.std.proofs.Common.{◌∙◌}
 use Rattle.std.proofs.Math.Option.{Option, some}
-use Rattle.std.proofs.Math.Option
 use Rattle.std.proofs.Math.Decide.{ℕ_discrete}
 use borrow.Author.Tests.{ltb-false}
 use Rattle.lists.specs.Lists.{there, is_some}
@@ -14,7 +13,6 @@ use Rattle.lists.proofs.Laws.Refusals.{given_none, row_fails, rows_past, first_n
 use Rattle.grammar.specs.Document.{Element}
 use Rattle.grammar.specs.Parser.{parse}
 use Rattle.nodes.specs.Places.{Stands, the}
-use Rattle.nodes.specs.Root.{root}
 use Rattle.nodes.proofs.Laws.Root.{root_law}
 use Rattle.nodes.specs.declared.Kid.TheVariants.{Child}
 use Rattle.cifti.specs.Conditions.{text_too_long, no_document}

@@ -1,10 +1,9 @@
 -- What is proved of Opening.
-use Rattle.std.specs.Prelude.{◌≡◌, Bool, not, ◌||◌, ◌&&◌, ℕ, ◌+◌, ◌-◌, ◌≤◌, ◌<◌, leb, length}
+use Rattle.std.specs.Prelude.{◌≡◌, Bool, not, ◌||◌, ◌&&◌, ℕ, ◌+◌, ◌≤◌, ◌<◌, leb, length}
 use Rattle.std.proofs.Math.Path.{refl, sym, ap}
 use Rattle.std.proofs.Common.{◌∙◌, true≢false, add-one, drop_of_length-le, drop-cons, rules, lt-ltb, le-ltb, le-leb, eq-eqb, ne_eqb, leb-true}
 use mathlib.Core.List.{List, [], ◌∷◌, append-nil}
 use Rattle.std.proofs.Math.Option.{Option, some}
-use Rattle.std.proofs.Math.Option
 use Rattle.std.proofs.Math.Bool.{true, false, cond}
 use native.Mathlib.Omega.{arith}
 use Rattle.std.proofs.Math.Dec.{eqb, ltb}
@@ -17,11 +16,10 @@ use Rattle.grammar.specs.Look.{is, name_of, contents_of, elements, children}
 use Rattle.grammar.specs.Parser.{parse}
 use Rattle.nodes.specs.Places.{Stands, the}
 use Rattle.nodes.specs.Children.{first_child, next}
-use Rattle.nodes.specs.Root.{root}
 use Rattle.nodes.proofs.Laws.Walk.{kids, Walk, walk_children, kids_children, walk_none, turn_at, turn_splits}
 use Rattle.nodes.specs.declared.Kid.{Kid}
 use Rattle.nodes.specs.declared.Kid.TheVariants.{Child, Done}
-use Rattle.cifti.specs.Rows.{cifti, matrix}
+use Rattle.cifti.specs.Rows.{cifti}
 use Rattle.cifti.specs.Maps.{map_elements, maps_of}
 use Rattle.cifti.specs.Conditions as C
 use Rattle.cifti.specs.Conditions.{◌when◌, lengths_wrong, text_too_long, no_document, root_wrong, kind_not_read, shape_wrong, number_wrong}
