@@ -1,6 +1,6 @@
 -- A KEY TWICE in the tables of labels maps: the loops over the children of a name, on any bytes; and, where elements stand that pass 6 and
 -- 7, that they say condition 24.
-use Rattle.std.specs.Prelude.{List, [], Bool, ◌&&◌, ℕ}
+use Rattle.std.specs.Prelude.{List, Bool, ◌&&◌, ℕ}
 use Rattle.lists.specs.Lists.{any, those, two_of}
 use Rattle.grammar.specs.Bytes.{ascii}
 use Rattle.numbers.specs.Numbers.{same_key}
@@ -8,7 +8,6 @@ use Rattle.nodes.specs.Children.{first_child}
 use Rattle.nodes.specs.declared.Kid.{Kid}
 use Rattle.inside.specs.Walked.{places_from}
 use Rattle.inside.specs.Treads.{called}
-use Rattle.cifti.specs.LabelTable as tables
 use Rattle.label_table.specs.Labels.{twice_at}
 use Rattle.cifti.specs.Maps.{Map, is_labels}
 

@@ -1,1 +1,0 @@
-use Rattle.labels.proofs.twice.some_twice.Goals as goal
