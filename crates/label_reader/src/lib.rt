@@ -8,6 +8,6 @@ mod lent_keys;
 // The name of a key, and where it stands in the text.
 mod names;
 
-pub use lent_keys::label_keys;
 pub use label_table::Filled;
+pub use lent_keys::label_keys;
 pub use names::{label_name, label_name_number, label_place};

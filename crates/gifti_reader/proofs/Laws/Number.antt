@@ -181,14 +181,14 @@ module _ {text : List ℕ} {e : Element} {t : ℕ} (p : TableAt text e t) {b : B
   number_twice_lem i y h =
       h ∙ first_row 9 (arrays_wrong e) (24 when true ∷ [])
       ∙ sym (rw (sym p.twice_is ∙ sym q ∙ y)
-          (first_row 9 (arrays_wrong e) (24 when true ∷ 18 when no_array i e ∷ 30 when length_wrong e ∷ 31 when key_unknown e ∷ [])))
+      (first_row 9 (arrays_wrong e) (24 when true ∷ 18 when no_array i e ∷ 30 when length_wrong e ∷ 31 when key_unknown e ∷ [])))
 
   pub number_once_lem : (i : ℕ) → b ≡ false → {n : ℕ} → n ≡ number_once i e → n ≡ first (rows_of_arrays i e)
   unfolding number_once rows_of_arrays first
   number_once_lem i y h =
       h ∙ first_row 9 (arrays_wrong e) (18 when no_array i e ∷ 30 when length_wrong e ∷ 31 when key_unknown e ∷ [])
       ∙ sym (rw (sym p.twice_is ∙ sym q ∙ y)
-          (first_row 9 (arrays_wrong e) (24 when false ∷ 18 when no_array i e ∷ 30 when length_wrong e ∷ 31 when key_unknown e ∷ [])))
+      (first_row 9 (arrays_wrong e) (24 when false ∷ 18 when no_array i e ∷ 30 when length_wrong e ∷ 31 when key_unknown e ∷ [])))
 
 pub table_once : {text : List ℕ} {root t : ℕ} → FileHere text root → TableAt text (the text root) t → {b : Bool} → b ≡ twice_at text t
     → b ≡ false → TableOnce text root t
