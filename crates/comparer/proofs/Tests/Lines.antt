@@ -1,6 +1,8 @@
 -- THE LINES, computed: two small lists of records give these bytes, and no others; and the bytes of a whole standard input.
-use Rattle.std.specs.Prelude.{◌≡◌, refl, List, [], ◌∷◌, ℕ}
-use Rattle.lists.specs.Lists.{lists}
+use Rattle.std.specs.Prelude.{◌≡◌, refl, List, [], ◌∷◌, ◌++◌, ℕ}
+use Prim.Native.String.{String}
+use Rattle.lists.specs.Lists.{lists, each_in}
+use Rattle.grammar.specs.Bytes.{ascii}
 use Rattle.lists.specs.Refusals.{refusals}
 use Rattle.records.specs.Record.{record_words, on_surface, in_volume, record_of}
 use Rattle.records.specs.Bytes.{byte_words}
@@ -10,13 +12,17 @@ use Rattle.comparison.specs.Compare.{compare_words}
 use Rattle.compare.specs.Change.{of_first, of_second, change_at, end_said, first_end}
 use Rattle.card.specs.Card.{card_words}
 use Rattle.card.specs.Written.{written_words}
-use Rattle.card.proofs.Tests.CaseA.{lined}
 use Rattle.comparer.specs.Output.{output_bytes, answer_bytes, program_bytes, output_words}
 
 unfoldable computing : Unit {0}
 unfolding lists refusals record_words byte_words width_said count_of words_in good_word good_count good_sheet compare_words of_first of_second change_at
     end_said first_end card_words written_words output_words
 computing = tt
+
+-- each line ends with a line feed
+abbrev pub lined : List String → List ℕ
+unfolding each_in
+lined l = each_in (λ s. ascii s ++ (10 ∷ [])) l
 
 -- one vertex stays, a voxel moves up, a voxel and a vertex are gone; the same voxel in another structure is new
 abbrev pub first_mask : List ℕ
