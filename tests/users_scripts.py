@@ -33,18 +33,21 @@ class Scripts(unittest.TestCase):
     def test_without_the_kit(self):
         folder = without_kit()
         self.addCleanup(shutil.rmtree, folder)
-        for words in (["./card", "crates/lister/stdin"], ["./library"], ["./example"]):
+        for words in (["./library"], ["./example"]):
             self.told(run(*words, env={"PATH": folder}), 3, "rt is not on the PATH")
 
     def test_a_failed_proof(self):
         with tempfile.TemporaryDirectory() as folder:
-            said = f"echo 'rt: lists proved (1 s)'; echo '{ROOT}/crates/x.antt:2:3: error: no'; echo y: error: z; " \
-                   "echo 'rt: nodes NOT PROVED (exit 1, 4 s)'; exit 5"
-            done = run("tools/proving", "nodes", f"{folder}/log", "sh", "-c", said)
+            stand_in = pathlib.Path(folder) / "rt"
+            stand_in.write_text("#!/bin/sh\necho '== lists'; echo 'logic=proved functions=0'; echo '== nodes'\n"
+                                "echo './proofs/x.antt:2:3: error: no'; echo y: error: z; echo '== summary'\n"
+                                "echo 'nodes: failed (check)'; exit 5\n")
+            stand_in.chmod(0o755)
+            done = run("tools/proving", f"{folder}/log", "nodes", env={**os.environ, "PATH": f"{folder}:{os.environ['PATH']}"})
         self.assertEqual(done.returncode, 5)
-        self.assertRegex(done.stdout, r"\A1 of \d+: lists proved \(1 s\)\n")
+        self.assertRegex(done.stdout, r"\A1 of \d+: lists proved, \d+ s so far\n")
         self.assertEqual(done.stdout.splitlines()[1:], [
-            "failed: nodes NOT PROVED (exit 1, 4 s)", "first error: crates/x.antt:2:3: error: no", f"all that was said: {folder}/log"])
+            "failed: nodes", "first error: ./proofs/x.antt:2:3: error: no", f"all that was said: {folder}/log"])
 
     def test_the_card_of_a_refused_text(self):
         if not (ROOT / "target" / "bin" / "lister").exists():
