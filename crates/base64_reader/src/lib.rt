@@ -18,7 +18,7 @@ use sixteen::sixteen_letters;
 pub use values::letter_values;
 
 // One to three bytes as one number, how many they are, and the place behind their letters.
-#[derive(Drop)]
+#[derive(Clone, Copy)]
 pub enum Group {
     Bytes(u64, usize, usize),
     End,

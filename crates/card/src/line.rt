@@ -7,7 +7,7 @@ use answers::{is_brain, kind_number};
 use cifti::{Answer, Dimension, Kind};
 use records::{Index, Place, Vertex};
 
-#[derive(Drop)]
+#[derive(Clone, Copy)]
 pub enum Line {
     Accepted,
     Refused(u64),

@@ -7,7 +7,7 @@ use record_fields::find;
 use records::Place;
 
 // What is said of an index: nothing, or the word of its line.
-#[derive(Drop)]
+#[derive(Clone, Copy)]
 pub enum Change {
     Same,
     Moved,

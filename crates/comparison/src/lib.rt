@@ -3,7 +3,7 @@
 
 // The number of the refusal, or 0; and then how many locations are at the same index in both, in both but moved, in the first only, and in
 // the second only. All 0 where refused.
-#[derive(Drop)]
+#[derive(Clone, Copy)]
 pub struct Compared {
     pub number: u64,
     pub same: usize,
@@ -14,7 +14,7 @@ pub struct Compared {
 
 // The number of the refusal, or 0; which sheet the part is of, 0 the first and 1 the second, where it starts there, and how many bytes it
 // has. All 0 where refused.
-#[derive(Drop)]
+#[derive(Clone, Copy)]
 pub struct TailPlace {
     pub number: u64,
     pub sheet: u64,

@@ -6,7 +6,7 @@ use Rattle.numbers.specs.Numbers.{whole, key_list}
 use Rattle.base64_text.specs.Base64.{coded}
 use Rattle.schema.specs.Schema.{any_value, word, number, AttributeRow, required, optional, any_text, numbers, once, at_most_once}
 use Rattle.schema.specs.Schema.{at_least_once, Case, ◌⇒◌, always, chosen_else, child, any_order, in_order, Row, branch, leaf}
-use Rattle.schema.proofs.Laws.Renamed.{row_named}
+use Rattle.schema.specs.Renamed.{row_named}
 use Rattle.cifti.specs.Rows.{ElementKind, meta_data, label_table, element_number, rows}
 
 -- CIFTI's kinds, and behind them GIFTI's: an array and its Data are of a kind for each encoding

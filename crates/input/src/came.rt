@@ -5,7 +5,7 @@ ghost use Rattle.input.specs.Arrived.{Arrived, Took};
 use std::io::Read;
 
 // How many bytes came, or that a read failed.
-#[derive(Drop)]
+#[derive(Clone, Copy)]
 pub struct Came {
     pub count: usize,
     pub failed: bool,

@@ -4,7 +4,7 @@ ghost use Rattle.numbers.specs.Numbers.{parts, comma};
 ghost use Rattle.input.specs.Lengths.{wholes_of, lengths_in, first_by};
 ghost use Rattle.input.specs.Parted.{FirstDigit, Ran, LineParted};
 
-#[derive(Drop)]
+#[derive(Clone, Copy)]
 pub enum FirstLine {
     Two(u64, u64),
     Three(u64, u64, u64),

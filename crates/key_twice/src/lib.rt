@@ -13,16 +13,6 @@ use label_table::labels::first_label;
 use nodes::Kid;
 use parts::part_twice;
 
-// The same place once more.
-fn again(kid: &Kid) -> Kid
-    ensures { result ≡ kid.now }
-{
-    match kid {
-        Kid::Child(k) => Kid::Child(*k),
-        Kid::Done => Kid::Done,
-    }
-}
-
 // The keys, part by part in the order of the text.
 fn search_in(text: &[u8], at: usize, work: &mut [u32]) -> bool
     requires { 0 < length work.old }
@@ -35,7 +25,7 @@ fn search_in(text: &[u8], at: usize, work: &mut [u32]) -> bool
                 let turn = taken(text, kid, work);
                 let n = turn.n;
                 kid = turn.next;
-                if part_twice(text, again(&kid), &work[..n]) {
+                if part_twice(text, kid, &work[..n]) {
                     return true;
                 }
             }

@@ -12,7 +12,7 @@ use number_values::signed;
 use numbers::Source;
 
 // The key that stands next in a list, and the place behind it.
-#[derive(Drop)]
+#[derive(Clone, Copy)]
 pub enum ListedKey {
     Key(i32, usize),
     End,

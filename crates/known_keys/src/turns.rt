@@ -7,7 +7,7 @@ use label_table::labels::next_label;
 use nodes::Kid;
 
 // So many keys, and the Label behind theirs.
-#[derive(Drop)]
+#[derive(Clone, Copy)]
 pub struct Turn {
     pub n: usize,
     pub next: Kid,

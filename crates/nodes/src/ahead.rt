@@ -1,5 +1,5 @@
 // A child; the end of the element, and the place behind it; or what may not stand there.
-#[derive(Drop)]
+#[derive(Clone, Copy)]
 pub enum Ahead {
     Child(usize),
     End(usize),

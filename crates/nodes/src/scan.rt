@@ -1,5 +1,5 @@
 // A start tag that leaves its element open, one that does not, or none; and the place behind it.
-#[derive(Drop)]
+#[derive(Clone, Copy)]
 pub enum Tag {
     Open(usize),
     Bare(usize),
@@ -7,7 +7,7 @@ pub enum Tag {
 }
 
 // The next that matters in contents: an end tag and its place; behind a start tag; behind a comment or a bare tag.
-#[derive(Drop)]
+#[derive(Clone, Copy)]
 pub enum Sign {
     Close(usize),
     Open(usize),

@@ -2,35 +2,35 @@
 #![tactic(auto)]
 
 // A whole number, or that there is none.
-#[derive(Drop)]
+#[derive(Clone, Copy)]
 pub enum Whole {
     Is(u64),
     No,
 }
 
 // Three lengths, or that there are none.
-#[derive(Drop)]
+#[derive(Clone, Copy)]
 pub struct Lengths {
     pub i: u64,
     pub j: u64,
     pub k: u64,
 }
 
-#[derive(Drop)]
+#[derive(Clone, Copy)]
 pub enum Three {
     Are(Lengths),
     No,
 }
 
 // A small number with a sign.
-#[derive(Drop)]
+#[derive(Clone, Copy)]
 pub enum Exponent {
     Is(i64),
     No,
 }
 
 // The key of a label.
-#[derive(Drop)]
+#[derive(Clone, Copy)]
 pub enum Key {
     Is(i32),
     No,
@@ -43,14 +43,14 @@ pub struct Decimal {
     pub power: i64,
 }
 
-#[derive(Drop)]
+#[derive(Clone, Copy)]
 pub enum Decimals {
     Is(Decimal),
     No,
 }
 
 // The number that stands next in a list, and the place behind it.
-#[derive(Drop)]
+#[derive(Clone, Copy)]
 pub enum Next {
     Number(u64, usize),
     End,
@@ -73,14 +73,14 @@ pub struct Run {
 }
 
 // Whether a `-` stands in front, and the place behind the sign, if there is one.
-#[derive(Drop)]
+#[derive(Clone, Copy)]
 pub struct Lead {
     pub negative: bool,
     pub next: usize,
 }
 
 // A number among commas: with the place behind its comma, or the last.
-#[derive(Drop)]
+#[derive(Clone, Copy)]
 pub enum Part {
     Comma(u64, usize),
     Last(u64),
@@ -88,7 +88,7 @@ pub enum Part {
 }
 
 // A decimal and the place behind it, or that a word is none.
-#[derive(Drop)]
+#[derive(Clone, Copy)]
 pub enum Spelling {
     Reads(Decimal, usize),
     Fails,

@@ -2,7 +2,7 @@
 -- Assumes nothing.
 use Rattle.std.specs.Prelude.{◌≡◌, List, [], Bool, cond, ℕ}
 use Rattle.lists.specs.Lists.{those}
-use Rattle.lists.proofs.Laws.Permuted.{Permuted}
+use Rattle.lists.specs.Permuted.{Permuted}
 use Rattle.grammar.specs.Bytes.{ascii}
 use Rattle.grammar.specs.Document.{Attribute, Element, element, Contents, nothing, child, run}
 use Rattle.grammar.specs.Look.{is, name_of, elements}

@@ -71,8 +71,8 @@ pub(crate) fn index_in(list: &[u64], records: &[u64], number: u64) -> Sought
 }
 
 // The paper's number of an answer, and its values.
-pub(crate) fn told_number(answer: &Told) -> u64
-    ensures { result ≡ told_number answer.now }
+pub(crate) fn told_number(answer: Told) -> u64
+    ensures { result ≡ told_number answer }
 {
     match answer {
         Told::Is(v, s) => 0,
@@ -81,28 +81,28 @@ pub(crate) fn told_number(answer: &Told) -> u64
     }
 }
 
-pub(crate) fn told_type(answer: &Told) -> u64
-    ensures { result ≡ cond (told_voxels answer.now) 1 0 }
+pub(crate) fn told_type(answer: Told) -> u64
+    ensures { result ≡ cond (told_voxels answer) 1 0 }
 {
     match answer {
-        Told::Is(v, s) => type_number(*v),
+        Told::Is(v, s) => type_number(v),
         Told::BadList => 0,
         Told::Nothing => 0,
     }
 }
 
-pub(crate) fn told_structure(answer: &Told) -> u64
-    ensures { result ≡ told_structure answer.now }
+pub(crate) fn told_structure(answer: Told) -> u64
+    ensures { result ≡ told_structure answer }
 {
     match answer {
-        Told::Is(v, s) => *s,
+        Told::Is(v, s) => s,
         Told::BadList => 0,
         Told::Nothing => 0,
     }
 }
 
-pub(crate) fn sought_number(answer: &Sought) -> u64
-    ensures { result ≡ sought_number answer.now }
+pub(crate) fn sought_number(answer: Sought) -> u64
+    ensures { result ≡ sought_number answer }
 {
     match answer {
         Sought::At(i) => 0,
@@ -111,8 +111,8 @@ pub(crate) fn sought_number(answer: &Sought) -> u64
     }
 }
 
-pub(crate) fn sought_index(answer: &Sought) -> u64
-    ensures { result ≡ sought_index answer.now }
+pub(crate) fn sought_index(answer: Sought) -> u64
+    ensures { result ≡ sought_index answer }
 {
     match answer {
         Sought::At(i) => i.0,

@@ -61,19 +61,19 @@ pub fn dz_structure_at(list: &[u64], index: u64, answer: &mut [u64]) -> u64
     ensures { TellsFlat list.now index answer.old result answer.new }
 {
     let told = structure_in(list, Index(index));
-    let kind = told_type(&told);
-    let structure = told_structure(&told);
+    let kind = told_type(told);
+    let structure = told_structure(told);
     tell_two(answer, kind, structure);
-    told_number(&told)
+    told_number(told)
 }
 
 pub fn dz_index_of(list: &[u64], records: &[u64], number: u64, place: &mut [u64]) -> u64
     ensures { SeeksFlat list.now records.now number place.old result place.new }
 {
     let sought = index_in(list, records, number);
-    let index = sought_index(&sought);
+    let index = sought_index(sought);
     tell_one(place, index);
-    sought_number(&sought)
+    sought_number(sought)
 }
 
 // ---- Two sheets side by side.

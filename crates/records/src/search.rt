@@ -2,7 +2,7 @@
 use super::counters::Place;
 
 // 0 and the place, or 19 and place 0.
-#[derive(Drop)]
+#[derive(Clone, Copy)]
 pub struct RecordFound {
     pub number: u64,
     pub place: Place,

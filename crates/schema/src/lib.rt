@@ -4,7 +4,7 @@
 
 // How often each line of a kind was met so far; the place of the line met last, and the kind that it gave;
 // whether the watched name was seen, and whether it was met below a child.
-#[derive(Drop)]
+#[derive(Clone, Copy)]
 pub struct Tally {
     pub counts: [u64; 8],
     pub place: usize,
@@ -14,7 +14,7 @@ pub struct Tally {
 }
 
 // The fault of an element and, where it is not 6, the place behind the element, and whether the watched name stands below it.
-#[derive(Drop)]
+#[derive(Clone, Copy)]
 pub struct Walked {
     pub fault: u8,
     pub behind: usize,
@@ -22,7 +22,7 @@ pub struct Walked {
 }
 
 // 3: no document; 6: its shape is wrong; 7: its numbers are; 0. Where it is not 3, the root stands at `root`.
-#[derive(Drop)]
+#[derive(Clone, Copy)]
 pub struct Checked {
     pub number: u8,
     pub root: usize,

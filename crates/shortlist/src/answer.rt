@@ -11,7 +11,7 @@ pub struct Model {
 }
 
 // Of making a list: how many models it has, or the refusal 15, 16, 26 or 17.
-#[derive(Drop)]
+#[derive(Clone, Copy)]
 pub enum Listed {
     Models(usize),
     BadCount,
@@ -21,7 +21,7 @@ pub enum Listed {
 }
 
 // The type (voxels or not) and the structure at an index, or the refusal 26 or 19.
-#[derive(Drop)]
+#[derive(Clone, Copy)]
 pub enum Told {
     Is(bool, u64),
     BadList,
@@ -29,7 +29,7 @@ pub enum Told {
 }
 
 // The index of a record, or the refusal 26 or 19.
-#[derive(Drop)]
+#[derive(Clone, Copy)]
 pub enum Sought {
     At(Index),
     BadList,

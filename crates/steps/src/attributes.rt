@@ -1,5 +1,5 @@
 // Where a name begins and ends, and where what is read with it ends.
-#[derive(Drop)]
+#[derive(Clone, Copy)]
 pub enum Key {
     Is { from: usize, to: usize, end: usize },
     No,

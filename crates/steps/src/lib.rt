@@ -3,7 +3,7 @@
 #![tactic(auto)]
 
 // The position behind what was read, or that nothing was.
-#[derive(Drop)]
+#[derive(Clone, Copy)]
 pub enum Step {
     To(usize),
     No,

@@ -1,5 +1,5 @@
 // What stands at the front of contents.
-#[derive(Drop)]
+#[derive(Clone, Copy)]
 pub enum Front {
     Close,
     Comment,
@@ -9,7 +9,7 @@ pub enum Front {
 }
 
 // Where characters, comments and CDATA end: before an end tag or the end of the text, before a start tag, or nowhere.
-#[derive(Drop)]
+#[derive(Clone, Copy)]
 pub enum Between {
     Close(usize),
     Start(usize),

@@ -26,12 +26,11 @@ fn finished(table: &[u32], from: usize, to: usize, tally: Tally, worst: u8, behi
     ensures { result ≡ finished_walk (times_by table.now from to tally.counts tally.met) worst behind
         (tally.seen || tally.met) }
 {
-    let holds = (tally.seen) | (tally.met);
     if tally::times_right(table, from, to, tally) {
         return Walked {
             fault: worst,
             behind: behind,
-            holds: holds,
+            holds: (tally.seen) | (tally.met),
         };
     }
     refused()

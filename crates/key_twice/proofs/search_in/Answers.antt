@@ -10,7 +10,7 @@ part_twice-requires c = search searching
 pub returns-then-part_twice : goal.returns-then-part_twice
 returns-then-part_twice c =
     searching_found c.loop-kid.invariant c.taken-turn.ensures c.taken-turn.auto.work
-    (rw c.again.ensures at c.part_twice.ensures) c.if-part_twice.true
+    c.part_twice.ensures c.if-part_twice.true
 
 pub loop-kid-smaller : goal.loop-kid-smaller
 loop-kid-smaller c = search searching
@@ -18,7 +18,7 @@ loop-kid-smaller c = search searching
 pub loop-kid-preserved : goal.loop-kid-preserved
 loop-kid-preserved c =
     searching_on c.loop-kid.invariant c.taken-turn.ensures c.taken-turn.auto.work
-    (rw c.again.ensures at c.part_twice.ensures) c.if-part_twice.false
+    c.part_twice.ensures c.if-part_twice.false
 
 pub returns-in-Done : goal.returns-in-Done
 returns-in-Done c = search searching

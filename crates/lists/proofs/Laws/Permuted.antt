@@ -1,4 +1,4 @@
--- LISTS THAT ARE THE SAME BUT FOR THE ORDER, and the words of counting, which do not see it.
+-- Lists that are the same but for the order: the words of counting do not see it.
 use Rattle.std.specs.Prelude.{◌≡◌, Bool, ◌&&◌, ◌||◌, ℕ, suc, ◌+◌, length}
 use Rattle.std.proofs.Math.Path.{refl, ap, ap₂}
 use Rattle.std.proofs.Common.{◌∙◌}
@@ -6,13 +6,8 @@ use mathlib.Core.List.{List, [], ◌∷◌, ◌++◌}
 use Rattle.std.proofs.Math.Bool.{true, false, not, cond}
 use native.Mathlib.Omega.{arith}
 use Rattle.lists.proofs.Laws.Booleans.{or_swap, and_swap}
+use Rattle.lists.specs.Permuted.{Permuted, none, same, swap, then}
 use Rattle.lists.specs.Lists.{all, any, those, count, two_of, total, each, each_in}
-
-pub data Permuted {A : Type 0} : List A → List A → Type 0 where
-  none : Permuted [] []
-  same : {a : A} {k l : List A} → Permuted k l → Permuted (a ∷ k) (a ∷ l)
-  swap : {a b : A} {l : List A} → Permuted (a ∷ b ∷ l) (b ∷ a ∷ l)
-  then : {k l m : List A} → Permuted k l → Permuted l m → Permuted k m
 
 module _ {A : Type 0} where
   pub permuted_refl : (l : List A) → Permuted l l

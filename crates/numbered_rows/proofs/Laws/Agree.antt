@@ -21,7 +21,8 @@ use Rattle.schema.specs.Checked.{Checks, ChecksDocument}
 use Rattle.schema.specs.declared.Checked.{Checked}
 use Rattle.numbered_rows.specs.Table.{table, letters}
 use Rattle.numbered_rows.specs.Checks.{root_fault, JudgedBy, ChecksBy, ChecksCifti, TableAnswers}
-use Rattle.schema.proofs.Laws.Renamed.{row_named, renaming, shaped_named, numbered_named, walk_named}
+use Rattle.schema.specs.Renamed.{row_named}
+use Rattle.schema.proofs.Laws.Renamed.{renaming, shaped_named, numbered_named, walk_named}
 
 -- one computed equation over all kinds
 all_rows_are : each (λ k. rows_of table letters (element_number k)) element_kinds ≡ each (λ k. row_named element_number (rows k)) element_kinds

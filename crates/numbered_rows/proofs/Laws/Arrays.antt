@@ -5,7 +5,8 @@ use Rattle.std.proofs.Common.{sym, ◌∙◌}
 use Rattle.lists.specs.Lists.{count_up, each}
 use Rattle.grammar.specs.Document.{Element}
 use Rattle.schema.specs.Schema.{everywhere, shaped, numbered}
-use Rattle.schema.proofs.Laws.Renamed.{row_named, renaming, named_twice_lem, shaped_named, numbered_named, walk_named}
+use Rattle.schema.specs.Renamed.{row_named}
+use Rattle.schema.proofs.Laws.Renamed.{renaming, named_twice_lem, shaped_named, numbered_named, walk_named}
 use Rattle.cifti.specs.Rows.{ElementKind, rows, element_number}
 use Rattle.gifti.specs.Rows.{GiftiKind, of_cifti, gifti, plain_array, coded_array, other_array, plain_data, coded_data, other_data, gifti_number}
 use Rattle.gifti.specs.Rows.{gifti_rows, gifti_table}

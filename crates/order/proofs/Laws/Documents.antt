@@ -7,7 +7,7 @@ use Prim.Native.Nat.{ℕ, zero, suc}
 use Prim.Native.String.{String}
 use Rattle.std.proofs.Math.ListN.{get_or}
 use Rattle.lists.specs.Lists.{any, those, each, each_in, is_some, there}
-use Rattle.lists.proofs.Laws.Permuted.{Permuted}
+use Rattle.lists.specs.Permuted.{Permuted}
 use Rattle.lists.proofs.Laws.Permuted.{each_permuted, length_permuted, those_permuted}
 use Rattle.lists.proofs.Laws.Refusals.{row_fails, rows_past}
 use Rattle.grammar.specs.Document.{Element}

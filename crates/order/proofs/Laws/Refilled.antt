@@ -2,7 +2,7 @@
 use Rattle.std.specs.Prelude.{◌≡◌, refl, List, [], ◌∷◌, ◌++◌, Bool, true, false, cond, ℕ, suc, ◌+◌, length}
 use Rattle.std.proofs.Common.{sym, ap, subst, ◌∙◌, arith, length-append}
 use Rattle.lists.specs.Lists.{those}
-use Rattle.lists.proofs.Laws.Permuted.{Permuted, none, same, swap, then}
+use Rattle.lists.specs.Permuted.{Permuted, none, same, swap, then}
 use Rattle.lists.proofs.Laws.Permuted.{length_permuted}
 use Rattle.grammar.specs.Document.{Element, Contents, nothing, child, run, merged}
 use Rattle.grammar.specs.Grammar

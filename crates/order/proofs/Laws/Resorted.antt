@@ -6,7 +6,7 @@ use mathlib.Core.List.{List, [], ◌∷◌, ◌++◌}
 use Rattle.std.proofs.Math.Bool.{true, false, cond}
 use Prim.Native.String.{String}
 use Rattle.lists.specs.Lists.{those, each}
-use Rattle.lists.proofs.Laws.Permuted.{Permuted, then}
+use Rattle.lists.specs.Permuted.{Permuted, then}
 use Rattle.lists.proofs.Laws.Permuted.{parted, append_both, permuted_refl, permuted_turned}
 use Rattle.grammar.specs.Bytes.{ascii, same_bytes}
 use Rattle.grammar.specs.Document.{Element, Contents, nothing, child, run}

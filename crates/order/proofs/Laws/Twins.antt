@@ -8,7 +8,7 @@ use Rattle.std.proofs.Math.ListN.{get_or}
 use Rattle.lists.specs.Lists.{any, count, two_of, each, each_in, all_below, tabulated}
 use Rattle.lists.proofs.Laws.Booleans.{or_left, or_right}
 use Rattle.lists.proofs.Laws.Numbers.{eqb_turned}
-use Rattle.lists.proofs.Laws.Permuted.{Permuted, none, same, swap, then}
+use Rattle.lists.specs.Permuted.{Permuted, none, same, swap, then}
 use Rattle.lists.proofs.Laws.Permuted.{any_permuted, count_permuted, total_permuted, two_permuted}
 use Rattle.lists.proofs.Laws.Permuted.{each_in_permuted}
 use Rattle.lists.proofs.Laws.Quantifiers.{count_one_iff}

@@ -4,7 +4,7 @@ use Rattle.std.specs.Prelude.{refl, List, [], ◌∷◌, ◌++◌, ℕ}
 use Rattle.std.proofs.Math.Option.{Option, some}
 use Prim.Native.String.{String}
 use Rattle.lists.specs.Lists.{lists}
-use Rattle.lists.proofs.Laws.Permuted as P
+use Rattle.lists.specs.Permuted as P
 use Rattle.grammar.specs.Bytes.{ascii}
 use Rattle.grammar.specs.Document.{attribute, Element, element, Contents, nothing, child, run}
 use Rattle.grammar.specs.Look.{looks}

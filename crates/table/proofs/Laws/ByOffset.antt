@@ -2,7 +2,8 @@
 use Rattle.std.specs.Prelude.{◌≡◌, refl, List, [], ◌∷◌, Bool, true, false, cond, ◌&&◌, ℕ, ◌≤◌, leb}
 use Rattle.std.proofs.Common.{sym, ◌∙◌, arith, leb-true, leb-false, le-leb}
 use Rattle.lists.specs.Lists.{all}
-use Rattle.lists.proofs.Laws.Permuted.{Permuted, none, same, swap, then, permuted_refl, all_permuted}
+use Rattle.lists.specs.Permuted.{Permuted, none, same, swap, then}
+use Rattle.lists.proofs.Laws.Permuted.{permuted_refl, all_permuted}
 use Rattle.lists.proofs.Laws.Booleans.{and_left, and_right, and_both}
 use Rattle.cifti.specs.Maps.{Model}
 use Rattle.table.specs.ByOffset.{no_later, placed_by_offset, by_offset}

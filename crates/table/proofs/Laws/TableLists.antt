@@ -8,7 +8,8 @@ use Rattle.std.proofs.Math.ListN.{length, get_or, take}
 use borrow.Author.Tests.{le-leb, lt-ltb, eqb-true, eqb-false, eq-eqb, ltb-true, ltb-false}
 use Rattle.lists.specs.Lists.{all, any, those, count, two_of, total, each}
 use Rattle.lists.specs.Refusals.{◌when◌, first}
-use Rattle.lists.proofs.Laws.Permuted.{Permuted, all_permuted, count_permuted, two_permuted, length_permuted}
+use Rattle.lists.specs.Permuted.{Permuted}
+use Rattle.lists.proofs.Laws.Permuted.{all_permuted, count_permuted, two_permuted, length_permuted}
 use Rattle.lists.proofs.Laws.Quantifiers.{all_iff, count_one_iff, two_of_iff}
 use Rattle.lists.proofs.Laws.Booleans.{and_left, and_right, and_both, or_left, or_right, both_ways, refute, clash}
 use Rattle.lists.proofs.Laws.Lists.{two_each, length_each}
