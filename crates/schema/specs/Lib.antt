@@ -1,5 +1,6 @@
 pub mod Good
 pub mod Schema
+pub mod Renamed
 pub mod Walk
 pub mod Words
 pub mod Letters
