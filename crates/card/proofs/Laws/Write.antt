@@ -1,11 +1,13 @@
 -- The bytes of a line: a word put down, words in a row, and the line in the slice lent.
-use Rattle.std.specs.Prelude.{◌≡◌, List, [], ◌∷◌, ◌++◌, Bool, true, false, ℕ, cond, zero, suc, ◌+◌, ◌*◌, ◌/◌, ◌%◌, ◌^◌, ◌≤◌, ◌<◌, ltb, leb, length, take, drop, set}
+use Rattle.std.specs.Prelude.{◌≡◌, List, [], ◌∷◌, ◌++◌, Bool, true, false, ℕ, cond, zero, suc, ◌+◌, ◌*◌, ◌/◌, ◌%◌, ◌^◌, ◌-◌, ◌≤◌, ◌<◌, ltb, leb, length, take, drop, set}
 use Rattle.std.proofs.Math.Path.{refl}
-use Rattle.std.proofs.Common.{sym, ap, subst, ◌∙◌, append_assoc, append-nil, pow-suc, arith, rules, lt-ltb, ltb-true, ltb-false, le-leb, leb-true, leb-false, length-append, length-take, length-take-le, length-drop, drop_of_length-le, take_all, take_at, drop-drop}
+use Rattle.std.proofs.Common.{absurd, sym, ap, subst, ◌∙◌, append_assoc, append-nil, pow-suc, arith, rules, lt-ltb, ltb-true, ltb-false, le-leb, leb-true, leb-false, length-append, length-take, length-take-le, length-drop, drop_of_length-le, take_all, take_at, drop-drop}
 use Rattle.std.proofs.lemmas.Bool.{lt-leb}
 use borrow.Rule.Slice.PartMut.{put_mid}
 use Rattle.std.specs.Fmt.{decimal}
-use Rattle.std.proofs.lemmas.Fmt.{decimal_digit, decimal_step}
+use Rattle.std.proofs.lemmas.Fmt.{decimal_digit, decimal_step_wide}
+use Rattle.io.specs.Digits as io
+use Rattle.numbers.proofs.Laws.Cuts.{powers}
 use Rattle.grammar.specs.Bytes.{ascii}
 use Rattle.grammar.specs.Look.{Word}
 use Rattle.records.specs.Fill.{wrote, wrote_on, wrote_one, length_wrote}
@@ -37,24 +39,35 @@ put_word s w t at b k h long copied =
 -- ---- A number: the fewest digits that hold it.
 
 -- what std writes of a number
-fewest : (m n : ℕ) → n < 2 ^ 64 → n < 10 ^ suc m → decimal n ≡ in_tens_up_to (suc m) n
+fewest : (m n : ℕ) → n < 10 ^ 64 → n < 10 ^ suc m → decimal n ≡ in_tens_up_to (suc m) n
 unfolding in_tens_up_to
 fewest zero n h small = decimal_digit n (omega arith) ∙ (let e : ltb n 10 ≡ true = lt-ltb n 10 (omega arith) in rw e refl)
 fewest (suc m) n h small = go (ltb n 10) refl (fewest m (n / 10))
   where
-    go : (b : Bool) → ltb n 10 ≡ b → (n / 10 < 2 ^ 64 → n / 10 < 10 ^ suc m → decimal (n / 10) ≡ in_tens_up_to (suc m) (n / 10))
+    go : (b : Bool) → ltb n 10 ≡ b → (n / 10 < 10 ^ 64 → n / 10 < 10 ^ suc m → decimal (n / 10) ≡ in_tens_up_to (suc m) (n / 10))
         → decimal n ≡ cond b ((48 + n) ∷ []) (in_tens_up_to (suc m) (n / 10) ++ ((48 + n % 10) ∷ []))
     go true e f = decimal_digit n (ltb-true n 10 e)
     go false e f =
         let many : 10 ≤ n = ltb-false n 10 e in
         let more : 10 ^ suc (suc m) ≡ 10 ^ suc m * 10 = pow-suc 10 (suc m) in
-        decimal_step n many h ∙ ap (λ l. l ++ ((48 + n % 10) ∷ [])) (f (omega arith) (omega arith))
+        decimal_step_wide n many h ∙ ap (λ l. l ++ ((48 + n % 10) ∷ [])) (f (omega arith) (omega arith))
 
-pub in_tens_decimal : (n : ℕ) → n < 2 ^ 64 → decimal n ≡ in_tens n
+pub in_tens_decimal : (n : ℕ) → n < 10 ^ 20 → decimal n ≡ in_tens n
 unfolding in_tens
-in_tens_decimal n h = fewest 19 n h (omega arith)
+in_tens_decimal n h = fewest 19 n (omega arith) h
 
-pub put_number : (n : ℕ) {w : Word} {b at r : ℕ} {s t : List ℕ} → n < 2 ^ 64 → w ≡ decimal n → Puts w b at s r t → Puts (in_tens n) b at s r t
+pub few_digits : (n k : ℕ) → n < 100000000000000000000 → io.IsDigitCount 10 1 n k → k ≤ 20
+few_digits n k small f = go (leb k 20) refl
+  where
+    go : (b : Bool) → leb k 20 ≡ b → k ≤ 20
+    go true e = leb-true k 20 e
+    go false e =
+        let more : 20 < k = leb-false k 20 e in
+        let wide : 10 ^ (k - 1) ≤ n = f.2 (omega arith) in
+        let least : 10 ^ 20 ≤ 10 ^ (k - 1) = powers 20 (k - 1) (omega arith) in
+        absurd (omega arith)
+
+pub put_number : (n : ℕ) {w : Word} {b at r : ℕ} {s t : List ℕ} → n < 10 ^ 20 → w ≡ decimal n → Puts w b at s r t → Puts (in_tens n) b at s r t
 put_number n {w} {b} {at} {r} {s} {t} h e p = subst (λ v. Puts v b at s r t) (e ∙ in_tens_decimal n h) p
 
 -- ---- Words in a row, from the start of a slice that has room.
