@@ -36,6 +36,14 @@ class Scripts(unittest.TestCase):
         for words in (["./library"], ["./example"]):
             self.told(run(*words, env={"PATH": folder}), 3, "rt is not on the PATH")
 
+    def test_the_card_without_the_kit(self):
+        if not (ROOT / "target" / "bin" / "lister").exists():
+            self.skipTest("the lister is not built")
+        folder = without_kit()
+        self.addCleanup(shutil.rmtree, folder)
+        done = run("./card", "crates/lister/stdin", env={"PATH": folder})
+        self.assertEqual((done.returncode, done.stdout), (0, (ROOT / "crates" / "lister" / "stdout").read_text()))
+
     def test_a_failed_proof(self):
         with tempfile.TemporaryDirectory() as folder:
             stand_in = pathlib.Path(folder) / "rt"
