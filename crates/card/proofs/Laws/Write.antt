@@ -1,7 +1,7 @@
 -- The bytes of a line: a word put down, words in a row, and the line in the slice lent.
 use Rattle.std.specs.Prelude.{◌≡◌, List, [], ◌∷◌, ◌++◌, Bool, true, false, ℕ, cond, zero, suc, ◌+◌, ◌*◌, ◌/◌, ◌%◌, ◌^◌, ◌-◌, ◌≤◌, ◌<◌, ltb, leb, length, take, drop, set}
 use Rattle.std.proofs.Math.Path.{refl}
-use Rattle.std.proofs.Common.{absurd, sym, ap, subst, ◌∙◌, append_assoc, append-nil, pow-suc, arith, rules, lt-ltb, ltb-true, ltb-false, le-leb, leb-true, leb-false, length-append, length-take, length-take-le, length-drop, drop_of_length-le, take_all, take_at, drop-drop}
+use Rattle.std.proofs.Common.{sym, ap, subst, ◌∙◌, append_assoc, append-nil, pow-suc, arith, rules, lt-ltb, ltb-true, ltb-false, le-leb, leb-true, leb-false, length-append, length-take, length-take-le, length-drop, drop_of_length-le, take_all, take_at, drop-drop}
 use Rattle.std.proofs.lemmas.Bool.{lt-leb}
 use borrow.Rule.Slice.PartMut.{put_mid}
 use Rattle.std.specs.Fmt.{decimal}
