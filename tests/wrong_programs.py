@@ -18,6 +18,9 @@ FUNCTION = re.compile(r"^ *(?:pub(?:\(\w+\))? )?(?:const )?(?:extern \"C\" )?fn 
 # An error that is not the declaration's own: it rests on another that was refused.
 RESTS = re.compile(r"declarations? that depends? on|was not admitted|was rejected|were not admitted")
 ERROR = re.compile(r"^(?:\./)?(\S+?):\d+:\d+: error: (?:`([^`]*)`: )?(.*)")
+# A goal that is left open, and an answer to one that is not there.
+OPEN = re.compile(r"^note: (src/\S+?):(\d+):\d+: it is not proved that .*\(`([^`]*)`\)", re.M)
+GONE = re.compile(r"^(?:\./)?(proofs/\S+?):\d+:\d+: error: `([^`]*)`: `goal\.[^`]*`: module `[^`]*` has no `\2`", re.M)
 # What shows nothing of a contract: the text does not compile, or it names what is not there, or a proof does.
 UNFIT = re.compile(r"error\[[\w-]+\]|is not in scope|that can be named from here|has no field|is no name|operand is missing|expected the end|"
                    r"cannot continue|does not define it")
@@ -47,20 +50,36 @@ def programs(edit):
     return {name: Program(name, changes, told.get(name)) for name, changes in found.items()}
 
 
+def functions_in(file, text):
+    """The functions that begin in a text of a file, each behind its modules."""
+    modules = [part for part in pathlib.PurePath(file).with_suffix("").parts[1:] if part not in ("lib", "main", "mod")]
+    return [(*modules, name) for name in FUNCTION.findall(text)]
+
+
 def function_at(crate, file, text):
-    """The function of a crate in which a text stands, behind its modules; nothing outside of functions."""
+    """The function of a crate in which a text stands; nothing outside of functions."""
     source = (crate / file).read_text(encoding="utf-8")
-    if text not in source:
-        return None
-    before = FUNCTION.findall(source, 0, source.index(text) + len(text))
-    modules = [part for part in pathlib.Path(file).with_suffix("").parts[1:] if part not in ("lib", "main", "mod")]
-    return (*modules, before[-1]) if before else None
+    before = functions_in(file, source[:source.index(text) + len(text)]) if text in source else []
+    return before[-1] if before else None
 
 
 def functions_of(crate, program):
     """The functions that a wrong program changes."""
     code = [function_at(crate, file, old) for file, old, _ in program.changes if file.endswith(".rt")]
     return {function for function in code if function}
+
+
+def owners(crate, program):
+    """What must be refused of a wrong program: where it says what, that function, or the function of that goal, or that law or test; else
+    the functions that it changes."""
+    if not program.place:
+        return functions_of(crate, program)
+    path, name = program.place
+    sources = [(source.relative_to(crate), source.read_text(encoding="utf-8")) for source in (crate / "src").rglob("*.rt")]
+    every = {function for file, text in sources for function in functions_in(file, text)}
+    if path is None:
+        return {function for function in every if function[-1] == name.split("::")[-1]}
+    return {function for function in every if proof_of(function).fullmatch(path)} or {program.place}
 
 
 def own_errors(said):
@@ -77,6 +96,13 @@ def open_goals(said):
             yield tuple(function.split("::")), goal
 
 
+def noted_goals(crate, said):
+    """The goals that are noted as open, also of a function that has answers with errors: of each the function and the goal."""
+    for file, line, goal in OPEN.findall(said):
+        before = "\n".join((crate / file).read_text(encoding="utf-8").split("\n")[:int(line)])
+        yield (functions_in(file, before) or [()])[-1], goal
+
+
 def proof_of(function):
     """What the files of a function's proof are called."""
     *modules, name = function
@@ -90,29 +116,22 @@ def function_refused(said, function):
     return any(proof.fullmatch(file) for file, _, _ in own_errors(said)) or any(of == tuple(function) for of, _ in open_goals(said))
 
 
-def place_refused(said, place):
-    """Whether what is said to refuse a wrong program has an error of its own."""
-    path, name = place
-    if path is None:
-        return any(function_refused(said, of) for of in functions_said(said) if of[-1] == name.split("::")[-1])
+def place_refused(said, crate, program):
+    """Whether the law, the test or the goal that is said to refuse a wrong program has an error of its own or, a goal, is left open; and not
+    since there is an answer in its file that does not fit."""
+    path, name = program.place
     if any((file, declaration) == (path, name) for file, declaration, _ in own_errors(said)):
         return True
-    of = pathlib.PurePath(path).parts[1:-1]
-    return any((function, goal) == (of, name) for function, goal in open_goals(said))
-
-
-def functions_said(said):
-    """The functions of which the check says that they are not proved."""
-    return [tuple(function.split("::")) for function in re.findall(r"^fn \w+::(\S+): (?:no proof|not proved)", said, re.M)]
+    goals = {*open_goals(said), *noted_goals(crate, said)}
+    return any((function, name) in goals for function in owners(crate, program)) and path not in dict(unfit(said))
 
 
 def refused(said, crate, program):
     """Whether a wrong program is refused for a reason of its own."""
-    if program.place:
-        return place_refused(said, program.place)
-    functions = functions_of(crate, program)
-    if functions:
-        return any(function_refused(said, function) for function in functions)
+    if program.place and program.place[0]:
+        return place_refused(said, crate, program)
+    if program.place or functions_of(crate, program):
+        return any(function_refused(said, function) for function in owners(crate, program))
     return bool(own_errors(said)) or any(open_goals(said))
 
 
@@ -123,8 +142,8 @@ def unfit(said):
 
 
 def does_not_fit(said, crate, program):
-    """The first line that says that the proof of a wrong program's function does not fit it."""
-    proofs = [proof_of(function) for function in functions_of(crate, program)]
+    """The first line that says that the proof of what must be refused, or of a function that is changed, does not fit a wrong program."""
+    proofs = [proof_of(function) for function in functions_of(crate, program) | owners(crate, program)]
     files = {program.place[0]} if program.place else set()
     return next((line for file, line in unfit(said) if file in files or any(proof.fullmatch(file) for proof in proofs)), "")
 
@@ -141,16 +160,15 @@ def apply(room, changes):
 
 
 def fit(room, said):
-    """Gives answers whose goals are gone the names of the goals that are left open; whether there are as many of these. A goal is called by
-    the code, so that other code may ask the same under another name."""
-    gone = re.findall(r"^\./(proofs/\S+?):\d+:\d+: error: `([^`]*)`: `goal\.[^`]*`: module `[^`]*` has no `\2`", said, re.M)
-    left = re.findall(r"^note: src/\S+: it is not proved that .*\(`([^`]*)`\)", said, re.M)
-    if not gone or len(gone) != len(left):
-        return False
-    for (file, old), new in zip(gone, left):
-        path = room / file
-        path.write_text(re.sub(rf"(?<![\w'-]){re.escape(old)}(?![\w'-])", new, path.read_text(encoding="utf-8")), encoding="utf-8")
-    return True
+    """Gives an answer whose goal is gone the name of the goal that is left open, in each function that has one of each; whether any has. A
+    goal is called by the code, so that other code may ask the same under another name."""
+    gone, left, fitted = GONE.findall(said), list(noted_goals(room, said)), False
+    for file, old in gone:
+        names = [goal for function, goal in left if proof_of(function).fullmatch(file)]
+        if len(names) == 1 and [path for path, _ in gone].count(file) == 1:
+            path, fitted = room / file, True
+            path.write_text(re.sub(rf"(?<![\w'-]){re.escape(old)}(?![\w'-])", names[0], path.read_text(encoding="utf-8")), encoding="utf-8")
+    return fitted
 
 
 def tried(name, changes, fits=False):
