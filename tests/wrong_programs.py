@@ -22,8 +22,8 @@ ERROR = re.compile(r"^(?:\./)?(\S+?):\d+:\d+: error: (?:`([^`]*)`: )?(.*)")
 OPEN = re.compile(r"^note: (src/\S+?):(\d+):\d+: it is not proved that .*\(`([^`]*)`\)", re.M)
 GONE = re.compile(r"^(?:\./)?(proofs/\S+?):\d+:\d+: error: `([^`]*)`: `goal\.[^`]*`: module `[^`]*` has no `\2`", re.M)
 # What shows nothing of a contract: the text does not compile, or it names what is not there, or a proof does.
-UNFIT = re.compile(r"error\[[\w-]+\]|is not in scope|that can be named from here|has no field|is no name|operand is missing|expected the end|"
-                   r"cannot continue|does not define it")
+UNFIT = re.compile(r"error\[[\w-]+\]|is not in scope|that can be named from here|has no field|is no name|operand is missing|"
+                   r"expected the end|cannot continue|does not define it")
 
 
 def edits(names=()):
@@ -117,8 +117,8 @@ def function_refused(said, function):
 
 
 def place_refused(said, crate, program):
-    """Whether the law, the test or the goal that is said to refuse a wrong program has an error of its own or, a goal, is left open; and not
-    since there is an answer in its file that does not fit."""
+    """Whether the law, the test or the goal that is said to refuse a wrong program has an error of its own. So has a goal that is left open,
+    if no answer of its file does not fit."""
     path, name = program.place
     if any((file, declaration) == (path, name) for file, declaration, _ in own_errors(said)):
         return True

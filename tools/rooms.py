@@ -84,7 +84,8 @@ def room(name, begun=True):
 
 def check(crate, *flags):
     """The status of `rt check` in a room, and what it says."""
-    done = subprocess.run(["rt", "check", "--jobs", "1", *flags], cwd=crate, stdout=subprocess.PIPE, stderr=subprocess.STDOUT, text=True, errors="replace")
+    call = ["rt", "check", "--jobs", "1", *flags]
+    done = subprocess.run(call, cwd=crate, stdout=subprocess.PIPE, stderr=subprocess.STDOUT, text=True, errors="replace")
     return done.returncode, done.stdout
 
 
