@@ -1,4 +1,4 @@
-// Bytes of a stream. Which bytes come is the system's where the stream is standard input, so only their number is promised.
+// Bytes of a stream: its next ones, in their order. Which bytes standard input has is the system's.
 ghost use Rattle.std.specs.Prelude.{length};
 ghost use Rattle.input.specs.Arrived.{Arrived, Took};
 
