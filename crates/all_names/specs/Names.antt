@@ -1,8 +1,6 @@
 -- ALL NAMES OF A MAP: it checks 1 to 9, then 18 as for the first name, then 17, and answers how many names there are; the list lent has two
 -- numbers a name from its start, where the name starts in the text and its length.
-use Rattle.std.specs.Prelude.{◌≡◌, List, [], ◌∷◌, ◌++◌, ℕ, ◌+◌, ◌*◌, ◌<◌, ltb, length, get_or, drop}
-use Rattle.std.proofs.Math.Option.{Option, some}
-use Rattle.std.proofs.Math.Option
+use Rattle.std.specs.Prelude.{◌≡◌, List, [], ◌∷◌, ◌++◌, ℕ, ◌+◌, ◌*◌, ◌<◌, ltb, length, get_or, drop, Option, Some, None}
 use Rattle.grammar.specs.Document.{Element}
 use Rattle.records.specs.Outcome.{outcome}
 use Rattle.records.specs.declared.outcome.Outcome.{Outcome}
@@ -14,8 +12,8 @@ use Rattle.map_names.specs.declared.NamePlace.{NamePlace}
 
 -- how many names the map has that lists the dimension
 unfoldable pub name_count : (dimension : ℕ) → Option Element → ℕ
-name_count d Option.none = 0
-name_count d (some e) = length (names_on d e)
+name_count d None = 0
+name_count d (Some e) = length (names_on d e)
 
 -- 18 as for the first name: a map's length is not 0; 17: the list is too short
 unfoldable pub names_refusal : (lengths : List ℕ) (size room dimension : ℕ) → Option Element → ℕ

@@ -1,5 +1,5 @@
 -- THE WALK OVER THE NAMEDMAPS of the map at a place, on any bytes.
-use Rattle.std.specs.Prelude.{◌≡◌, List, [], ◌∷◌, ℕ, ◌*◌, ◌≤◌, eqb, ltb, length}
+use Rattle.std.specs.Prelude.{◌≡◌, List, [], ◌∷◌, ℕ, ◌*◌, ◌≤◌, eqb, ltb, length, Option, Some, None}
 use Rattle.lists.specs.Lists.{those, each_in}
 use Rattle.lists.specs.Refusals.{◌when◌, first}
 use Rattle.grammar.specs.Bytes.{ascii}
@@ -8,8 +8,6 @@ use Rattle.records.specs.Outcome.{unless, outcome}
 use Rattle.records.specs.declared.outcome.Outcome.{Outcome}
 use Rattle.nodes.specs.Children as Children
 use Rattle.nodes.specs.Inside.{between_tags}
-use Rattle.nodes.specs.declared.Found.{Found}
-use Rattle.nodes.specs.declared.Found.TheVariants.{At, Nothing}
 use Rattle.inside.specs.Walked.{places_from}
 use Rattle.inside.specs.Treads.{called, child_named}
 use Rattle.inside.specs.One.{tag_end}
@@ -19,15 +17,15 @@ unfoldable pub named_in : List ℕ → ℕ → List ℕ
 named_in text k = those (called text (ascii "NamedMap")) (places_from text (Children.first_child text k))
 
 -- where the name starts, and its length
-unfoldable pub start_by : List ℕ → Found → ℕ
-start_by text Nothing = 0
-start_by text (At m) = tag_end text m
+unfoldable pub start_by : List ℕ → Option ℕ → ℕ
+start_by text None = 0
+start_by text (Some m) = tag_end text m
 
-unfoldable pub size_by : List ℕ → Found → ℕ
-size_by text Nothing = 0
-size_by text (At m) = length (between_tags text m)
+unfoldable pub size_by : List ℕ → Option ℕ → ℕ
+size_by text None = 0
+size_by text (Some m) = length (between_tags text m)
 
-unfoldable pub name_in : List ℕ → ℕ → Found
+unfoldable pub name_in : List ℕ → ℕ → Option ℕ
 name_in text c = child_named (ascii "MapName") 0 text c
 
 unfoldable pub pair_of : List ℕ → ℕ → List ℕ

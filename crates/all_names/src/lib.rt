@@ -11,7 +11,6 @@ use inside::names::name_is;
 use inside::texts::written;
 use inside::ways::{behind_tag, child_named};
 use map_names::map_there;
-use nodes::{Found, Kid};
 use records::Outcome;
 use survey::surveyed;
 
@@ -21,12 +20,12 @@ fn put_name(text: &[u8], at: usize, places: &mut [u64], n: usize)
     ensures { places.new ≡ wrote n (pair_of text.now at) places.old }
 {
     match child_named(text, at, b"MapName", 0) {
-        Found::At(k) => {
+        Some(k) => {
             let part = written(text, k);
             places[n] = behind_tag(text, k) as u64;
             places[n + 1] = part.len() as u64;
         }
-        Found::Nothing => {
+        None => {
             places[n] = 0;
             places[n + 1] = 0;
         }
@@ -42,14 +41,14 @@ fn put_names(text: &[u8], at: usize, places: &mut [u64])
     let mut kid = first_child(text, at);
     loop {
         match kid {
-            Kid::Child(k) => {
+            Some(k) => {
                 kid = next_child(text, k);
                 if name_is(text, k, b"NamedMap") {
                     put_name(text, k, places, n);
                     n += 2;
                 }
             }
-            Kid::Done => {
+            None => {
                 return;
             }
         }
@@ -62,7 +61,7 @@ fn names_on(text: &[u8], at: usize, count: u64, places: &mut [u64]) -> Outcome
     ensures { NamesOn text.now at count places.old result places.new }
 {
     match child_named(text, at, b"NamedMap", 0) {
-        Found::At(_) => {
+        Some(_) => {
             if ((places.len() / 2) as u64) < count {
                 return Outcome {
                     number: 17,
@@ -75,7 +74,7 @@ fn names_on(text: &[u8], at: usize, count: u64, places: &mut [u64]) -> Outcome
                 value: count,
             }
         }
-        Found::Nothing => Outcome {
+        None => Outcome {
             number: 18,
             value: 0,
         },
@@ -106,11 +105,11 @@ pub fn map_names(text: &[u8], lengths: &[u64], dimension: u64, places: &mut [u64
         };
     }
     match map_there(text, dimension) {
-        Found::At(k) => {
+        Some(k) => {
             let count = length_at(lengths, dimension);
             names_on(text, k, count, places)
         }
-        Found::Nothing => Outcome {
+        None => Outcome {
             number: 18,
             value: 0,
         },

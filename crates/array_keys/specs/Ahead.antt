@@ -1,10 +1,8 @@
 -- THE KEYS OF AN ARRAY, in whatever encoding: those that are ahead of a place. Where the text is in form, all keys are ahead of its
 -- start (Laws.Ahead); where it is not, those before the first word, or the first four letters, out of form.
-use Rattle.std.specs.Prelude.{◌≡◌, List, [], ◌∷◌, ◌++◌, Bool, true, false, cond, ℕ, ◌%◌, ◌<◌, ltb, ℤ, length}
+use Rattle.std.specs.Prelude.{◌≡◌, List, [], ◌∷◌, ◌++◌, Bool, true, false, cond, ℕ, ◌%◌, ◌<◌, ltb, ℤ, length, Option, Some, None}
 use Rattle.grammar.specs.Look.{Word}
 use Rattle.nodes.specs.Texts.{says_at, left, inside}
-use Rattle.nodes.specs.declared.Found.{Found}
-use Rattle.nodes.specs.declared.Found.TheVariants.{At, Nothing}
 use Rattle.numbers.specs.Numbers.{words, key, key_value}
 use Rattle.base64_text.specs.Fours.{Endian, big, little, keys_in}
 use Rattle.base64_reader.specs.Groups.{letters_at, low_bytes, bytes_ahead}
@@ -56,9 +54,9 @@ unfoldable pub keys_left : List ℕ → KeyPlace → ℕ
 keys_left text p = left text p.at
 
 -- where the keys of the element at a place begin: an empty tag has none
-unfoldable pub key_start_in : List ℕ → Found → KeyPlace
-key_start_in text Nothing = record { at = length text; held = 0; bytes = 0 }
-key_start_in text (At i) = record { at = i; held = 0; bytes = 0 }
+unfoldable pub key_start_in : List ℕ → Option ℕ → KeyPlace
+key_start_in text None = record { at = length text; held = 0; bytes = 0 }
+key_start_in text (Some i) = record { at = i; held = 0; bytes = 0 }
 
 unfoldable pub keys_start : List ℕ → ℕ → KeyPlace
 keys_start text at = key_start_in text (inside text at)

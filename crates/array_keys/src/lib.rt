@@ -17,7 +17,6 @@ pub use base64_reader::letter_values;
 use coded::coded_next;
 pub use fours::key_of;
 use keys::ListedKey;
-use nodes::Found;
 pub use rows::{KeyRow, fill_from};
 
 // Keys as words parted by blanks; or in Base64, four bytes a key, the greatest first or the least.
@@ -58,8 +57,8 @@ pub fn keys_start(text: &[u8], at: usize) -> KeyPlace
     ensures { result ≡ keys_start text.now at }
 {
     match inside::texts::text_start(text, at) {
-        Found::At(i) => place(i, 0, 0),
-        Found::Nothing => place(text.len(), 0, 0),
+        Some(i) => place(i, 0, 0),
+        None => place(text.len(), 0, 0),
     }
 }
 

@@ -1,11 +1,8 @@
 -- BASE64 FOUR LETTERS AT A TIME: what the reader answers, by what is ahead of a place.
-use Rattle.std.specs.Prelude.{◌≡◌, List, [], ◌∷◌, ◌++◌, Bool, cond, ℕ, zero, suc, ◌+◌, ◌/◌, ◌%◌, ◌^◌, ◌<◌, ◌≤◌, eqb, length, get_or}
-use Rattle.std.proofs.Math.Option.{Option, some}
+use Rattle.std.specs.Prelude.{◌≡◌, List, [], ◌∷◌, ◌++◌, Bool, cond, ℕ, zero, suc, ◌+◌, ◌/◌, ◌%◌, ◌^◌, ◌<◌, ◌≤◌, eqb, length, get_or, Option, Some, None}
 use Rattle.lists.specs.Lists.{tabulated, all_below}
 use Rattle.grammar.specs.Look.{Word}
 use Rattle.nodes.specs.Texts.{says_at, left}
-use Rattle.nodes.specs.declared.Char.{Char}
-use Rattle.nodes.specs.declared.Char.TheVariants as chars
 use Rattle.base64_text.specs.Base64.{unblanked, worth, is_value, sixes, three_bytes, three_more, four_ending, four_values, decode}
 use Rattle.base64_text.specs.Fours.{bytes_or}
 use Rattle.base64_reader.specs.declared.Group.{Group}
@@ -23,9 +20,9 @@ pub record Letter (text : List ℕ) (i b j : ℕ) : Type 0 where
   pub splits : letters_at text i ≡ b ∷ letters_at text j
   pub less : left text j < left text i
 
-pub record LetterTold (text : List ℕ) (i : ℕ) (r : Char) : Type 0 where
-  pub on_letter : {b j : ℕ} → r ≡ chars.Byte b j → Letter text i b j
-  pub on_end : r ≡ chars.End → letters_at text i ≡ []
+pub record LetterTold (text : List ℕ) (i : ℕ) (r : Option (ℕ × ℕ)) : Type 0 where
+  pub on_letter : {b j : ℕ} → r ≡ Some (b, j) → Letter text i b j
+  pub on_end : r ≡ None → letters_at text i ≡ []
 
 -- n bytes of a number, the greatest first
 unfoldable pub low_bytes : ℕ → ℕ → List ℕ
@@ -34,8 +31,8 @@ low_bytes (suc n) v = (v / 256 ^ n % 256) ∷ low_bytes n v
 
 -- bytes before those of a text, if it holds some
 unfoldable pub prefixed : List ℕ → Option (List ℕ) → Option (List ℕ)
-prefixed l Option.none = Option.none
-prefixed l (some k) = some (l ++ k)
+prefixed l None = None
+prefixed l (Some k) = Some (l ++ k)
 
 -- the 24 bits of four values; 16777216 where one of the four is no value
 unfoldable pub bits_of : (p q r s : ℕ) → ℕ
@@ -43,7 +40,7 @@ bits_of p q r s = cond (four_values p q r s) (sixes p q r s) 16777216
 
 -- four letters by their values, the word behind them, and what it holds
 unfoldable pub four_read : (p q r s : ℕ) → Word → Option (List ℕ) → Option (List ℕ)
-four_read p q r s w m = cond (eqb s 65) (four_ending p q r w) (cond (four_values p q r s) (three_more (sixes p q r s) m) Option.none)
+four_read p q r s w m = cond (eqb s 65) (four_ending p q r w) (cond (four_values p q r s) (three_more (sixes p q r s) m) None)
 
 -- The bytes of a word up to the first four letters that hold none: all its bytes where it is Base64.
 unfoldable pub four_ahead : (p q r s : ℕ) → Word → List ℕ → List ℕ
@@ -68,8 +65,8 @@ pub record BytesTaken (text : List ℕ) (whole : Option (List ℕ)) (ahead : Lis
 -- a group, where a text holds `whole` and reading finds the bytes `ahead`
 pub record GroupRead (text : List ℕ) (whole : Option (List ℕ)) (ahead : List ℕ) (most : ℕ) (r : Group) : Type 0 where
   pub on_bytes : {v n j : ℕ} → r ≡ Bytes v n j → BytesTaken text whole ahead most v n j
-  pub on_end : r ≡ End → (whole ≡ some []) × (ahead ≡ [])
-  pub on_bad : r ≡ Bad → (whole ≡ Option.none) × (ahead ≡ [])
+  pub on_end : r ≡ End → (whole ≡ Some []) × (ahead ≡ [])
+  pub on_bad : r ≡ Bad → (whole ≡ None) × (ahead ≡ [])
 
 abbrev pub GroupTold : List ℕ → ℕ → Group → Type 0
 GroupTold text i r = GroupRead text (decode (letters_at text i)) (bytes_ahead (letters_at text i)) (left text i) r
@@ -84,13 +81,13 @@ pub record Lasts (whole : Option (List ℕ)) (at v n j : ℕ) : Type 0 where
   pub some_read : 1 ≤ n
   pub few : n ≤ 3
   pub small : v < 256 ^ n
-  pub spelled : whole ≡ some (low_bytes n v)
+  pub spelled : whole ≡ Some (low_bytes n v)
   pub stays : j ≡ at
 
 pub record LastTold (whole : Option (List ℕ)) (at : ℕ) (r : Group) : Type 0 where
   pub on_bytes : {v n j : ℕ} → r ≡ Bytes v n j → Lasts whole at v n j
   pub on_end : r ≡ End → ⊥
-  pub on_bad : r ≡ Bad → whole ≡ Option.none
+  pub on_bad : r ≡ Bad → whole ≡ None
 
 -- the 24 bits of four plain letters; 16777216 says nothing
 pub record QuickGroup (text : List ℕ) (at n : ℕ) : Type 0 where

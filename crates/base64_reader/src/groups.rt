@@ -6,7 +6,6 @@ ghost use Rattle.base64_reader.specs.Groups.{bits_of, LastTold, FourTold, GroupT
 
 use super::Group;
 use super::values::{next_letter, value_of};
-use nodes::Char;
 
 // One byte in 24 bits, the others being 0.
 fn one_byte(bits: u64, at: usize) -> Group
@@ -65,10 +64,10 @@ fn group_of(text: &[u8], p: u64, q: u64, r: u64, s: u64, at: usize) -> Group
 {
     if s == 65 {
         match next_letter(text, at) {
-            Char::Byte(_, _) => {
+            Some((_, _)) => {
                 return Group::Bad;
             }
-            Char::End => {
+            None => {
                 return last_of(p, q, r, at);
             }
         }
@@ -86,10 +85,10 @@ pub fn any_group(text: &[u8], at: usize, values: &[u8]) -> Group
     ensures { GroupTold text.now at result }
 {
     match next_letter(text, at) {
-        Char::Byte(a, i) => match next_letter(text, i) {
-            Char::Byte(b, j) => match next_letter(text, j) {
-                Char::Byte(c, k) => match next_letter(text, k) {
-                    Char::Byte(d, l) => group_of(
+        Some((a, i)) => match next_letter(text, i) {
+            Some((b, j)) => match next_letter(text, j) {
+                Some((c, k)) => match next_letter(text, k) {
+                    Some((d, l)) => group_of(
                         text,
                         value_of(a, values),
                         value_of(b, values),
@@ -97,13 +96,13 @@ pub fn any_group(text: &[u8], at: usize, values: &[u8]) -> Group
                         value_of(d, values),
                         l,
                     ),
-                    Char::End => Group::Bad,
+                    None => Group::Bad,
                 },
-                Char::End => Group::Bad,
+                None => Group::Bad,
             },
-            Char::End => Group::Bad,
+            None => Group::Bad,
         },
-        Char::End => Group::End,
+        None => Group::End,
     }
 }
 

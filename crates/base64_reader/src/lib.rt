@@ -13,7 +13,6 @@ ghost use Rattle.nodes.specs.Texts.{says_at, text_of_lem};
 ghost use Rattle.base64_text.specs.Base64.{coded};
 
 pub use groups::{any_group, quick_bits};
-use nodes::Found;
 use sixteen::sixteen_letters;
 pub use values::letter_values;
 
@@ -57,7 +56,7 @@ pub fn are_coded(text: &[u8], at: usize) -> bool
     ensures { result ≡ coded (text_of_lem text.now at) }
 {
     match inside::texts::text_start(text, at) {
-        Found::At(i) => coded_from(text, i),
-        Found::Nothing => true,
+        Some(i) => coded_from(text, i),
+        None => true,
     }
 }

@@ -4,24 +4,23 @@ ghost use Rattle.base64_text.specs.Base64.{worth};
 ghost use Rattle.base64_reader.specs.Groups.{LetterTold, values_lent};
 
 use letters::classes::is_blank;
-use nodes::Char;
 use number_lists::chars::letter;
 
 // The next letter: blanks are passed over.
-pub(crate) fn next_letter(text: &[u8], at: usize) -> Char
+pub(crate) fn next_letter(text: &[u8], at: usize) -> Option<(u8, usize)>
     ensures { LetterTold text.now at result }
 {
     let mut i = at;
     loop {
         match letter(text, i) {
-            Char::Byte(b, j) => {
+            Some((b, j)) => {
                 i = j;
                 if !is_blank(b) {
-                    return Char::Byte(b, j);
+                    return Some((b, j));
                 }
             }
-            Char::End => {
-                return Char::End;
+            None => {
+                return None;
             }
         }
     }

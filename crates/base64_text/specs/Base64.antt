@@ -1,8 +1,7 @@
 -- BASE64 (RFC 3548, section 3), by its encoding: `encode` says what bytes are written as. A text holds the bytes that it, its blanks left
 -- out, is written for; where there are none it is no Base64. So padding, spare bits, text behind the padding and other letters need no
 -- rules of their own. `bytes_in` finds the bytes; that it finds them exactly is `bytes_iff` of Laws.
-use Rattle.std.specs.Prelude.{List, [], ◌∷◌, Bool, ◌&&◌, not, cond, ℕ, ◌+◌, ◌*◌, ◌-◌, ◌/◌, ◌%◌, eqb, ltb, get_or}
-use Rattle.std.proofs.Math.Option.{Option, some}
+use Rattle.std.specs.Prelude.{List, [], ◌∷◌, Bool, ◌&&◌, not, cond, ℕ, ◌+◌, ◌*◌, ◌-◌, ◌/◌, ◌%◌, eqb, ltb, get_or, Option, Some, None}
 use Rattle.lists.specs.Lists.{those, is_some}
 use Rattle.grammar.specs.Bytes.{ascii, between, blank}
 use Rattle.grammar.specs.Look.{Word}
@@ -64,37 +63,37 @@ unfoldable pub three_bytes : ℕ → List ℕ → List ℕ
 three_bytes n l = (n / 65536) ∷ (n / 256 % 256) ∷ (n % 256) ∷ l
 
 unfoldable pub three_more : ℕ → Option (List ℕ) → Option (List ℕ)
-three_more n Option.none = Option.none
-three_more n (some l) = some (three_bytes n l)
+three_more n None = None
+three_more n (Some l) = Some (three_bytes n l)
 
 -- one byte or two, where the spare bits are 0
 unfoldable pub one_byte : ℕ → Option (List ℕ)
-one_byte n = cond (eqb (n % 65536) 0) (some ((n / 65536) ∷ [])) Option.none
+one_byte n = cond (eqb (n % 65536) 0) (Some ((n / 65536) ∷ [])) None
 
 unfoldable pub two_bytes : ℕ → Option (List ℕ)
-two_bytes n = cond (eqb (n % 256) 0) (some ((n / 65536) ∷ (n / 256 % 256) ∷ [])) Option.none
+two_bytes n = cond (eqb (n % 256) 0) (Some ((n / 65536) ∷ (n / 256 % 256) ∷ [])) None
 
 -- four letters of which the last is `=`: nothing stands behind them
 unfoldable pub four_ending : (p q r : ℕ) → Word → Option (List ℕ)
 four_ending p q r [] =
     cond (is_value p && is_value q)
-    (cond (eqb r 65) (one_byte (sixes p q 0 0)) (cond (is_value r) (two_bytes (sixes p q r 0)) Option.none))
-    Option.none
-four_ending p q r (a ∷ w) = Option.none
+    (cond (eqb r 65) (one_byte (sixes p q 0 0)) (cond (is_value r) (two_bytes (sixes p q r 0)) None))
+    None
+four_ending p q r (a ∷ w) = None
 
 unfoldable pub four_values : (p q r s : ℕ) → Bool
 four_values p q r s = is_value p && (is_value q && (is_value r && is_value s))
 
 unfoldable pub decode : Word → Option (List ℕ)
-decode [] = some []
-decode (a ∷ []) = Option.none
-decode (a ∷ b ∷ []) = Option.none
-decode (a ∷ b ∷ c ∷ []) = Option.none
+decode [] = Some []
+decode (a ∷ []) = None
+decode (a ∷ b ∷ []) = None
+decode (a ∷ b ∷ c ∷ []) = None
 decode (a ∷ b ∷ c ∷ d ∷ w) =
     cond (eqb (worth d) 65) (four_ending (worth a) (worth b) (worth c) w)
     (cond (four_values (worth a) (worth b) (worth c) (worth d))
     (three_more (sixes (worth a) (worth b) (worth c) (worth d)) (decode w))
-    Option.none)
+    None)
 
 unfoldable pub bytes_in : Word → Option (List ℕ)
 bytes_in w = decode (unblanked w)

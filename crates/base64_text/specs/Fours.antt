@@ -1,7 +1,6 @@
 -- KEYS OF FOUR BYTES: the bytes four by four, in one order or the other, as numbers with a sign in two's complement. A rest of fewer than
 -- four bytes is left out.
-use Rattle.std.specs.Prelude.{List, [], ◌∷◌, cond, ℕ, ◌+◌, ◌*◌, ◌-◌, ◌/◌, ◌%◌, ltb, ℤ, pos, negsuc, length}
-use Rattle.std.proofs.Math.Option.{Option, some}
+use Rattle.std.specs.Prelude.{List, [], ◌∷◌, cond, ℕ, ◌+◌, ◌*◌, ◌-◌, ◌/◌, ◌%◌, ltb, ℤ, pos, negsuc, length, Option, Some, None}
 use Rattle.lists.specs.Lists.{each_in}
 use Rattle.grammar.specs.Look.{Word}
 use Rattle.base64_text.specs.Base64.{bytes_in}
@@ -32,8 +31,8 @@ keys_in e (a ∷ b ∷ c ∷ d ∷ l) = twos (in_endian e bits32 a b c d) ∷ ke
 -- ---- In a text: the bytes, none where it is no Base64; the keys; how many bytes.
 
 unfoldable pub bytes_or : Option (List ℕ) → List ℕ
-bytes_or Option.none = []
-bytes_or (some l) = l
+bytes_or None = []
+bytes_or (Some l) = l
 
 unfoldable pub coded_keys : Endian → Word → List ℤ
 coded_keys e w = keys_in e (bytes_or (bytes_in w))

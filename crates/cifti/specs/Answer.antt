@@ -1,6 +1,5 @@
 -- THE ANSWER, THE TABLE OF RECORDS, AND THE PROMISE OF THE READER.
-use Rattle.std.specs.Prelude.{◌≡◌, List, [], ◌∷◌, ◌++◌, cond, ℕ, zero, suc, ◌+◌, ◌-◌, eqb, pos, length, get_or, drop, replicate}
-use Rattle.std.proofs.Math.Option.{Option, some}
+use Rattle.std.specs.Prelude.{◌≡◌, List, [], ◌∷◌, ◌++◌, cond, ℕ, zero, suc, ◌+◌, ◌-◌, eqb, pos, length, get_or, drop, replicate, Option, Some, None}
 use Rattle.lists.specs.Lists.{any, each, each_in, tabulated}
 use Rattle.grammar.specs.Document.{Element}
 use Rattle.numbers.specs.Numbers.{no_decimal}
@@ -9,7 +8,7 @@ use Rattle.cifti.specs.Maps.{Model, Map, SeriesValues, is_brain, is_series, maps
 use Rattle.cifti.specs.Conditions.{refusal}
 use Rattle.cifti.specs.Text.{Answers}
 use Rattle.cifti.specs.declared.answer.Kind.{Kind}
-use Rattle.cifti.specs.declared.answer.Kind.TheVariants.{None}
+use Rattle.cifti.specs.declared.answer.Kind.TheVariants as kinds
 use Rattle.cifti.specs.declared.answer.Series as S
 use Rattle.cifti.specs.declared.answer.Dimension.{Dimension}
 use Rattle.cifti.specs.declared.answer.Answer.{Answer}
@@ -41,7 +40,7 @@ abbrev pub dimension_by : Kind → (length start : ℕ) → S.Series → Dimensi
 dimension_by kind length start series = record { kind = kind; length = length; start = record { 0 = start }; series = series }
 
 abbrev pub unused : Dimension
-unused = dimension_by None 0 0 no_series
+unused = dimension_by kinds.None 0 0 no_series
 
 unfoldable pub as_series : SeriesValues → S.Series
 as_series s = record { start = s.start; step = s.step; exponent = s.exponent; unit = s.unit }
@@ -71,8 +70,8 @@ refused_with n = record { number = n; dimensions = unused ∷ unused ∷ unused 
 
 -- (without a document there is a refusal)
 unfoldable pub maps_in : Option Element → List Map
-maps_in Option.none = []
-maps_in (some e) = maps_of e
+maps_in None = []
+maps_in (Some e) = maps_of e
 
 unfoldable pub answer_by : (number : ℕ) → Option Element → Answer
 answer_by zero d = accepted_with (maps_in d)

@@ -1,7 +1,6 @@
 -- THE NUMBERS OF REFUSAL, 1 to 14, 24 and 25, over the lengths, the size of the text, its document (or that there is none), and the room
 -- lent.
-use Rattle.std.specs.Prelude.{List, [], ◌∷◌, ◌++◌, Bool, true, false, ◌&&◌, ◌||◌, not, ℕ, ◌*◌, eqb, ltb, length, get_or}
-use Rattle.std.proofs.Math.Option.{Option}
+use Rattle.std.specs.Prelude.{List, [], ◌∷◌, ◌++◌, Bool, true, false, ◌&&◌, ◌||◌, not, ℕ, ◌*◌, eqb, ltb, length, get_or, Option}
 use Rattle.lists.specs.Lists.{any, count, two_of, total, greatest, each_in, all_below, is_some, there}
 pub use Rattle.lists.specs.Refusals.{Refusal, ◌when◌}
 unfoldable pub use Rattle.lists.specs.Refusals.{first}

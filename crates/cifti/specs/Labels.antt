@@ -1,7 +1,6 @@
 -- LABELS: the keys of one label table in text order, and the name of a key, which is the part of the text between the tags of its Label,
 -- undecoded. Both check 1 to 9, 24, 25 and 18; then 17 where the list lent is short, or 19 where there is no such key.
-use Rattle.std.specs.Prelude.{List, [], ◌∷◌, ◌++◌, Bool, ◌&&◌, not, ℕ, zero, suc, eqb, ltb, ℤ, length, get_or, drop}
-use Rattle.std.proofs.Math.Option.{Option, some}
+use Rattle.std.specs.Prelude.{List, [], ◌∷◌, ◌++◌, Bool, ◌&&◌, not, ℕ, zero, suc, eqb, ltb, ℤ, length, get_or, drop, Option, Some, None}
 use Rattle.lists.specs.Lists.{any, those, each, each_in}
 use Rattle.grammar.specs.Document.{Element}
 use Rattle.grammar.specs.Look.{Word}
@@ -80,8 +79,8 @@ labels_on d i k e = get_or (each (names_with k) (tables_on d e)) i []
 -- a refused answer's part is empty
 unfoldable pub label_by : (number dimension index : ℕ) (key : ℤ) → Option Element → Word
 label_by (suc n) d i k e = []
-label_by zero d i k Option.none = []
-label_by zero d i k (some e) = get_or (labels_on d i k e) 0 []
+label_by zero d i k None = []
+label_by zero d i k (Some e) = get_or (labels_on d i k e) 0 []
 
 unfoldable pub label_part : (lengths : List ℕ) (size dimension index : ℕ) (key : ℤ) → Option Element → Word
 label_part lengths size d i k e = label_by (label_refusal lengths size d i k e) d i k e

@@ -1,7 +1,6 @@
 -- THE MAP NAME (index n: n-th NamedMap, from 0): it checks 1 to 9, then 18, and answers with the part of the text between the MapName
 -- tags, undecoded.
-use Rattle.std.specs.Prelude.{List, [], ◌∷◌, ◌++◌, Bool, ◌&&◌, not, ℕ, zero, suc, eqb, ltb, length, get_or}
-use Rattle.std.proofs.Math.Option.{Option, some}
+use Rattle.std.specs.Prelude.{List, [], ◌∷◌, ◌++◌, Bool, ◌&&◌, not, ℕ, zero, suc, eqb, ltb, length, get_or, Option, Some, None}
 use Rattle.lists.specs.Lists.{any, those, each, each_in}
 use Rattle.grammar.specs.Document.{Element}
 use Rattle.grammar.specs.Look.{Word, within_of, children}
@@ -27,8 +26,8 @@ names_on d e = each_in (λ m. each within_of (each_in (children "MapName") (chil
 -- a refused answer's part is empty
 unfoldable pub part_by : (number dimension index : ℕ) → Option Element → Word
 part_by (suc n) d i e = []
-part_by zero d i Option.none = []
-part_by zero d i (some e) = get_or (names_on d e) i []
+part_by zero d i None = []
+part_by zero d i (Some e) = get_or (names_on d e) i []
 
 -- THE TWO PROMISES: the number, and the part.
 pub record NameNumber (text lengths : List ℕ) (dimension index number : ℕ) : Type 0 where

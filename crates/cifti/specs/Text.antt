@@ -1,12 +1,11 @@
 -- A QUESTION ON A TEXT: the document of the text, or that there is none, and an answer that equals a term over it.
-use Rattle.std.specs.Prelude.{◌≡◌, List, ℕ}
-use Rattle.std.proofs.Math.Option.{Option, some}
+use Rattle.std.specs.Prelude.{◌≡◌, List, ℕ, Option, Some, None}
 use Rattle.grammar.specs.Document.{Element}
 use Rattle.grammar.specs.Grammar.{Writes}
 
 pub data DocumentOf (text : List ℕ) : Option Element → Type 0 where
-  written : {e : Element} → Writes e text → DocumentOf text (some e)
-  unwritten : ((e : Element) → ¬ Writes e text) → DocumentOf text Option.none
+  written : {e : Element} → Writes e text → DocumentOf text (Some e)
+  unwritten : ((e : Element) → ¬ Writes e text) → DocumentOf text None
 
 pub record Answers {A : Type 0} (text : List ℕ) (f : Option Element → A) (answer : A) : Type 0 where
   pub document : Option Element

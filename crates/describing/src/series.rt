@@ -8,9 +8,8 @@ ghost use Rattle.describing.specs.Series.{decimal_seen, exponent_seen, series_sa
 
 use answers::no_decimal;
 use cifti::Series;
-use nodes::Found;
 use number_values::{decimal_value, exponent_value};
-use numbers::{Decimal, Decimals, Exponent};
+use numbers::Decimal;
 
 // The attribute's decimal, zero where there is none.
 fn decimal_seen(text: &[u8], at: usize, name: &[u8]) -> Decimal
@@ -18,11 +17,11 @@ fn decimal_seen(text: &[u8], at: usize, name: &[u8]) -> Decimal
     ensures { result ≡ decimal_seen (attribute_word name.now (the text.now at)) }
 {
     match inside::attributes::attribute(text, at, name) {
-        Found::At(v) => match decimal_value(text, v) {
-            Decimals::Is(d) => d,
-            Decimals::No => no_decimal(),
+        Some(v) => match decimal_value(text, v) {
+            Some(d) => d,
+            None => no_decimal(),
         },
-        Found::Nothing => no_decimal(),
+        None => no_decimal(),
     }
 }
 
@@ -32,11 +31,11 @@ fn exponent_seen(text: &[u8], at: usize, name: &[u8]) -> i64
     ensures { result ≡ exponent_seen (attribute_word name.now (the text.now at)) }
 {
     match inside::attributes::attribute(text, at, name) {
-        Found::At(v) => match exponent_value(text, v, 30) {
-            Exponent::Is(n) => n,
-            Exponent::No => 0,
+        Some(v) => match exponent_value(text, v, 30) {
+            Some(n) => n,
+            None => 0,
         },
-        Found::Nothing => 0,
+        None => 0,
     }
 }
 
@@ -46,8 +45,8 @@ fn unit_number(text: &[u8], at: usize) -> u64
     ensures { result ≡ number_in units (attr "SeriesUnit" (the text.now at)) }
 {
     match inside::attributes::attribute(text, at, b"SeriesUnit") {
-        Found::At(v) => vocabulary::unit_named(text, v),
-        Found::Nothing => 4,
+        Some(v) => vocabulary::unit_named(text, v),
+        None => 4,
     }
 }
 

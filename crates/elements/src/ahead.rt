@@ -13,7 +13,6 @@ use letters::blanks::{blanks_end, mark_end};
 use markup::pieces::front_at;
 use nodes::ahead::Ahead;
 use nodes::scan::Tag;
-use steps::Step;
 use steps::pieces::Front;
 
 // Behind the blanks at `at`; with `words`, at the first `<`.
@@ -27,17 +26,17 @@ fn past_gap(text: &[u8], at: usize, words: bool) -> usize
 }
 
 // CDATA that holds blanks alone.
-fn blank_data_end(text: &[u8], at: usize) -> Step
+fn blank_data_end(text: &[u8], at: usize) -> Option<usize>
     ensures { result ≡ stepped (length text.now) (blank_data_at (drop at text.now)) }
 {
     match mark_end(text, at, b"<![CDATA[") {
-        Step::To(i) => mark_end(text, blanks_end(text, i), b"]]>"),
-        Step::No => Step::No,
+        Some(i) => mark_end(text, blanks_end(text, i), b"]]>"),
+        None => None,
     }
 }
 
 // CDATA in a gap: with `words` any, else such that holds blanks alone.
-fn gap_data_end(text: &[u8], at: usize, words: bool) -> Step
+fn gap_data_end(text: &[u8], at: usize, words: bool) -> Option<usize>
     ensures { result ≡ stepped (length text.now) (gap_data words (data_at_lem (drop at text.now))) }
 {
     if words {
@@ -51,8 +50,8 @@ fn end_at(text: &[u8], at: usize) -> Ahead
     ensures { result ≡ ending (length text.now) (past_tag (drop at text.now)) }
 {
     match past_tag(text, at) {
-        Step::To(j) => Ahead::End(j),
-        Step::No => Ahead::Stray,
+        Some(j) => Ahead::End(j),
+        None => Ahead::Stray,
     }
 }
 
@@ -68,18 +67,18 @@ pub fn ahead_from(text: &[u8], at: usize, words: bool) -> Ahead
                 return Ahead::Child(t);
             }
             Front::Comment => match comment_end(text, t) {
-                Step::To(j) => {
+                Some(j) => {
                     i = j;
                 }
-                Step::No => {
+                None => {
                     return Ahead::Stray;
                 }
             },
             Front::Data => match gap_data_end(text, t, words) {
-                Step::To(j) => {
+                Some(j) => {
                     i = j;
                 }
-                Step::No => {
+                None => {
                     return Ahead::Stray;
                 }
             },

@@ -8,13 +8,11 @@ use heads::comments::comment_end;
 use heads::data::data_end;
 use markup::pieces::front_at;
 use markup::prolog::root_start;
-use nodes::Kid;
 use nodes::scan::Tag;
-use steps::Step;
 use steps::pieces::Front;
 
 // The child behind the comments, the characters and the CDATA at `at`, if there is one.
-pub fn kid_from(text: &[u8], at: usize) -> Kid
+pub fn kid_from(text: &[u8], at: usize) -> Option<usize>
     ensures { result ≡ kid_at (length text.now) (drop at text.now) }
 {
     let mut i = at;
@@ -22,61 +20,61 @@ pub fn kid_from(text: &[u8], at: usize) -> Kid
         let t = to_tag(text, i);
         match front_at(text, t) {
             Front::Start => {
-                return Kid::Child(t);
+                return Some(t);
             }
             Front::Comment => match comment_end(text, t) {
-                Step::To(j) => {
+                Some(j) => {
                     i = j;
                 }
-                Step::No => {
-                    return Kid::Done;
+                None => {
+                    return None;
                 }
             },
             Front::Data => match data_end(text, t) {
-                Step::To(j) => {
+                Some(j) => {
                     i = j;
                 }
-                Step::No => {
-                    return Kid::Done;
+                None => {
+                    return None;
                 }
             },
             Front::Close => {
-                return Kid::Done;
+                return None;
             }
             Front::Text => {
-                return Kid::Done;
+                return None;
             }
         }
     }
 }
 
 // The first child of the element at `at`.
-pub fn first_child(text: &[u8], at: usize) -> Kid
+pub fn first_child(text: &[u8], at: usize) -> Option<usize>
     ensures { result ≡ first_child text.now at }
 {
     match tag_end(text, at) {
         Tag::Open(i) => kid_from(text, i),
-        Tag::Bare(_) => Kid::Done,
-        Tag::No => Kid::Done,
+        Tag::Bare(_) => None,
+        Tag::No => None,
     }
 }
 
 // The next child behind the element at `at`.
-pub fn next_child(text: &[u8], at: usize) -> Kid
+pub fn next_child(text: &[u8], at: usize) -> Option<usize>
     ensures { result ≡ next text.now at }
 {
     match skip(text, at) {
-        Step::To(i) => kid_from(text, i),
-        Step::No => Kid::Done,
+        Some(i) => kid_from(text, i),
+        None => None,
     }
 }
 
 // The root of the text: the element behind all that stands before it.
-pub fn root_of(text: &[u8]) -> Kid
+pub fn root_of(text: &[u8]) -> Option<usize>
     ensures { result ≡ root text.now }
 {
     match root_start(text) {
-        Step::To(i) => Kid::Child(i),
-        Step::No => Kid::Done,
+        Some(i) => Some(i),
+        None => None,
     }
 }

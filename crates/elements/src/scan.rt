@@ -13,7 +13,6 @@ use letters::blocks::block_lacks;
 use letters::classes::is_quote;
 use markup::pieces::front_at;
 use nodes::scan::{Sign, Tag};
-use steps::Step;
 use steps::pieces::Front;
 
 // A place up to which the byte does not stand, reached by blocks.
@@ -48,17 +47,17 @@ pub fn to_tag(text: &[u8], at: usize) -> usize
 }
 
 // Behind the first `>` from `at` on.
-pub fn past_tag(text: &[u8], at: usize) -> Step
+pub fn past_tag(text: &[u8], at: usize) -> Option<usize>
     ensures { result ≡ stepped (length text.now) (past_tag (drop at text.now)) }
 {
     let mut i = at;
     while i < text.len() {
         if text[i] == b'>' {
-            return Step::To(i + 1);
+            return Some(i + 1);
         }
         i += 1;
     }
-    Step::No
+    None
 }
 
 fn ends_tag(b: u8) -> bool
@@ -241,12 +240,12 @@ fn sign_at(text: &[u8], at: usize) -> Sign
     match front_at(text, at) {
         Front::Close => close_sign(text, at),
         Front::Comment => match comment_end(text, at) {
-            Step::To(j) => Sign::Flat(j),
-            Step::No => Sign::No,
+            Some(j) => Sign::Flat(j),
+            None => Sign::No,
         },
         Front::Data => match data_end(text, at) {
-            Step::To(j) => Sign::Flat(j),
-            Step::No => Sign::No,
+            Some(j) => Sign::Flat(j),
+            None => Sign::No,
         },
         Front::Start => match tag_end(text, at) {
             Tag::Open(j) => Sign::Open(j),
@@ -267,7 +266,7 @@ fn close_sign(text: &[u8], at: usize) -> Sign
 }
 
 // Where the contents that begin at `at` end: before their end tag.
-pub fn contents_end(text: &[u8], at: usize) -> Step
+pub fn contents_end(text: &[u8], at: usize) -> Option<usize>
     ensures { result ≡ stepped (length text.now) (scan 0 (drop at text.now)) }
 {
     let mut depth: usize = 0;
@@ -276,15 +275,15 @@ pub fn contents_end(text: &[u8], at: usize) -> Step
         match sign_at(text, to_tag(text, i)) {
             Sign::Close(j) => {
                 if depth == 0 {
-                    return Step::To(j);
+                    return Some(j);
                 }
                 match past_tag(text, j) {
-                    Step::To(k) => {
+                    Some(k) => {
                         depth -= 1;
                         i = k;
                     }
-                    Step::No => {
-                        return Step::No;
+                    None => {
+                        return None;
                     }
                 }
             }
@@ -296,29 +295,29 @@ pub fn contents_end(text: &[u8], at: usize) -> Step
                 i = j;
             }
             Sign::No => {
-                return Step::No;
+                return None;
             }
         }
     }
 }
 
 // Behind the end tag of an element whose contents go on at `at`.
-pub fn leave(text: &[u8], at: usize) -> Step
+pub fn leave(text: &[u8], at: usize) -> Option<usize>
     ensures { result ≡ stepped (length text.now) (leave_at (drop at text.now)) }
 {
     match contents_end(text, at) {
-        Step::To(j) => past_tag(text, j),
-        Step::No => Step::No,
+        Some(j) => past_tag(text, j),
+        None => None,
     }
 }
 
 // Behind the element at `at`.
-pub fn skip(text: &[u8], at: usize) -> Step
+pub fn skip(text: &[u8], at: usize) -> Option<usize>
     ensures { result ≡ stepped (length text.now) (skip_at (drop at text.now)) }
 {
     match tag_end(text, at) {
         Tag::Open(i) => leave(text, i),
-        Tag::Bare(i) => Step::To(i),
-        Tag::No => Step::No,
+        Tag::Bare(i) => Some(i),
+        Tag::No => None,
     }
 }

@@ -8,7 +8,6 @@ ghost use Rattle.table.specs.Model.{ModelFillable};
 
 use super::listing::{fill_vertices, fill_voxels};
 use models::listing::list_start;
-use nodes::Found;
 use records::Place;
 
 // The records of the model at `model`, which is of this kind, one behind the other from `at` on.
@@ -17,13 +16,13 @@ pub(crate) fn fill_model(text: &[u8], model: usize, kind: u64, out: &mut [u64], 
     ensures { out.new ≡ wrote at.0 (model_records (model_of (the text.now model))) out.old }
 {
     match list_start(text, model) {
-        Found::At(start) => {
+        Some(start) => {
             if 32 <= kind {
                 fill_voxels(text, start, kind - 32, out, at);
                 return;
             }
             fill_vertices(text, start, kind, out, at);
         }
-        Found::Nothing => {}
+        None => {}
     }
 }

@@ -7,15 +7,14 @@ ghost use Rattle.nodes.specs.Values.{value_there};
 ghost use Rattle.forms.specs.Passed.{NumbersPassed};
 ghost use Rattle.numbers.specs.Numbers.{whole, volume_dimensions, dimension_list, exponent, decimal, wholes, sixteen};
 
-use nodes::Found;
-use numbers::{Decimals, Exponent, Next, Three, Whole};
+use numbers::Next;
 
 pub fn is_whole(text: &[u8], v: usize, least: u64, most: u64) -> bool
     ensures { result ≡ whole least most (value_there text.now v) }
 {
     match number_values::whole_value(text, v, least, most) {
-        Whole::Is(_) => true,
-        Whole::No => false,
+        Some(_) => true,
+        None => false,
     }
 }
 
@@ -23,8 +22,8 @@ pub fn is_dimension_list(text: &[u8], v: usize) -> bool
     ensures { result ≡ dimension_list (value_there text.now v) }
 {
     match number_values::dimension_list(text, v) {
-        Whole::Is(_) => true,
-        Whole::No => false,
+        Some(_) => true,
+        None => false,
     }
 }
 
@@ -32,8 +31,8 @@ pub fn is_exponent(text: &[u8], v: usize, most: u64) -> bool
     ensures { result ≡ exponent most (value_there text.now v) }
 {
     match number_values::exponent_value(text, v, most) {
-        Exponent::Is(_) => true,
-        Exponent::No => false,
+        Some(_) => true,
+        None => false,
     }
 }
 
@@ -41,8 +40,8 @@ pub fn is_decimal(text: &[u8], v: usize) -> bool
     ensures { result ≡ decimal (value_there text.now v) }
 {
     match number_values::decimal_value(text, v) {
-        Decimals::Is(_) => true,
-        Decimals::No => false,
+        Some(_) => true,
+        None => false,
     }
 }
 
@@ -50,8 +49,8 @@ pub fn are_lengths(text: &[u8], v: usize, width: u64, depth: u64, height: u64) -
     ensures { result ≡ volume_dimensions width depth height (value_there text.now v) }
 {
     match number_values::three_lengths(text, v, width, depth, height) {
-        Three::Are(_) => true,
-        Three::No => false,
+        Some(_) => true,
+        None => false,
     }
 }
 
@@ -101,8 +100,8 @@ pub fn are_wholes(text: &[u8], at: usize, most: u64) -> bool
     ensures { result ≡ wholes most (text_of_lem text.now at) }
 {
     match inside::texts::text_start(text, at) {
-        Found::At(i) => wholes_from(text, i, most),
-        Found::Nothing => true,
+        Some(i) => wholes_from(text, i, most),
+        None => true,
     }
 }
 
@@ -111,7 +110,7 @@ pub fn are_sixteen(text: &[u8], at: usize) -> bool
     ensures { result ≡ sixteen (text_of_lem text.now at) }
 {
     match inside::texts::text_start(text, at) {
-        Found::At(i) => number_values::sixteen_ok(text, i),
-        Found::Nothing => false,
+        Some(i) => number_values::sixteen_ok(text, i),
+        None => false,
     }
 }

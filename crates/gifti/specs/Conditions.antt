@@ -1,7 +1,6 @@
 -- THE NUMBERS OF REFUSAL of a GIFTI label file, over the size of the text, its document (or that there is none), the array asked for, from
 -- 0, and the room lent. 29, 7, 30 and 31 range over all arrays.
-use Rattle.std.specs.Prelude.{List, [], ◌∷◌, ◌++◌, Bool, ◌&&◌, ◌||◌, not, ℕ, eqb, ltb, ℤ, length, get_or}
-use Rattle.std.proofs.Math.Option.{Option}
+use Rattle.std.specs.Prelude.{List, [], ◌∷◌, ◌++◌, Bool, ◌&&◌, ◌||◌, not, ℕ, eqb, ltb, ℤ, length, get_or, Option}
 use Rattle.lists.specs.Lists.{any, all, there}
 use Rattle.lists.specs.Refusals.{Refusal, ◌when◌, first}
 use Rattle.grammar.specs.Document.{Element}

@@ -1,6 +1,5 @@
 -- THE KEYS OF ONE ARRAY, written from the start of the list lent; what lies past stays, and a refused call writes nothing.
-use Rattle.std.specs.Prelude.{List, [], ℕ, zero, suc, ℤ, length}
-use Rattle.std.proofs.Math.Option.{Option, some}
+use Rattle.std.specs.Prelude.{List, [], ℕ, zero, suc, ℤ, length, Option, Some, None}
 use Rattle.grammar.specs.Document.{Element}
 use Rattle.cifti.specs.Labels.{overwritten}
 use Rattle.cifti.specs.Text.{Answers}
@@ -9,8 +8,8 @@ use Rattle.gifti.specs.Conditions.{keys_at, gifti_refusal}
 -- what comes of a number of refusal (0: none): the keys, and none where the text is refused
 unfoldable pub keys_by : (number array : ℕ) → Option Element → List ℤ
 keys_by (suc n) i d = []
-keys_by zero i Option.none = []
-keys_by zero i (some e) = keys_at i e
+keys_by zero i None = []
+keys_by zero i (Some e) = keys_at i e
 
 unfoldable pub keys_given : (size array room : ℕ) → Option Element → List ℤ
 keys_given size i room d = keys_by (gifti_refusal size i room d) i d

@@ -1,11 +1,9 @@
 -- WHAT IS TOLD OF ARRAYS: how an array writes its keys; how many they are, and how many stand in a part of the table.
-use Rattle.std.specs.Prelude.{◌≡◌, true, cond, List, ℕ, suc, ◌%◌, ◌^◌, ◌≤◌, ◌<◌, ℤ, length}
+use Rattle.std.specs.Prelude.{◌≡◌, true, cond, List, ℕ, suc, ◌%◌, ◌^◌, ◌≤◌, ◌<◌, ℤ, length, Option, Some, None}
 use Rattle.lists.specs.Lists.{all, each_in}
 use Rattle.grammar.specs.Bytes.{ascii}
 use Rattle.grammar.specs.Document.{Element}
 use Rattle.grammar.specs.Look.{has}
-use Rattle.nodes.specs.declared.Found.{Found}
-use Rattle.nodes.specs.declared.Found.TheVariants.{At, Nothing}
 use Rattle.inside.specs.Treads.{child_named}
 use Rattle.numbers.specs.Numbers.{in_keys}
 use Rattle.base64_text.specs.Fours.{coded_bytes}
@@ -24,9 +22,9 @@ use Rattle.gifti_arrays.specs.declared.arrays.Told.{Told}
 unfoldable pub encoding_of : Element → Encoding
 encoding_of a = cond (is_coded a) (cond (has "Endian" "BigEndian" a) Big Little) Plain
 
-unfoldable pub or_start : Found → ℕ
-or_start Nothing = 0
-or_start (At k) = k
+unfoldable pub or_start : Option ℕ → ℕ
+or_start None = 0
+or_start (Some k) = k
 
 -- the place of its first Data
 unfoldable pub data_at : List ℕ → ℕ → ℕ

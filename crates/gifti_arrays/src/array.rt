@@ -9,7 +9,6 @@ use array_keys::Encoding;
 use inside::values::attribute_is;
 use inside::ways::child_named;
 use maps::fields::attribute_number;
-use nodes::Found;
 
 // Where the Data of an array stands, how it writes the keys, and how many they are to be.
 #[derive(Clone, Copy)]
@@ -46,8 +45,8 @@ fn data_of(text: &[u8], at: usize) -> usize
     ensures { result ≡ data_at text.now at }
 {
     match child_named(text, at, b"Data", 0) {
-        Found::At(k) => k,
-        Found::Nothing => 0,
+        Some(k) => k,
+        None => 0,
     }
 }
 

@@ -6,7 +6,6 @@ ghost use Rattle.gifti_arrays.specs.Arrays.{ArraysTold};
 use super::array::array_told;
 use elements::children::{first_child, next_child};
 use inside::names::name_is;
-use nodes::Kid;
 
 // How many arrays there are, whether each has as many keys as it is to have; how many keys, and how many of them stand in the part of the
 // table.
@@ -29,7 +28,7 @@ pub fn arrays_told(text: &[u8], root: usize, codes: &[u32]) -> Told
     let mut kid = first_child(text, root);
     loop {
         match kid {
-            Kid::Child(k) => {
+            Some(k) => {
                 kid = next_child(text, k);
                 if name_is(text, k, b"DataArray") {
                     let told = array_told(text, k, codes);
@@ -39,7 +38,7 @@ pub fn arrays_told(text: &[u8], root: usize, codes: &[u32]) -> Told
                     known += told.known;
                 }
             }
-            Kid::Done => {
+            None => {
                 return Told {
                     arrays,
                     fit,

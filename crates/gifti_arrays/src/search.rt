@@ -7,7 +7,6 @@ ghost use Rattle.gifti_arrays.specs.Arrays.{ArraysTold, Room};
 use super::arrays::{Told, arrays_told};
 use known_keys::taken;
 use label_table::labels::first_label;
-use nodes::Kid;
 
 // As many keys of the table at a time as there is room for. A key stands in one turn at most, so that those found add up.
 fn search_in(text: &[u8], root: usize, table: usize, work: &mut [u32]) -> Told
@@ -23,8 +22,8 @@ fn search_in(text: &[u8], root: usize, table: usize, work: &mut [u32]) -> Told
         known += told.known;
         kid = turn.next;
         match kid {
-            Kid::Child(_) => {}
-            Kid::Done => {
+            Some(_) => {}
+            None => {
                 return Told {
                     arrays: told.arrays,
                     fit: told.fit,

@@ -1,6 +1,5 @@
 -- WHAT IS KNOWN OF A FILE behind 2, 3, 4, 6, 29 and 7: its root stands at its place, and its table and its arrays are good.
-use Rattle.std.specs.Prelude.{◌≡◌, List, [], ◌∷◌, true, ℕ, ◌≤◌, length}
-use Rattle.std.proofs.Math.Option.{some}
+use Rattle.std.specs.Prelude.{◌≡◌, List, [], ◌∷◌, true, ℕ, ◌≤◌, length, Some}
 use Rattle.lists.specs.Refusals.{first}
 use Rattle.grammar.specs.Document.{Element}
 use Rattle.grammar.specs.Look.{attr}
@@ -19,7 +18,7 @@ pub record ArraysHere (text : List ℕ) (root : ℕ) : Type 0 where
 
 pub record FileHere (text : List ℕ) (root : ℕ) : Type 0 where
   pub arrays : ArraysHere text root
-  pub parsed : parse text ≡ some (the text root)
+  pub parsed : parse text ≡ Some (the text root)
   pub none_before : first (conditions_of_file (length text) (parse text)) ≡ 0
   pub arrays_said_lem : whole 0 9999999 (attr "NumberOfDataArrays" (the text root)) ≡ true
   pub table : Element

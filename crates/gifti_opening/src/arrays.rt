@@ -7,7 +7,6 @@ ghost use Rattle.gifti_opening.specs.Arrays.{unread};
 use elements::children::{first_child, next_child};
 use inside::names::name_is;
 use inside::values::attribute_is;
-use nodes::Kid;
 
 fn encoding_read(text: &[u8], at: usize) -> bool
     requires { Stands text.now at }
@@ -39,7 +38,7 @@ pub(crate) fn array_not_read(text: &[u8], root: usize) -> bool
     let mut kid = first_child(text, root);
     loop {
         match kid {
-            Kid::Child(k) => {
+            Some(k) => {
                 kid = next_child(text, k);
                 if name_is(text, k, b"DataArray") {
                     if is_unread(text, k) {
@@ -47,7 +46,7 @@ pub(crate) fn array_not_read(text: &[u8], root: usize) -> bool
                     }
                 }
             }
-            Kid::Done => {
+            None => {
                 return false;
             }
         }

@@ -12,7 +12,6 @@ use gifti_arrays::{fill, noted};
 use gifti_opening::gifti_opened;
 use inside::ways::child_named;
 use label_table::Filled;
-use nodes::Found;
 
 // The keys of the array at `at`, where there is room for them.
 fn keys_at(text: &[u8], at: usize, keys: &mut [i32]) -> Filled
@@ -40,8 +39,8 @@ fn keys_passed(text: &[u8], root: usize, array: u64, keys: &mut [i32]) -> Filled
     ensures { KeysOf text.now array keys.old result.number result.count keys.new }
 {
     match child_named(text, root, b"DataArray", array) {
-        Found::At(k) => keys_at(text, k, keys),
-        Found::Nothing => Filled {
+        Some(k) => keys_at(text, k, keys),
+        None => Filled {
             number: 18,
             count: 0,
         },

@@ -10,7 +10,6 @@ use gifti_arrays::{arrays_told, searched};
 use inside::ways::child_named;
 use key_twice::key_twice;
 use maps::fields::attribute_number;
-use nodes::Found;
 
 // A key stands twice in the table, with room for 163,840 keys.
 fn twice_in(text: &[u8], table: usize) -> bool
@@ -26,8 +25,8 @@ fn table_of(text: &[u8], root: usize) -> usize
     ensures { TableAt text.now (the text.now root) result }
 {
     match child_named(text, root, b"LabelTable", 0) {
-        Found::At(k) => k,
-        Found::Nothing => 0,
+        Some(k) => k,
+        None => 0,
     }
 }
 

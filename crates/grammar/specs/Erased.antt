@@ -1,7 +1,6 @@
 -- THE PAPER'S DOCUMENT: a root that has a name, attributes in order (name, decoded value), and contents in order: elements, and runs of
 -- decoded characters. An element of `Document` also keeps the bytes between its tags; `erased` drops them, and nothing else.
-use Rattle.std.specs.Prelude.{◌≡◌, List, ℕ}
-use Rattle.std.proofs.Math.Option.{Option, some}
+use Rattle.std.specs.Prelude.{◌≡◌, List, ℕ, Option, Some, None}
 use Rattle.grammar.specs.Document.{Attribute, Element, element, Contents, nothing, child, run}
 use Rattle.grammar.specs.Grammar.{Writes}
 use Rattle.grammar.specs.Parser.{parse}
@@ -31,8 +30,8 @@ pub record WritesDocument (d : Node) (s : List ℕ) : Type 0 where
   pub same : erased root ≡ d
 
 unfoldable pub erased_in : Option Element → Option Node
-erased_in Option.none = Option.none
-erased_in (some e) = some (erased e)
+erased_in None = None
+erased_in (Some e) = Some (erased e)
 
 -- the document that writes a text, if one does
 unfoldable pub document_of : List ℕ → Option Node

@@ -1,6 +1,5 @@
 -- Looking into a document: an attribute's value, the children of a name, the text.
-use Rattle.std.specs.Prelude.{List, [], ◌∷◌, ◌++◌, Bool, cond, ℕ}
-use Rattle.std.proofs.Math.Option.{Option, some}
+use Rattle.std.specs.Prelude.{List, [], ◌∷◌, ◌++◌, Bool, cond, ℕ, Option, Some, None}
 use Prim.Native.String.{String}
 use Rattle.grammar.specs.Bytes.{ascii, same_bytes}
 use Rattle.grammar.specs.Document.{Attribute, attribute, Element, element, Contents, nothing, child, run}
@@ -29,13 +28,13 @@ within_of (element n l c k) = k
 
 -- the value of the attribute of this name, if there is one
 unfoldable pub value_in : String → List Attribute → Option Word
-value_in s [] = Option.none
-value_in s (attribute n v ∷ l) = cond (is s n) (some v) (value_in s l)
+value_in s [] = None
+value_in s (attribute n v ∷ l) = cond (is s n) (Some v) (value_in s l)
 
 -- the same, nothing written where there is none
 unfoldable pub or_empty : Option Word → Word
-or_empty Option.none = []
-or_empty (some v) = v
+or_empty None = []
+or_empty (Some v) = v
 
 unfoldable pub attr : String → Element → Word
 attr s e = or_empty (value_in s (attributes_of e))

@@ -1,7 +1,6 @@
 -- A parser: a total function that finds the document that a text writes, if one does (`Theorems`). It falls with its fuel, the length of
 -- the text.
-use Rattle.std.specs.Prelude.{List, [], ◌∷◌, ℕ, zero, suc, Bool, true, false, ◌&&◌, ◌||◌, not, eqb, leb, length}
-use Rattle.std.proofs.Math.Option.{Option, some}
+use Rattle.std.specs.Prelude.{List, [], ◌∷◌, ℕ, zero, suc, Bool, true, false, ◌&&◌, ◌||◌, not, eqb, leb, length, Option, Some, None}
 use Rattle.grammar.specs.Bytes.{ascii, blank, name_start, name_byte, quote, special, begins, letter, skipped}
 unfoldable pub use Rattle.grammar.specs.Bytes.{same_bytes}
 use Rattle.grammar.specs.Characters.{lead1, lead2, lead3, lead4, continues, noncharacter}
@@ -353,8 +352,8 @@ document_at n = do
   pure e
 
 unfoldable pub answer : Read Element → Option Element
-answer fail = Option.none
-answer (got e r) = some e
+answer fail = None
+answer (got e r) = Some e
 
 unfoldable pub parse : List ℕ → Option Element
 parse s = answer (document_at (length s) s)

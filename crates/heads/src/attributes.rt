@@ -8,38 +8,25 @@ ghost use Rattle.steps.specs.Noted.{Within, part, among, noted};
 use super::values::value_end;
 use letters::blanks::{blanks_end, equals_end, gap_end, tag_ends};
 use letters::names::{equal, name_end};
-use steps::Step;
 use steps::attributes::Key;
 
 // Blanks, a name and `=`.
-pub fn key_at(text: &[u8], at: usize) -> Key
+pub fn key_at(text: &[u8], at: usize) -> Option<Key>
     ensures { result ≡ keyed (length text.now) (key_at (drop at text.now)) }
 {
-    let Step::To(from) = gap_end(text, at) else {
-        return Key::No;
-    };
-    let Step::To(to) = name_end(text, from) else {
-        return Key::No;
-    };
-    let Step::To(end) = equals_end(text, to) else {
-        return Key::No;
-    };
-    Key::Is { from, to, end }
+    let from = gap_end(text, at)?;
+    let to = name_end(text, from)?;
+    let end = equals_end(text, to)?;
+    Some(Key { from, to, end })
 }
 
 // A whole attribute.
-pub fn named_at(text: &[u8], at: usize) -> Key
+pub fn named_at(text: &[u8], at: usize) -> Option<Key>
     ensures { result ≡ keyed (length text.now) (named_at (drop at text.now)) }
 {
-    match key_at(text, at) {
-        Key::Is { from, to, end } => {
-            match value_end(text, end) {
-                Step::To(j) => Key::Is { from, to, end: j },
-                Step::No => Key::No,
-            }
-        }
-        Key::No => Key::No,
-    }
+    let key = key_at(text, at)?;
+    let end = value_end(text, key.end)?;
+    Some(Key { end, ..key })
 }
 
 // The name from `from` to `to` is one of the first `n` that are noted.
@@ -68,7 +55,7 @@ fn is_noted(
 }
 
 // Attributes, 16 at most, no name twice, with what is noted of them.
-fn some_attributes_end(text: &[u8], at: usize) -> Step
+fn some_attributes_end(text: &[u8], at: usize) -> Option<usize>
     ensures { result ≡ stepped (length text.now) (attributes_at (drop at text.now)) }
 {
     let mut starts = [0usize; 16];
@@ -77,51 +64,41 @@ fn some_attributes_end(text: &[u8], at: usize) -> Step
     let mut i = at;
     while !tag_ends(text, i) {
         if n == 16 {
-            return Step::No;
+            return None;
         }
-        match named_at(text, i) {
-            Key::Is { from, to, end } => {
-                if is_noted(text, &starts, &ends, n, from, to) {
-                    return Step::No;
-                }
-                starts[n] = from;
-                ends[n] = to;
-                n += 1;
-                i = end;
-            }
-            Key::No => {
-                return Step::No;
-            }
+        let Key { from, to, end } = named_at(text, i)?;
+        if is_noted(text, &starts, &ends, n, from, to) {
+            return None;
         }
+        starts[n] = from;
+        ends[n] = to;
+        n += 1;
+        i = end;
     }
-    Step::To(i)
+    Some(i)
 }
 
 // Attributes, 16 at most, no name twice. Most tags have none, and nothing is noted of them.
-pub fn attributes_end(text: &[u8], at: usize) -> Step
+pub fn attributes_end(text: &[u8], at: usize) -> Option<usize>
     ensures { result ≡ stepped (length text.now) (attributes_at (drop at text.now)) }
 {
     if tag_ends(text, at) {
-        return Step::To(at);
+        return Some(at);
     }
     some_attributes_end(text, at)
 }
 
 // A tag up to its `>` or `/>`.
-pub fn head_end(text: &[u8], at: usize) -> Step
+pub fn head_end(text: &[u8], at: usize) -> Option<usize>
     ensures { result ≡ stepped (length text.now) (head_at (drop at text.now)) }
 {
     if text.len() <= at {
-        return Step::No;
+        return None;
     }
     if text[at] != b'<' {
-        return Step::No;
+        return None;
     }
-    let Step::To(i) = name_end(text, at + 1) else {
-        return Step::No;
-    };
-    let Step::To(j) = attributes_end(text, i) else {
-        return Step::No;
-    };
-    Step::To(blanks_end(text, j))
+    let i = name_end(text, at + 1)?;
+    let j = attributes_end(text, i)?;
+    Some(blanks_end(text, j))
 }

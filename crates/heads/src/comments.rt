@@ -8,7 +8,6 @@ ghost use Rattle.steps.specs.Leaves.{comment_rest_at};
 use super::characters::wide_character_end;
 use letters::blanks::mark_end;
 use letters::classes::is_plain;
-use steps::Step;
 
 // `--` stands at `at`.
 fn dashes_at(text: &[u8], at: usize) -> bool
@@ -27,43 +26,43 @@ fn dashes_at(text: &[u8], at: usize) -> bool
 }
 
 // A character of a comment, or a dash and a character that is none.
-fn odd_remark_end(text: &[u8], at: usize) -> Step
+fn odd_remark_end(text: &[u8], at: usize) -> Option<usize>
     ensures { result ≡ stepped (length text.now) (remark_at (drop at text.now)) }
 {
     if text.len() <= at {
-        return Step::No;
+        return None;
     }
     if text[at] != b'-' {
         return wide_character_end(text, at);
     }
     if text.len() <= at + 1 {
-        return Step::No;
+        return None;
     }
     if text[at + 1] == b'-' {
-        return Step::No;
+        return None;
     }
     wide_character_end(text, at + 1)
 }
 
 // The same, quick where the character is plain.
-fn remark_end(text: &[u8], at: usize) -> Step
+fn remark_end(text: &[u8], at: usize) -> Option<usize>
     ensures { result ≡ stepped (length text.now) (remark_at (drop at text.now)) }
 {
     if text.len() <= at {
-        return Step::No;
+        return None;
     }
     let b = text[at];
     if b == b'-' {
         return odd_remark_end(text, at);
     }
     if is_plain(b) {
-        return Step::To(at + 1);
+        return Some(at + 1);
     }
     odd_remark_end(text, at)
 }
 
 // The rest of a comment, with its end.
-fn comment_rest_end(text: &[u8], at: usize) -> Step
+fn comment_rest_end(text: &[u8], at: usize) -> Option<usize>
     ensures { result ≡ stepped (length text.now) (comment_rest_at (drop at text.now)) }
 {
     let mut i = at;
@@ -72,22 +71,22 @@ fn comment_rest_end(text: &[u8], at: usize) -> Step
             return mark_end(text, i, b"-->");
         }
         match remark_end(text, i) {
-            Step::To(j) => {
+            Some(j) => {
                 i = j;
             }
-            Step::No => {
-                return Step::No;
+            None => {
+                return None;
             }
         }
     }
-    Step::No
+    None
 }
 
-pub fn comment_end(text: &[u8], at: usize) -> Step
+pub fn comment_end(text: &[u8], at: usize) -> Option<usize>
     ensures { result ≡ stepped (length text.now) (comment_at (drop at text.now)) }
 {
     match mark_end(text, at, b"<!--") {
-        Step::To(i) => comment_rest_end(text, i),
-        Step::No => Step::No,
+        Some(i) => comment_rest_end(text, i),
+        None => None,
     }
 }

@@ -1,5 +1,5 @@
 // CDATA.
-ghost use Rattle.std.specs.Prelude.{◌≡◌, length, drop};
+ghost use Rattle.std.specs.Prelude.{◌≡◌, length, drop, Some};
 ghost use Rattle.grammar.specs.Bytes.{ascii, begins};
 ghost use Rattle.grammar.specs.Read.{span};
 ghost use Rattle.grammar.specs.Parser.{data_character_at, data_at_lem};
@@ -9,7 +9,6 @@ ghost use Rattle.steps.specs.Leaves.{data_plain, data_rest_at};
 use super::characters::character_end;
 use letters::blanks::{feed_end, mark_end, starts};
 use letters::blocks::past_quick;
-use steps::Step;
 
 // `]]>` stands at `at`.
 fn brackets_at(text: &[u8], at: usize) -> bool
@@ -25,14 +24,14 @@ fn brackets_at(text: &[u8], at: usize) -> bool
 }
 
 // A character, or the end of a line.
-fn data_character_end(text: &[u8], at: usize) -> Step
+fn data_character_end(text: &[u8], at: usize) -> Option<usize>
     ensures { result ≡ stepped (length text.now) (data_character_at (drop at text.now)) }
 {
     if text.len() <= at {
-        return Step::No;
+        return None;
     }
     if text[at] == b'\r' {
-        return Step::To(feed_end(text, at + 1));
+        return Some(feed_end(text, at + 1));
     }
     character_end(text, at)
 }
@@ -47,7 +46,7 @@ fn is_data_plain(a: u8) -> bool
 
 // Where such bytes end: by blocks, and one by one behind the last block.
 fn far_data_plain_end(text: &[u8], at: usize) -> usize
-    ensures { Step.To result ≡ stepped (length text.now) (span data_plain (drop at text.now)) }
+    ensures { Some result ≡ stepped (length text.now) (span data_plain (drop at text.now)) }
 {
     let mut i = past_quick(text, at);
     while i < text.len() {
@@ -61,7 +60,7 @@ fn far_data_plain_end(text: &[u8], at: usize) -> usize
 
 // Where such bytes end. The first sixteen are read one by one, as those of plain text are.
 fn data_plain_end(text: &[u8], at: usize) -> usize
-    ensures { Step.To result ≡ stepped (length text.now) (span data_plain (drop at text.now)) }
+    ensures { Some result ≡ stepped (length text.now) (span data_plain (drop at text.now)) }
 {
     let mut i = at;
     let mut k: usize = 0;
@@ -79,7 +78,7 @@ fn data_plain_end(text: &[u8], at: usize) -> usize
 }
 
 // The rest of CDATA, with its end.
-fn data_rest_end(text: &[u8], at: usize) -> Step
+fn data_rest_end(text: &[u8], at: usize) -> Option<usize>
     ensures { result ≡ stepped (length text.now) (data_rest_at (drop at text.now)) }
 {
     let mut i = at;
@@ -89,22 +88,22 @@ fn data_rest_end(text: &[u8], at: usize) -> Step
             return mark_end(text, j, b"]]>");
         }
         match data_character_end(text, j) {
-            Step::To(k) => {
+            Some(k) => {
                 i = k;
             }
-            Step::No => {
-                return Step::No;
+            None => {
+                return None;
             }
         }
     }
-    Step::No
+    None
 }
 
-pub fn data_end(text: &[u8], at: usize) -> Step
+pub fn data_end(text: &[u8], at: usize) -> Option<usize>
     ensures { result ≡ stepped (length text.now) (data_at_lem (drop at text.now)) }
 {
     match mark_end(text, at, b"<![CDATA[") {
-        Step::To(i) => data_rest_end(text, i),
-        Step::No => Step::No,
+        Some(i) => data_rest_end(text, i),
+        None => None,
     }
 }

@@ -8,27 +8,26 @@ ghost use Rattle.steps.specs.Leaves.{value_rest_at};
 use super::characters::{reference_end, wide_character_end};
 use letters::blanks::feed_end;
 use letters::classes::{is_blank, is_quote};
-use steps::Step;
 
 // A character in a value between two `q`.
-fn odd_in_value_end(text: &[u8], at: usize, q: u8) -> Step
+fn odd_in_value_end(text: &[u8], at: usize, q: u8) -> Option<usize>
     ensures { result ≡ stepped (length text.now) (value_character_at q (drop at text.now)) }
 {
     if text.len() <= at {
-        return Step::No;
+        return None;
     }
     let b = text[at];
     if b == b'&' {
         return reference_end(text, at);
     }
     if b == b'\r' {
-        return Step::To(feed_end(text, at + 1));
+        return Some(feed_end(text, at + 1));
     }
     if is_blank(b) {
-        return Step::To(at + 1);
+        return Some(at + 1);
     }
     if (b == b'<') | (b == q) {
-        return Step::No;
+        return None;
     }
     wide_character_end(text, at)
 }
@@ -41,49 +40,49 @@ fn is_plain_in(b: u8, q: u8) -> bool
 }
 
 // The same, quick where the character is plain.
-pub fn value_character_end(text: &[u8], at: usize, q: u8) -> Step
+pub fn value_character_end(text: &[u8], at: usize, q: u8) -> Option<usize>
     ensures { result ≡ stepped (length text.now) (value_character_at q (drop at text.now)) }
 {
     if text.len() <= at {
-        return Step::No;
+        return None;
     }
     if is_plain_in(text[at], q) {
-        return Step::To(at + 1);
+        return Some(at + 1);
     }
     odd_in_value_end(text, at, q)
 }
 
 // The rest of a value that `q` began, up to the other `q`.
-fn value_rest_end(text: &[u8], at: usize, q: u8) -> Step
+fn value_rest_end(text: &[u8], at: usize, q: u8) -> Option<usize>
     ensures { result ≡ stepped (length text.now) (value_rest_at q (drop at text.now)) }
 {
     let mut i = at;
     while i < text.len() {
         if text[i] == q {
-            return Step::To(i + 1);
+            return Some(i + 1);
         }
         match value_character_end(text, i, q) {
-            Step::To(j) => {
+            Some(j) => {
                 i = j;
             }
-            Step::No => {
-                return Step::No;
+            None => {
+                return None;
             }
         }
     }
-    Step::No
+    None
 }
 
 // A value with its quotes.
-pub fn value_end(text: &[u8], at: usize) -> Step
+pub fn value_end(text: &[u8], at: usize) -> Option<usize>
     ensures { result ≡ stepped (length text.now) (value_at (drop at text.now)) }
 {
     if text.len() <= at {
-        return Step::No;
+        return None;
     }
     let q = text[at];
     if !is_quote(q) {
-        return Step::No;
+        return None;
     }
     value_rest_end(text, at + 1, q)
 }

@@ -1,9 +1,8 @@
 -- A WAY HAS ONE PLACE IN A TEXT: it is where the walk by places leads to.
-use Rattle.std.specs.Prelude.{◌≡◌, List, ℕ, ◌+◌, ◌≤◌, length, take, drop}
+use Rattle.std.specs.Prelude.{◌≡◌, List, ℕ, ◌+◌, ◌≤◌, length, take, drop, Some}
 use Rattle.nodes.specs.Scan.{tag_at}
 use Rattle.nodes.specs.ScanSteps.{tag_told}
 use Rattle.nodes.specs.Inside.{between_tags}
-use Rattle.nodes.specs.declared.Found.TheVariants.{At}
 use Rattle.nodes.specs.declared.scan.Tag.{Tag}
 use Rattle.nodes.specs.declared.scan.Tag.TheVariants.{Open, Bare, No}
 use Rattle.inside.specs.Way.{WayStep}
@@ -22,7 +21,7 @@ tag_end text k = behind_tag (tag_told (length text) (tag_at (drop k text)))
 -- within it
 pub record Met (way : List WayStep) (part text : List ℕ) (start : ℕ) : Type 0 where
   pub at : ℕ
-  pub finds : way_at way text ≡ At at
+  pub finds : way_at way text ≡ Some at
   pub starts : start ≡ tag_end text at
   pub within_is : part ≡ between_tags text at
 

@@ -1,7 +1,6 @@
 -- WAYS TO AN ELEMENT: a way is a list of steps, and a step goes to the n-th, from 0, of the children that pass a test.
 -- `reached` says what a way leads to in a document; `WayPlace` says where that stands in a text, by the grammar.
-use Rattle.std.specs.Prelude.{◌≡◌, List, [], ◌∷◌, Bool, true, ℕ, zero, suc, length}
-use Rattle.std.proofs.Math.Option.{Option, some}
+use Rattle.std.specs.Prelude.{◌≡◌, List, [], ◌∷◌, Bool, true, ℕ, zero, suc, length, Option, Some, None}
 use Rattle.lists.specs.Lists.{those, count}
 use Rattle.grammar.specs.Bytes.{◌⊹◌, ascii, blank, Each, Sequence}
 use Rattle.grammar.specs.Document.{Attribute, Element, Contents}
@@ -15,18 +14,18 @@ pub data WayStep : Type 0 where
 
 -- the n-th of a list, from 0
 unfoldable pub nth : {A : Type 0} → ℕ → List A → Option A
-nth zero [] = Option.none
-nth (suc n) [] = Option.none
-nth zero (a ∷ l) = some a
+nth zero [] = None
+nth (suc n) [] = None
+nth zero (a ∷ l) = Some a
 nth (suc n) (a ∷ l) = nth n l
 
 unfoldable pub onward : {A B : Type 0} → (A → Option B) → Option A → Option B
-onward f Option.none = Option.none
-onward f (some a) = f a
+onward f None = None
+onward f (Some a) = f a
 
 -- what a way leads to from an element
 unfoldable pub reached : List WayStep → Element → Option Element
-reached [] e = some e
+reached [] e = Some e
 reached (step p n ∷ way) e = onward (reached way) (nth n (those p (elements (contents_of e))))
 
 -- ---- In a text.

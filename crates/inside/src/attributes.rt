@@ -6,49 +6,47 @@ use heads::attributes::key_at;
 use heads::values::value_end;
 use letters::blanks::tag_ends;
 use letters::names::{equal, name_end};
-use nodes::Found;
-use steps::Step;
 use steps::attributes::Key;
 
 // Where the value of the attribute with the name begins, from `at` on.
-fn place_from(text: &[u8], at: usize, word: &[u8]) -> Found
+fn place_from(text: &[u8], at: usize, word: &[u8]) -> Option<usize>
     ensures { result ≡ place_in word.now (keys_at_lem (length text.now) (drop at text.now)) }
 {
     let mut i = at;
     loop {
         if tag_ends(text, i) {
-            return Found::Nothing;
+            return None;
         }
         match key_at(text, i) {
-            Key::Is { from, to, end } => {
+            Some(Key { from, to, end }) => {
                 if equal(&text[from..to], word) {
-                    return Found::At(end);
+                    return Some(end);
                 }
                 match value_end(text, end) {
-                    Step::To(j) => {
+                    Some(j) => {
                         i = j;
                     }
-                    Step::No => {
-                        return Found::Nothing;
+                    None => {
+                        return None;
                     }
                 }
             }
-            Key::No => {
-                return Found::Nothing;
+            None => {
+                return None;
             }
         }
     }
 }
 
 // Where the value of the attribute with the name begins, in the tag of the element at `at`.
-pub fn attribute(text: &[u8], at: usize, word: &[u8]) -> Found
+pub fn attribute(text: &[u8], at: usize, word: &[u8]) -> Option<usize>
     ensures { result ≡ place text.now at word.now }
 {
     if text.len() <= at {
-        return Found::Nothing;
+        return None;
     }
     match name_end(text, at + 1) {
-        Step::To(i) => place_from(text, i, word),
-        Step::No => Found::Nothing,
+        Some(i) => place_from(text, i, word),
+        None => None,
     }
 }

@@ -3,7 +3,6 @@ ghost use Rattle.std.specs.Prelude.{◌≡◌};
 ghost use Rattle.nodes.specs.Names.{named};
 
 use letters::names::{equal, name_end};
-use steps::Step;
 
 // The element at `at` has the name.
 pub fn name_is(text: &[u8], at: usize, word: &[u8]) -> bool
@@ -16,7 +15,7 @@ pub fn name_is(text: &[u8], at: usize, word: &[u8]) -> bool
         return false;
     }
     match name_end(text, at + 1) {
-        Step::To(e) => equal(&text[at + 1..e], word),
-        Step::No => false,
+        Some(e) => equal(&text[at + 1..e], word),
+        None => false,
     }
 }

@@ -10,20 +10,18 @@ use heads::characters::reference_at;
 use heads::comments::comment_end;
 use letters::blanks::{feed_end, mark_end};
 use markup::pieces::front_at;
+use nodes::Text;
 use nodes::scan::Tag;
-use nodes::{Found, Text};
-use steps::Step;
-use steps::characters::Reference;
 use steps::pieces::Front;
 
 // Where the contents of the element at `at` begin; an empty tag has none.
-pub fn text_start(text: &[u8], at: usize) -> Found
+pub fn text_start(text: &[u8], at: usize) -> Option<usize>
     ensures { result ≡ inside text.now at }
 {
     match tag_end(text, at) {
-        Tag::Open(i) => Found::At(i),
-        Tag::Bare(_) => Found::Nothing,
-        Tag::No => Found::Nothing,
+        Tag::Open(i) => Some(i),
+        Tag::Bare(_) => None,
+        Tag::No => None,
     }
 }
 
@@ -37,10 +35,10 @@ fn letter_at(text: &[u8], at: usize) -> Text
     let b = text[at];
     if b == b'&' {
         match reference_at(text, at) {
-            Reference::Is(c, j) => {
+            Some((c, j)) => {
                 return Text::Letter(c, j);
             }
-            Reference::No => {
+            None => {
                 return Text::Letter(b'&', at + 1);
             }
         }
@@ -59,16 +57,16 @@ fn outside_at(text: &[u8], at: usize) -> Text
         Front::Text => letter_at(text, at),
         Front::Close => Text::Stop,
         Front::Start => match skip(text, at) {
-            Step::To(j) => Text::Skip(j),
-            Step::No => Text::Stop,
+            Some(j) => Text::Skip(j),
+            None => Text::Stop,
         },
         Front::Comment => match comment_end(text, at) {
-            Step::To(j) => Text::Skip(j),
-            Step::No => Text::Stop,
+            Some(j) => Text::Skip(j),
+            None => Text::Stop,
         },
         Front::Data => match mark_end(text, at, b"<![CDATA[") {
-            Step::To(j) => Text::Skip(text.len() + 1 + j),
-            Step::No => Text::Stop,
+            Some(j) => Text::Skip(text.len() + 1 + j),
+            None => Text::Stop,
         },
     }
 }
@@ -83,10 +81,10 @@ fn within_at(text: &[u8], at: usize) -> Text
     let b = text[at];
     if b == b']' {
         match mark_end(text, at, b"]]>") {
-            Step::To(j) => {
+            Some(j) => {
                 return Text::Skip(j);
             }
-            Step::No => {
+            None => {
                 return Text::Letter(b']', text.len() + 1 + (at + 1));
             }
         }
@@ -108,21 +106,22 @@ pub fn text_at(text: &[u8], at: usize) -> Text
 }
 
 // The part of the text between the tags of the element at `at`, as it is written.
+#[tactic(auto, using(nodes::proofs::Laws::Texts::writing))]
 pub fn written<'t>(text: &'t [u8], at: usize) -> &'t [u8]
     ensures { result.now ≡ between_tags text.now at }
 {
     match text_start(text, at) {
-        Found::At(i) => {
+        Some(i) => {
             match contents_end(text, i) {
-                Step::To(j) => {
+                Some(j) => {
                     return &text[i..j];
                 }
-                Step::No => {
+                None => {
                     return &text[0..0];
                 }
             }
         }
-        Found::Nothing => {
+        None => {
             return &text[0..0];
         }
     }

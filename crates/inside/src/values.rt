@@ -9,41 +9,39 @@ use super::attributes::attribute;
 use heads::characters::reference_at;
 use letters::blanks::feed_end;
 use letters::classes::is_blank;
-use nodes::{Char, Found};
-use steps::characters::Reference;
 
 // The decoded byte at `at` in a value between two quotes.
-fn any_decoded(text: &[u8], at: usize, quote: u8) -> Char
+fn any_decoded(text: &[u8], at: usize, quote: u8) -> Option<(u8, usize)>
     ensures { result ≡ decoded_at text.now at quote }
 {
     if text.len() <= at {
-        return Char::End;
+        return None;
     }
     let b = text[at];
     if b == quote {
-        return Char::End;
+        return None;
     }
     if b == b'&' {
         match reference_at(text, at) {
-            Reference::Is(c, j) => {
-                return Char::Byte(c, j);
+            Some((c, j)) => {
+                return Some((c, j));
             }
-            Reference::No => {
-                return Char::Byte(b'&', at + 1);
+            None => {
+                return Some((b'&', at + 1));
             }
         }
     }
     if b == b'\r' {
-        return Char::Byte(b' ', feed_end(text, at + 1));
+        return Some((b' ', feed_end(text, at + 1)));
     }
     if is_blank(b) {
-        return Char::Byte(b' ', at + 1);
+        return Some((b' ', at + 1));
     }
-    Char::Byte(b, at + 1)
+    Some((b, at + 1))
 }
 
 // The same, quick where the byte is the quote, or reads as itself: those above the ampersand do.
-pub fn decoded(text: &[u8], at: usize, quote: u8) -> Char
+pub fn decoded(text: &[u8], at: usize, quote: u8) -> Option<(u8, usize)>
     ensures { result ≡ decoded_at text.now at quote }
 {
     if text.len() <= at {
@@ -51,12 +49,12 @@ pub fn decoded(text: &[u8], at: usize, quote: u8) -> Char
     }
     let b = text[at];
     if b == quote {
-        return Char::End;
+        return None;
     }
     if b <= b'&' {
         return any_decoded(text, at, quote);
     }
-    Char::Byte(b, at + 1)
+    Some((b, at + 1))
 }
 
 // The decoded bytes from `at` up to the quote are the word.
@@ -67,7 +65,7 @@ pub fn rest_is(text: &[u8], at: usize, quote: u8, word: &[u8]) -> bool
     let mut i = at;
     loop {
         match decoded(text, i, quote) {
-            Char::Byte(b, j) => {
+            Some((b, j)) => {
                 if k >= word.len() {
                     return false;
                 }
@@ -77,7 +75,7 @@ pub fn rest_is(text: &[u8], at: usize, quote: u8, word: &[u8]) -> bool
                 k += 1;
                 i = j;
             }
-            Char::End => {
+            None => {
                 if word.len() <= k {
                     return true;
                 }
@@ -108,7 +106,7 @@ fn behind_quote(text: &[u8], v: usize) -> usize
 }
 
 // The place behind the front part, where the value at `v` begins with it.
-pub fn begins(text: &[u8], v: usize, front: &[u8]) -> Found
+pub fn begins(text: &[u8], v: usize, front: &[u8]) -> Option<usize>
     ensures { result ≡ begins_at_lem text.now v front.now }
 {
     let q = quote_at(text, v);
@@ -116,19 +114,19 @@ pub fn begins(text: &[u8], v: usize, front: &[u8]) -> Found
     let mut i = behind_quote(text, v);
     while met < front.len() {
         match decoded(text, i, q) {
-            Char::Byte(b, j) => {
+            Some((b, j)) => {
                 if b != front[met] {
-                    return Found::Nothing;
+                    return None;
                 }
                 met += 1;
                 i = j;
             }
-            Char::End => {
-                return Found::Nothing;
+            None => {
+                return None;
             }
         }
     }
-    Found::At(i)
+    Some(i)
 }
 
 // The value that begins at `v`, with its quote, is the word.
@@ -143,7 +141,7 @@ pub fn attribute_is(text: &[u8], at: usize, name: &[u8], word: &[u8]) -> bool
     ensures { result ≡ same_bytes (value_at_name text.now at name.now) word.now }
 {
     match attribute(text, at, name) {
-        Found::At(v) => value_is(text, v, word),
-        Found::Nothing => word.len() == 0,
+        Some(v) => value_is(text, v, word),
+        None => word.len() == 0,
     }
 }

@@ -7,28 +7,27 @@ use super::names::name_is;
 use elements::children::{first_child, next_child};
 use elements::scan::tag_end;
 use nodes::scan::Tag;
-use nodes::{Found, Kid};
 
 // The n-th child of this name, from 0, of the element at `at`.
-pub fn child_named(text: &[u8], at: usize, word: &[u8], n: u64) -> Found
+pub fn child_named(text: &[u8], at: usize, word: &[u8], n: u64) -> Option<usize>
     ensures { result ≡ child_named word.now n text.now at }
 {
     let mut left = n;
     let mut kid = first_child(text, at);
     loop {
         match kid {
-            Kid::Child(k) => {
+            Some(k) => {
                 let passes = name_is(text, k, word);
                 if passes & (left == 0) {
-                    return Found::At(k);
+                    return Some(k);
                 }
                 kid = next_child(text, k);
                 if passes {
                     left -= 1;
                 }
             }
-            Kid::Done => {
-                return Found::Nothing;
+            None => {
+                return None;
             }
         }
     }

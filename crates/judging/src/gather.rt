@@ -9,7 +9,6 @@ use inside::names::name_is;
 use maps::fields::attribute_number;
 use maps::limits::MOST_RECORDS;
 use models::gather::Models;
-use nodes::Kid;
 
 // With the model at `at`, which is of this kind, behind those that are there.
 fn with_model(text: &[u8], at: usize, kind: u64, models: Models) -> Models
@@ -45,7 +44,7 @@ pub(crate) fn models_of(text: &[u8], map: usize) -> Models
     let mut kid = first_child(text, map);
     loop {
         match kid {
-            Kid::Child(k) => {
+            Some(k) => {
                 kid = next_child(text, k);
                 if name_is(text, k, b"BrainModel") {
                     let kind = kind_at(text, k);
@@ -58,7 +57,7 @@ pub(crate) fn models_of(text: &[u8], map: usize) -> Models
                     models = with_model(text, k, kind, models);
                 }
             }
-            Kid::Done => {
+            None => {
                 return models;
             }
         }

@@ -10,9 +10,7 @@ use inside::attributes::attribute;
 use maps::limits::MOST_LENGTH;
 use maps::survey::Seen;
 use models::volume::Sizes;
-use nodes::Found;
 use number_values::three_lengths;
-use numbers::Three;
 
 // The sizes of the Volume at `at`.
 fn sizes_at(text: &[u8], at: usize) -> Sizes
@@ -20,15 +18,15 @@ fn sizes_at(text: &[u8], at: usize) -> Sizes
     ensures { volume_from result ≡ sizes_by (sizes_at (the text.now at)) }
 {
     match attribute(text, at, b"VolumeDimensions") {
-        Found::At(v) => match three_lengths(text, v, MOST_LENGTH, MOST_LENGTH, MOST_LENGTH) {
-            Three::Are(l) => Sizes {
+        Some(v) => match three_lengths(text, v, MOST_LENGTH, MOST_LENGTH, MOST_LENGTH) {
+            Some(l) => Sizes {
                 i: l.i,
                 j: l.j,
                 k: l.k,
             },
-            Three::No => Sizes { i: 0, j: 0, k: 0 },
+            None => Sizes { i: 0, j: 0, k: 0 },
         },
-        Found::Nothing => Sizes { i: 0, j: 0, k: 0 },
+        None => Sizes { i: 0, j: 0, k: 0 },
     }
 }
 

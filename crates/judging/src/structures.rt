@@ -5,7 +5,6 @@ ghost use Rattle.nodes.specs.Places.{Stands, the};
 ghost use Rattle.cifti.specs.Words.{structures, number_in};
 
 use inside::attributes::attribute;
-use nodes::Found;
 use vocabulary::structure_named;
 
 // The structure of the model at `at`; 32 where it names none.
@@ -14,7 +13,7 @@ pub(crate) fn structure_number(text: &[u8], at: usize) -> u64
     ensures { result ≡ number_in structures (attr "BrainStructure" (the text.now at)) }
 {
     match attribute(text, at, b"BrainStructure") {
-        Found::At(v) => structure_named(text, v),
-        Found::Nothing => 32,
+        Some(v) => structure_named(text, v),
+        None => 32,
     }
 }

@@ -10,7 +10,6 @@ ghost use Rattle.label_table.specs.Labels.{twice_at};
 
 use known_keys::taken;
 use label_table::labels::first_label;
-use nodes::Kid;
 use parts::part_twice;
 
 // The keys, part by part in the order of the text.
@@ -21,7 +20,7 @@ fn search_in(text: &[u8], at: usize, work: &mut [u32]) -> bool
     let mut kid = first_label(text, at);
     loop {
         match kid {
-            Kid::Child(_) => {
+            Some(_) => {
                 let turn = taken(text, kid, work);
                 let n = turn.n;
                 kid = turn.next;
@@ -29,7 +28,7 @@ fn search_in(text: &[u8], at: usize, work: &mut [u32]) -> bool
                     return true;
                 }
             }
-            Kid::Done => {
+            None => {
                 return false;
             }
         }

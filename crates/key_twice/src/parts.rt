@@ -10,7 +10,6 @@ use known_keys::place_in;
 use known_keys::sieve::{passes, sieve};
 use label_table::codes::code_at;
 use label_table::labels::next_label;
-use nodes::Kid;
 
 // Two numbers are equal. Those in order are so next to each other.
 fn neighbours_alike(keys: &[u32]) -> bool
@@ -34,14 +33,14 @@ fn neighbours_alike(keys: &[u32]) -> bool
 }
 
 // A key from a Label on is one of the numbers. Most that are none are told by the sieve.
-fn one_sifted(text: &[u8], from: Kid, keys: &[u32], words: &[u64]) -> bool
+fn one_sifted(text: &[u8], from: Option<usize>, keys: &[u32], words: &[u64]) -> bool
     requires { Sifting keys.now words.now }
     ensures { result ≡ some_in keys.now (to_come text.now from) }
 {
     let mut kid = from;
     loop {
         match kid {
-            Kid::Child(k) => {
+            Some(k) => {
                 let code = code_at(text, k);
                 kid = next_label(text, k);
                 if passes(words, code) {
@@ -50,7 +49,7 @@ fn one_sifted(text: &[u8], from: Kid, keys: &[u32], words: &[u64]) -> bool
                     }
                 }
             }
-            Kid::Done => {
+            None => {
                 return false;
             }
         }
@@ -58,7 +57,7 @@ fn one_sifted(text: &[u8], from: Kid, keys: &[u32], words: &[u64]) -> bool
 }
 
 // With a sieve of its own.
-fn one_by_sieve(text: &[u8], from: Kid, keys: &[u32]) -> bool
+fn one_by_sieve(text: &[u8], from: Option<usize>, keys: &[u32]) -> bool
     requires { in_order keys.now ≡ true }
     ensures { result ≡ some_in keys.now (to_come text.now from) }
 {
@@ -68,18 +67,18 @@ fn one_by_sieve(text: &[u8], from: Kid, keys: &[u32]) -> bool
 }
 
 // The same; no sieve is made where no Label is left.
-fn one_of_later(text: &[u8], from: Kid, keys: &[u32]) -> bool
+fn one_of_later(text: &[u8], from: Option<usize>, keys: &[u32]) -> bool
     requires { in_order keys.now ≡ true }
     ensures { result ≡ some_in keys.now (to_come text.now from) }
 {
     match from {
-        Kid::Child(_) => one_by_sieve(text, from, keys),
-        Kid::Done => false,
+        Some(_) => one_by_sieve(text, from, keys),
+        None => false,
     }
 }
 
 // A key of the part stands in it twice, or once more from the Label on.
-pub(crate) fn part_twice(text: &[u8], next: Kid, part: &[u32]) -> bool
+pub(crate) fn part_twice(text: &[u8], next: Option<usize>, part: &[u32]) -> bool
     requires { in_order part.now ≡ true }
     ensures { result ≡ part_twice part.now (to_come text.now next) }
 {

@@ -5,7 +5,6 @@ ghost use Rattle.numbers.specs.Numbers.{words, key_list};
 ghost use Rattle.keys.specs.KeyLists.{SignRead, spelled, KeyRead, ListedKeyTold};
 
 use super::key_limit;
-use nodes::{Char, Found};
 use number_lists::chars::{blanks, digits, letter, word_ends};
 use number_lists::quick_number;
 use number_values::signed;
@@ -44,13 +43,13 @@ fn any_key(text: &[u8], at: usize) -> ListedKey
 {
     let i = blanks(text, at);
     match letter(text, i) {
-        Char::Byte(b, j) => {
+        Some((b, j)) => {
             if b == b'-' {
                 return key_from(text, j, true);
             }
             key_from(text, i, false)
         }
-        Char::End => ListedKey::End,
+        None => ListedKey::End,
     }
 }
 
@@ -90,7 +89,7 @@ pub fn are_keys(text: &[u8], at: usize) -> bool
     ensures { result ≡ key_list (text_of_lem text.now at) }
 {
     match inside::texts::text_start(text, at) {
-        Found::At(i) => keys_from(text, i),
-        Found::Nothing => true,
+        Some(i) => keys_from(text, i),
+        None => true,
     }
 }

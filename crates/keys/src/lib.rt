@@ -14,10 +14,9 @@ ghost use Rattle.numbers.specs.Stream.{stream};
 ghost use Rattle.keys.specs.Colours.{AtSight};
 
 pub use key_lists::{ListedKey, are_keys, next_key};
-use nodes::Char;
 use number_lists::chars::char_at;
 use number_values::{part_at, signed};
-use numbers::{Decimals, Key, Part, Source};
+use numbers::{Part, Source};
 use shade::in_shade;
 
 // The greatest number behind a sign.
@@ -31,32 +30,32 @@ pub fn key_limit(negative: bool) -> u64
 }
 
 // The key whose digits begin at `at`, its sign being read.
-fn key_from(text: &[u8], at: usize, source: Source, negative: bool) -> Key
+fn key_from(text: &[u8], at: usize, source: Source, negative: bool) -> Option<i32>
     ensures { result ≡ key_from (sign_if negative) (stream source text.now at) }
 {
     match part_at(text, at, source, 10, 0, key_limit(negative)) {
-        Part::Last(n) => Key::Is(signed(negative, n) as i32),
-        Part::Comma(_, _) => Key::No,
-        Part::No => Key::No,
+        Part::Last(n) => Some(signed(negative, n) as i32),
+        Part::Comma(_, _) => None,
+        Part::No => None,
     }
 }
 
 // The key that the value at `at` writes.
-pub fn key_value(text: &[u8], at: usize) -> Key
+pub fn key_value(text: &[u8], at: usize) -> Option<i32>
     ensures { result ≡ key_in (value_there text.now at) }
 {
     if text.len() <= at {
-        return Key::No;
+        return None;
     }
     let source = Source::Value(text[at]);
     match char_at(text, at + 1, source) {
-        Char::Byte(b, j) => {
+        Some((b, j)) => {
             if b == b'-' {
                 return key_from(text, j, source, true);
             }
             key_from(text, at + 1, source, false)
         }
-        Char::End => Key::No,
+        None => None,
     }
 }
 
@@ -65,8 +64,8 @@ pub fn is_key(text: &[u8], at: usize) -> bool
     ensures { result ≡ key (value_there text.now at) }
 {
     match key_value(text, at) {
-        Key::Is(_) => true,
-        Key::No => false,
+        Some(_) => true,
+        None => false,
     }
 }
 
@@ -93,7 +92,7 @@ pub fn is_colour(text: &[u8], at: usize) -> bool
         return true;
     }
     match number_values::decimal_value(text, at) {
-        Decimals::Is(d) => in_shade(d.amount, d.power),
-        Decimals::No => false,
+        Some(d) => in_shade(d.amount, d.power),
+        None => false,
     }
 }

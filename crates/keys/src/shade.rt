@@ -3,7 +3,6 @@ ghost use Rattle.std.specs.Prelude.{◌≡◌, ◌^◌, ◌<◌, pos};
 ghost use Rattle.numbers.specs.Answers.{shade};
 
 use number_values::in_value::{places_of, ten_to};
-use numbers::Whole;
 
 // An amount that is not below 0.
 fn shade_above(amount: u64, power: i64) -> bool
@@ -17,8 +16,8 @@ fn shade_above(amount: u64, power: i64) -> bool
         return false;
     }
     match places_of(power) {
-        Whole::Is(k) => amount <= ten_to(k),
-        Whole::No => true,
+        Some(k) => amount <= ten_to(k),
+        None => true,
     }
 }
 

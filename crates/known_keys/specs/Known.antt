@@ -1,9 +1,7 @@
 -- KEYS THAT STAND IN A TABLE OF LABELS, by their codes: how many of a list do, by turns; what a search tells.
-use Rattle.std.specs.Prelude.{◌≡◌, true, false, List, ◌++◌, ℕ, ◌≤◌, ◌<◌, ℤ, length, get_or, take}
+use Rattle.std.specs.Prelude.{◌≡◌, true, false, List, ◌++◌, ℕ, ◌≤◌, ◌<◌, ℤ, length, get_or, take, Option, Some}
 use Rattle.lists.specs.Lists.{all, count, each}
 use Rattle.numbers.specs.Numbers.{in_keys}
-use Rattle.nodes.specs.declared.Kid.{Kid}
-use Rattle.nodes.specs.declared.Kid.TheVariants.{Child}
 use Rattle.lists.specs.Reordered.{Reordered}
 use Rattle.lists.specs.Reordered.{member}
 use Rattle.label_table.specs.Walks.{to_come}
@@ -38,18 +36,18 @@ pub record Placed (keys : List ℕ) (code at : ℕ) : Type 0 where
 -- ---- A turn: the codes from a Label on, as many as there is room for, and the Label behind.
 
 -- the first n places hold them
-pub record KeysGathered (text : List ℕ) (from : Kid) (work : List ℕ) (n : ℕ) (next : Kid) : Type 0 where
+pub record KeysGathered (text : List ℕ) (from : Option ℕ) (work : List ℕ) (n : ℕ) (next : Option ℕ) : Type 0 where
   pub inside : n ≤ length work
   pub parts : take n work ++ to_come text next ≡ to_come text from
-  pub moves : {k : ℕ} → from ≡ Child k → 0 < length work → 0 < n
+  pub moves : {k : ℕ} → from ≡ Some k → 0 < length work → 0 < n
 
 -- the first n places hold them in their order
-pub record Taken (text : List ℕ) (from : Kid) (work : List ℕ) (n : ℕ) (next : Kid) : Type 0 where
+pub record Taken (text : List ℕ) (from : Option ℕ) (work : List ℕ) (n : ℕ) (next : Option ℕ) : Type 0 where
   pub codes : List ℕ
   pub inside : n ≤ length work
   pub as_many : length codes ≡ n
   pub parts : codes ++ to_come text next ≡ to_come text from
-  pub moves : {k : ℕ} → from ≡ Child k → 0 < length work → 0 < n
+  pub moves : {k : ℕ} → from ≡ Some k → 0 < length work → 0 < n
   pub ordered : in_order (take n work) ≡ true
   pub reordered : Reordered codes (take n work)
   pub same : (c : ℕ) → member c (take n work) ≡ member c codes

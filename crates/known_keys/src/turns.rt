@@ -4,30 +4,29 @@ ghost use Rattle.known_keys.specs.Known.{KeysGathered, Taken};
 use super::order::arrange;
 use label_table::codes::code_at;
 use label_table::labels::next_label;
-use nodes::Kid;
 
 // So many keys, and the Label behind theirs.
 #[derive(Clone, Copy)]
 pub struct Turn {
     pub n: usize,
-    pub next: Kid,
+    pub next: Option<usize>,
 }
 
 // The codes of the keys from a Label on are written from the start, as many as there is room for.
-fn gather(text: &[u8], from: Kid, work: &mut [u32]) -> Turn
+fn gather(text: &[u8], from: Option<usize>, work: &mut [u32]) -> Turn
     ensures { KeysGathered text.now from work.new result.n result.next }
 {
     let mut n = 0;
     let mut kid = from;
     while n < work.len() {
         match kid {
-            Kid::Child(k) => {
+            Some(k) => {
                 work[n] = code_at(text, k);
                 n += 1;
                 kid = next_label(text, k);
             }
-            Kid::Done => {
-                return Turn { n, next: Kid::Done };
+            None => {
+                return Turn { n, next: None };
             }
         }
     }
@@ -35,7 +34,7 @@ fn gather(text: &[u8], from: Kid, work: &mut [u32]) -> Turn
 }
 
 // The same, in their order.
-pub fn taken(text: &[u8], from: Kid, work: &mut [u32]) -> Turn
+pub fn taken(text: &[u8], from: Option<usize>, work: &mut [u32]) -> Turn
     ensures { Taken text.now from work.new result.n result.next }
 {
     let turn = gather(text, from, work);

@@ -1,6 +1,5 @@
 -- THE KEYS OF A TABLE written into a lent list: on any bytes, and, behind 1 to 9, 24 and 25, what is promised.
 use Rattle.std.specs.Prelude.{List, [], ℕ, ℤ}
-use Rattle.std.proofs.Math.Option
 use Rattle.label_table.specs.Labels.{table_keys_at, Wrote}
 
 -- ---- On any bytes: 17 where there is less room than keys, and the list as it was; else all of them.

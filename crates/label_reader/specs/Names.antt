@@ -1,8 +1,6 @@
 -- THE NAME OF A KEY: where it stands in the text. On any bytes, and, behind 1 to 9, 24 and 25, what is promised.
-use Rattle.std.specs.Prelude.{◌≡◌, List, [], ℕ, ℤ, length}
-use Rattle.std.proofs.Math.Option
+use Rattle.std.specs.Prelude.{◌≡◌, List, [], ℕ, ℤ, length, Some, None}
 use Rattle.nodes.specs.Inside.{between_tags}
-use Rattle.nodes.specs.declared.Found.TheVariants.{At, Nothing}
 use Rattle.label_table.specs.Labels.{label_with}
 use Rattle.cifti.specs.Labels.{LabelNumber, LabelPart}
 use Rattle.inside.specs.One.{tag_end}
@@ -19,5 +17,5 @@ LabelPlaced text lengths dimension index key r =
 -- ---- On any bytes, in the table at a place: 19 where no Label has the key; else where the first that has it stands.
 
 pub record InTable (text : List ℕ) (at : ℕ) (key : ℤ) (r : NamePlace) : Type 0 where
-  pub missing : label_with key text at ≡ Nothing → Is r 19 0 0
-  pub found : (k : ℕ) → label_with key text at ≡ At k → Is r 0 (tag_end text k) (length (between_tags text k))
+  pub missing : label_with key text at ≡ None → Is r 19 0 0
+  pub found : (k : ℕ) → label_with key text at ≡ Some k → Is r 0 (tag_end text k) (length (between_tags text k))

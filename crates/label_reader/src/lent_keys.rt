@@ -5,7 +5,6 @@ ghost use Rattle.label_reader.specs.Keys.{WrittenTo};
 use super::before::number_before;
 use label_table::{Filled, fill_keys, key_count};
 use map_names::named_there;
-use nodes::Found;
 use records::Index;
 
 // The keys of the table at `at`, where there is room for them.
@@ -44,8 +43,8 @@ pub fn label_keys(
         };
     }
     match named_there(text, dimension, index, b"LabelTable") {
-        Found::At(t) => keys_from(text, t, keys),
-        Found::Nothing => Filled {
+        Some(t) => keys_from(text, t, keys),
+        None => Filled {
             number: 18,
             count: 0,
         },

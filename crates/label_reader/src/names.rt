@@ -7,7 +7,6 @@ use inside::texts::written;
 use inside::ways::behind_tag;
 use label_table::label_with;
 use map_names::{NamePlace, named_there};
-use nodes::Found;
 use records::Index;
 
 // The first Label of the table at `at` that has the key.
@@ -15,7 +14,7 @@ fn place_in(text: &[u8], at: usize, key: i32) -> NamePlace
     ensures { InTable text.now at key result }
 {
     match label_with(text, at, key) {
-        Found::At(k) => {
+        Some(k) => {
             let part = written(text, k);
             NamePlace {
                 number: 0,
@@ -23,7 +22,7 @@ fn place_in(text: &[u8], at: usize, key: i32) -> NamePlace
                 length: part.len(),
             }
         }
-        Found::Nothing => NamePlace {
+        None => NamePlace {
             number: 19,
             start: 0,
             length: 0,
@@ -50,8 +49,8 @@ pub fn label_place(
         };
     }
     match named_there(text, dimension, index, b"LabelTable") {
-        Found::At(t) => place_in(text, t, key),
-        Found::Nothing => NamePlace {
+        Some(t) => place_in(text, t, key),
+        None => NamePlace {
             number: 18,
             start: 0,
             length: 0,

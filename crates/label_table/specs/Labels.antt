@@ -1,48 +1,43 @@
 -- A TABLE OF LABELS AT A PLACE, on any bytes: the places of its Labels, and the keys that they write. What is in no form reads as 0; the
 -- laws say what it all is where an element stands whose keys are in form.
-use Rattle.std.specs.Prelude.{◌≡◌, List, [], ◌∷◌, Bool, ℕ, ◌≤◌, ◌<◌, ℤ, pos, length}
+use Rattle.std.specs.Prelude.{◌≡◌, List, [], ◌∷◌, Bool, ℕ, ◌≤◌, ◌<◌, ℤ, pos, length, Option, Some, None}
 use Rattle.lists.specs.Lists.{those, two_of, each}
 use Rattle.grammar.specs.Bytes.{ascii}
 use Rattle.nodes.specs.Children.{first_child, next}
 use Rattle.nodes.specs.Found.{value_at_name}
-use Rattle.nodes.specs.declared.Kid.{Kid}
-use Rattle.nodes.specs.declared.Kid.TheVariants.{Child, Done}
-use Rattle.nodes.specs.declared.Found.{Found}
 use Rattle.numbers.specs.Numbers.{same_key}
 use Rattle.numbers.specs.Answers.{key_in}
-use Rattle.numbers.specs.declared.Key.{Key}
-use Rattle.numbers.specs.declared.Key.TheVariants.{Is, No}
 use Rattle.inside.specs.Walked.{places_from, nth_place}
 use Rattle.inside.specs.Treads.{called}
 
 -- ---- The Labels.
 
 -- their places, from a child on; and all
-unfoldable pub labels_from : List ℕ → Kid → List ℕ
+unfoldable pub labels_from : List ℕ → Option ℕ → List ℕ
 labels_from text kid = those (called text (ascii "Label")) (places_from text kid)
 
 unfoldable pub labels : List ℕ → ℕ → List ℕ
 labels text at = labels_from text (first_child text at)
 
 -- the first of them, and the next
-unfoldable pub first_or_done : List ℕ → Kid
-first_or_done [] = Done
-first_or_done (k ∷ l) = Child k
+unfoldable pub first_or_done : List ℕ → Option ℕ
+first_or_done [] = None
+first_or_done (k ∷ l) = Some k
 
-unfoldable pub label_from : List ℕ → Kid → Kid
+unfoldable pub label_from : List ℕ → Option ℕ → Option ℕ
 label_from text kid = first_or_done (labels_from text kid)
 
-unfoldable pub first_label : List ℕ → ℕ → Kid
+unfoldable pub first_label : List ℕ → ℕ → Option ℕ
 first_label text at = label_from text (first_child text at)
 
-unfoldable pub next_label : List ℕ → ℕ → Kid
+unfoldable pub next_label : List ℕ → ℕ → Option ℕ
 next_label text k = label_from text (next text k)
 
 -- ---- Their keys.
 
-unfoldable pub key_or_zero : Key → ℤ
-key_or_zero (Is k) = k
-key_or_zero No = pos 0
+unfoldable pub key_or_zero : Option ℤ → ℤ
+key_or_zero (Some k) = k
+key_or_zero None = pos 0
 
 unfoldable pub key_here : List ℕ → ℕ → ℤ
 key_here text k = key_or_zero (key_in (value_at_name text k (ascii "Key")))
@@ -65,7 +60,7 @@ pub record Wrote (l before : List ℤ) (number count : ℕ) (after : List ℤ) :
 unfoldable pub has_key : ℤ → List ℕ → ℕ → Bool
 has_key key text k = same_key key (key_here text k)
 
-unfoldable pub label_with : ℤ → List ℕ → ℕ → Found
+unfoldable pub label_with : ℤ → List ℕ → ℕ → Option ℕ
 label_with key text at = nth_place 0 (those (has_key key text) (labels text at))
 
 -- a key stands twice

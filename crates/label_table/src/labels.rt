@@ -6,38 +6,36 @@ use elements::children::{first_child, next_child};
 use inside::attributes::attribute;
 use inside::names::name_is;
 use keys::key_value;
-use nodes::{Found, Kid};
-use numbers::Key;
 
 // The first Label from a child on.
-fn label_from(text: &[u8], from: Kid) -> Kid
+fn label_from(text: &[u8], from: Option<usize>) -> Option<usize>
     ensures { result ≡ label_from text.now from }
 {
     let mut kid = from;
     loop {
         match kid {
-            Kid::Child(k) => {
+            Some(k) => {
                 if name_is(text, k, b"Label") {
-                    return Kid::Child(k);
+                    return Some(k);
                 }
                 kid = next_child(text, k);
             }
-            Kid::Done => {
-                return Kid::Done;
+            None => {
+                return None;
             }
         }
     }
 }
 
 // The first Label of the table at `at`.
-pub fn first_label(text: &[u8], at: usize) -> Kid
+pub fn first_label(text: &[u8], at: usize) -> Option<usize>
     ensures { result ≡ first_label text.now at }
 {
     label_from(text, first_child(text, at))
 }
 
 // The next Label behind the one at `at`.
-pub fn next_label(text: &[u8], at: usize) -> Kid
+pub fn next_label(text: &[u8], at: usize) -> Option<usize>
     ensures { result ≡ next_label text.now at }
 {
     label_from(text, next_child(text, at))
@@ -48,10 +46,10 @@ pub fn key_of(text: &[u8], at: usize) -> i32
     ensures { result ≡ key_here text.now at }
 {
     match attribute(text, at, b"Key") {
-        Found::At(v) => match key_value(text, v) {
-            Key::Is(k) => k,
-            Key::No => 0,
+        Some(v) => match key_value(text, v) {
+            Some(k) => k,
+            None => 0,
         },
-        Found::Nothing => 0,
+        None => 0,
     }
 }

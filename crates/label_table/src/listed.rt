@@ -3,7 +3,6 @@ ghost use Rattle.std.specs.Prelude.{◌≡◌, length};
 ghost use Rattle.label_table.specs.Labels.{table_keys_at, keys_written, label_with};
 
 use super::labels::{first_label, key_of, next_label};
-use nodes::{Found, Kid};
 
 // What those answer that write keys into a lent slice: the number of the refusal, or 0, and then how many keys were written.
 #[derive(Clone, Copy)]
@@ -20,11 +19,11 @@ pub fn key_count(text: &[u8], at: usize) -> usize
     let mut kid = first_label(text, at);
     loop {
         match kid {
-            Kid::Child(k) => {
+            Some(k) => {
                 kid = next_label(text, k);
                 n += 1;
             }
-            Kid::Done => {
+            None => {
                 return n;
             }
         }
@@ -39,12 +38,12 @@ pub fn fill_keys(text: &[u8], at: usize, keys: &mut [i32])
     let mut kid = first_label(text, at);
     while n < keys.len() {
         match kid {
-            Kid::Child(k) => {
+            Some(k) => {
                 keys[n] = key_of(text, k);
                 n += 1;
                 kid = next_label(text, k);
             }
-            Kid::Done => {
+            None => {
                 return;
             }
         }
@@ -52,20 +51,20 @@ pub fn fill_keys(text: &[u8], at: usize, keys: &mut [i32])
 }
 
 // The first Label that has the key.
-pub fn label_with(text: &[u8], at: usize, key: i32) -> Found
+pub fn label_with(text: &[u8], at: usize, key: i32) -> Option<usize>
     ensures { result ≡ label_with key text.now at }
 {
     let mut kid = first_label(text, at);
     loop {
         match kid {
-            Kid::Child(k) => {
+            Some(k) => {
                 kid = next_label(text, k);
                 if key_of(text, k) == key {
-                    return Found::At(k);
+                    return Some(k);
                 }
             }
-            Kid::Done => {
-                return Found::Nothing;
+            None => {
+                return None;
             }
         }
     }

@@ -10,7 +10,6 @@ use answers::is_labels;
 use elements::children::{first_child, next_child};
 use inside::names::name_is;
 use maps::survey::{MapNote, Maps, nth};
-use nodes::Kid;
 
 // In a LabelTable of the NamedMap at `at`.
 fn named_twice(text: &[u8], at: usize, work: &mut [u32]) -> bool
@@ -19,7 +18,7 @@ fn named_twice(text: &[u8], at: usize, work: &mut [u32]) -> bool
     let mut kid = first_child(text, at);
     loop {
         match kid {
-            Kid::Child(k) => {
+            Some(k) => {
                 kid = next_child(text, k);
                 if name_is(text, k, b"LabelTable") {
                     if key_twice::key_twice(text, k, work) {
@@ -27,7 +26,7 @@ fn named_twice(text: &[u8], at: usize, work: &mut [u32]) -> bool
                     }
                 }
             }
-            Kid::Done => {
+            None => {
                 return false;
             }
         }
@@ -41,7 +40,7 @@ fn tables_twice(text: &[u8], at: usize, work: &mut [u32]) -> bool
     let mut kid = first_child(text, at);
     loop {
         match kid {
-            Kid::Child(k) => {
+            Some(k) => {
                 kid = next_child(text, k);
                 if name_is(text, k, b"NamedMap") {
                     if named_twice(text, k, work) {
@@ -49,7 +48,7 @@ fn tables_twice(text: &[u8], at: usize, work: &mut [u32]) -> bool
                     }
                 }
             }
-            Kid::Done => {
+            None => {
                 return false;
             }
         }

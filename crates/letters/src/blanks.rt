@@ -1,16 +1,15 @@
 // Blanks, marks, and what stands behind blanks.
-ghost use Rattle.std.specs.Prelude.{◌≡◌, length, drop};
+ghost use Rattle.std.specs.Prelude.{◌≡◌, length, drop, Some};
 ghost use Rattle.grammar.specs.Bytes.{ascii, blank, begins};
 ghost use Rattle.grammar.specs.Read.{span, mark};
 ghost use Rattle.grammar.specs.Parser.{gap_at, equals_at, feed_at, ends, closing, asking};
 ghost use Rattle.steps.specs.Step.{stepped};
 
 use super::classes::is_blank;
-use steps::Step;
 
 // Where the blanks at `at` end.
 pub fn blanks_end(text: &[u8], at: usize) -> usize
-    ensures { Step.To result ≡ stepped (length text.now) (span blank (drop at text.now)) }
+    ensures { Some result ≡ stepped (length text.now) (span blank (drop at text.now)) }
 {
     let mut i = at;
     while i < text.len() {
@@ -23,21 +22,21 @@ pub fn blanks_end(text: &[u8], at: usize) -> usize
 }
 
 // Blanks, one at least.
-pub fn gap_end(text: &[u8], at: usize) -> Step
+pub fn gap_end(text: &[u8], at: usize) -> Option<usize>
     ensures { result ≡ stepped (length text.now) (gap_at (drop at text.now)) }
 {
     if text.len() <= at {
-        return Step::No;
+        return None;
     }
     if !is_blank(text[at]) {
-        return Step::No;
+        return None;
     }
-    Step::To(blanks_end(text, at + 1))
+    Some(blanks_end(text, at + 1))
 }
 
 // Where the end of a line ends, `at` behind its carriage return: behind the line feed, if one stands there.
 pub fn feed_end(text: &[u8], at: usize) -> usize
-    ensures { Step.To result ≡ stepped (length text.now) (feed_at (ascii "\n") (drop at text.now)) }
+    ensures { Some result ≡ stepped (length text.now) (feed_at (ascii "\n") (drop at text.now)) }
 {
     if text.len() <= at {
         return text.len();
@@ -49,39 +48,39 @@ pub fn feed_end(text: &[u8], at: usize) -> usize
 }
 
 // `=`, with blanks round it.
-pub fn equals_end(text: &[u8], at: usize) -> Step
+pub fn equals_end(text: &[u8], at: usize) -> Option<usize>
     ensures { result ≡ stepped (length text.now) (equals_at (drop at text.now)) }
 {
     let i = blanks_end(text, at);
     if text.len() <= i {
-        return Step::No;
+        return None;
     }
     if text[i] != b'=' {
-        return Step::No;
+        return None;
     }
-    Step::To(blanks_end(text, i + 1))
+    Some(blanks_end(text, i + 1))
 }
 
 // The bytes of the word.
-pub fn mark_end(text: &[u8], at: usize, word: &[u8]) -> Step
+pub fn mark_end(text: &[u8], at: usize, word: &[u8]) -> Option<usize>
     ensures { result ≡ stepped (length text.now) (mark word.now (drop at text.now)) }
 {
     let mut i = at;
     let mut k = 0;
     while k < word.len() {
         if text.len() <= i {
-            return Step::No;
+            return None;
         }
         if text[i] != word[k] {
-            return Step::No;
+            return None;
         }
         i += 1;
         k += 1;
     }
     if text.len() < i {
-        return Step::To(text.len());
+        return Some(text.len());
     }
-    Step::To(i)
+    Some(i)
 }
 
 // The word stands at `at`.
@@ -89,8 +88,8 @@ pub fn starts(text: &[u8], at: usize, word: &[u8]) -> bool
     ensures { result ≡ begins word.now (drop at text.now) }
 {
     match mark_end(text, at, word) {
-        Step::To(_) => true,
-        Step::No => false,
+        Some(_) => true,
+        None => false,
     }
 }
 

@@ -1,16 +1,15 @@
 // Names.
-ghost use Rattle.std.specs.Prelude.{◌≡◌, length, drop};
+ghost use Rattle.std.specs.Prelude.{◌≡◌, length, drop, Some};
 ghost use Rattle.grammar.specs.Bytes.{name_byte};
 ghost use Rattle.grammar.specs.Read.{span};
 ghost use Rattle.grammar.specs.Parser.{name_at, same_bytes};
 ghost use Rattle.steps.specs.Step.{stepped};
 
 use super::classes::{is_name_byte, is_name_start};
-use steps::Step;
 
 // Where the bytes of a name at `at` end.
 pub fn name_bytes_end(text: &[u8], at: usize) -> usize
-    ensures { Step.To result ≡ stepped (length text.now) (span name_byte (drop at text.now)) }
+    ensures { Some result ≡ stepped (length text.now) (span name_byte (drop at text.now)) }
 {
     let mut i = at;
     while i < text.len() {
@@ -23,20 +22,20 @@ pub fn name_bytes_end(text: &[u8], at: usize) -> usize
 }
 
 // A name, of 64 bytes at most.
-pub fn name_end(text: &[u8], at: usize) -> Step
+pub fn name_end(text: &[u8], at: usize) -> Option<usize>
     ensures { result ≡ stepped (length text.now) (name_at (drop at text.now)) }
 {
     if text.len() <= at {
-        return Step::No;
+        return None;
     }
     if !is_name_start(text[at]) {
-        return Step::No;
+        return None;
     }
     let i = name_bytes_end(text, at + 1);
     if 64 < i - at {
-        return Step::No;
+        return None;
     }
-    Step::To(i)
+    Some(i)
 }
 
 // Two words are the same.

@@ -1,7 +1,5 @@
 -- THE LISTER'S DECISION, over the first line and how many bytes of text came behind it, the first of which are in a buffer.
-use Rattle.std.specs.Prelude.{◌≡◌, List, true, false, ℕ, ◌≤◌, ◌<◌, length, take, replicate}
-use Rattle.std.proofs.Math.Option.{some}
-use Rattle.std.proofs.Math.Option
+use Rattle.std.specs.Prelude.{◌≡◌, List, true, false, ℕ, ◌≤◌, ◌<◌, length, take, replicate, Some, None}
 use Rattle.cifti.specs.Conditions.{lengths_wrong}
 use Rattle.cifti.specs.Answer.{refused_with, Reads}
 use Rattle.cifti.specs.declared.answer.Answer.{Answer}
@@ -21,6 +19,6 @@ pub data Chooses (lengths buffer : List ℕ) (came : ℕ) (records work : List �
 pub data Decides (line buffer : List ℕ) (came : ℕ) (records work : List ℕ)
     : (answer : Answer) (records_after workAfter : List ℕ) → Type 0 where
   -- bad form: 1, first
-  bad_form : lengths_in line ≡ Option.none → Decides line buffer came records work (refused_with 1) records (replicate (length work) 0)
-  good_form : {lengths : List ℕ} {a : Answer} {s w : List ℕ} → lengths_in line ≡ some lengths
+  bad_form : lengths_in line ≡ None → Decides line buffer came records work (refused_with 1) records (replicate (length work) 0)
+  good_form : {lengths : List ℕ} {a : Answer} {s w : List ℕ} → lengths_in line ≡ Some lengths
       → Chooses lengths buffer came records work a s w → Decides line buffer came records work a s w

@@ -2,9 +2,8 @@
 -- of them; then none reaches past the sum.
 -- A CHAIN DECIDES IT: from 0, go to the range that begins where the last one ended. The ranges tile if and only if that comes out at the
 -- sum.
-use Rattle.std.specs.Prelude.{◌≡◌, Bool, ◌&&◌, eqb}
+use Rattle.std.specs.Prelude.{◌≡◌, Bool, ◌&&◌, eqb, Option, Some, None}
 use mathlib.Core.List.{List, [], ◌∷◌}
-use Rattle.std.proofs.Math.Option.{Option, some}
 use Rattle.std.proofs.Math.Bool.{cond}
 use Prim.Native.Nat.{ℕ, ◌+◌, ◌<◌}
 use Rattle.std.proofs.Math.Dec.{leb, ltb}
@@ -40,10 +39,10 @@ tiling l = all_below (sum_of l) (λ n. eqb (count (in_range n) l) 1)
 
 -- the first range that begins at the index
 unfoldable pub begins_at : ℕ → List Range → Option Range
-begins_at c [] = Option.none
-begins_at c (r ∷ l) = cond (eqb r.offset c) (some r) (begins_at c l)
+begins_at c [] = None
+begins_at c (r ∷ l) = cond (eqb r.offset c) (Some r) (begins_at c l)
 
 -- an end of the chain
 pub data Chain (l : List Range) : ℕ → Type 0 where
   start : Chain l 0
-  on : {c : ℕ} {r : Range} → Chain l c → begins_at c l ≡ some r → Chain l (c + r.size)
+  on : {c : ℕ} {r : Range} → Chain l c → begins_at c l ≡ Some r → Chain l (c + r.size)

@@ -10,8 +10,6 @@ ghost use Rattle.schema.specs.Asked.{Known, Lined, TurnAsked};
 
 use crate::table;
 use letters::names::name_end;
-use nodes::Found;
-use steps::Step;
 
 // The name of the element at `at`.
 pub fn name<'t>(text: &'t [u8], at: usize) -> &'t [u8]
@@ -19,10 +17,10 @@ pub fn name<'t>(text: &'t [u8], at: usize) -> &'t [u8]
     ensures { result.now ≡ name_of (the text.now at) }
 {
     match name_end(text, at + 1) {
-        Step::To(e) => {
+        Some(e) => {
             return &text[at + 1..e];
         }
-        Step::No => {
+        None => {
             return &text[0..0];
         }
     }
@@ -52,12 +50,12 @@ fn chosen(text: &[u8], at: usize, table: &[u32], letters: &[u8], choice: usize) 
 {
     let w = table::choice_cell(table, choice, 0);
     match inside::attributes::attribute(text, at, table::word(table, letters, w)) {
-        Found::At(v) => {
+        Some(v) => {
             let from = table::choice_cell(table, choice, 1);
             let to = table::choice_cell(table, choice, 2);
             return kind_in(text, v, table, letters, from, to);
         }
-        Found::Nothing => {
+        None => {
             return 4294967296;
         }
     }

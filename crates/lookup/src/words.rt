@@ -7,7 +7,6 @@ ghost use Rattle.schema.specs.Asked.{WordsNamed};
 
 use crate::table;
 use inside::values::{begins, quote_at, rest_is};
-use nodes::Found;
 
 // The first of the words from `from` up to `to` that the decoded bytes from `at` up to the quote are, or `to`.
 fn rest_place(
@@ -48,10 +47,10 @@ pub fn word_place(
         (value_there text.now v) }
 {
     match begins(text, v, table::front(table, letters, front)) {
-        Found::At(i) => {
+        Some(i) => {
             return rest_place(text, i, quote_at(text, v), table, letters, from, to);
         }
-        Found::Nothing => {
+        None => {
             if from < to {
                 return to;
             }

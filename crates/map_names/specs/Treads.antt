@@ -1,26 +1,22 @@
 -- THE WAY TO A MAP NAME AS THE PROGRAM GOES IT, on any bytes.
-use Rattle.std.specs.Prelude.{List, [], ◌∷◌, Bool, false, ◌&&◌, ℕ, ltb}
+use Rattle.std.specs.Prelude.{List, [], ◌∷◌, Bool, false, ◌&&◌, ℕ, ltb, Option, Some, None}
 use Rattle.grammar.specs.Bytes.{ascii}
 use Rattle.nodes.specs.Attributes.{place}
 use Rattle.nodes.specs.Values.{value_there}
 use Rattle.nodes.specs.Root.{root}
-use Rattle.nodes.specs.declared.Found.{Found}
-use Rattle.nodes.specs.declared.Found.TheVariants.{At, Nothing}
 use Rattle.numbers.specs.Answers.{between_in}
-use Rattle.numbers.specs.declared.Whole.{Whole}
-use Rattle.numbers.specs.declared.Whole.TheVariants as whole
 use Rattle.inside.specs.Treads.{called}
 use Rattle.inside.specs.Treads.{Tread, tread, trod_from}
 
 -- ---- A map that lists the dimension.
 
-unfoldable pub some_of : Whole → Bool
-some_of (whole.Is n) = ltb 0 n
-some_of whole.No = false
+unfoldable pub some_of : Option ℕ → Bool
+some_of (Some n) = ltb 0 n
+some_of None = false
 
-unfoldable pub lists_by : List ℕ → ℕ → Found → Bool
-lists_by text d (At v) = some_of (between_in d d (value_there text v))
-lists_by text d Nothing = false
+unfoldable pub lists_by : List ℕ → ℕ → Option ℕ → Bool
+lists_by text d (Some v) = some_of (between_in d d (value_there text v))
+lists_by text d None = false
 
 unfoldable pub lists_at : List ℕ → ℕ → ℕ → Bool
 lists_at text d at = lists_by text d (place text at (ascii "AppliesToMatrixDimension"))
@@ -40,8 +36,8 @@ unfoldable pub map_treads : List ℕ → ℕ → List Tread
 map_treads text d = tread (called text (ascii "Matrix")) 0 ∷ tread (map_lists_at text d) 0 ∷ []
 
 -- where the map that lists the dimension stands, and where the child of that name stands; any bytes
-unfoldable pub map_there : (text : List ℕ) (dimension : ℕ) → Found
+unfoldable pub map_there : (text : List ℕ) (dimension : ℕ) → Option ℕ
 map_there text d = trod_from (map_treads text d) text (root text)
 
-unfoldable pub named_at : (text word : List ℕ) (dimension index : ℕ) → Found
+unfoldable pub named_at : (text word : List ℕ) (dimension index : ℕ) → Option ℕ
 named_at text w d i = trod_from (name_treads text w d i) text (root text)

@@ -12,9 +12,7 @@ use inside::attributes::attribute;
 use inside::names::name_is;
 use inside::texts::written;
 use inside::ways::{behind_tag, child_named};
-use nodes::{Found, Kid};
 use number_values::dimensions_between;
-use numbers::Whole;
 use records::Index;
 
 // The number of the refusal, or 0, and then where the name starts in the text, and its length.
@@ -30,11 +28,11 @@ fn lists(text: &[u8], at: usize, dimension: u64) -> bool
     ensures { result ≡ lists_at text.now dimension at }
 {
     match attribute(text, at, b"AppliesToMatrixDimension") {
-        Found::At(v) => match dimensions_between(text, v, dimension, dimension) {
-            Whole::Is(n) => 0 < n,
-            Whole::No => false,
+        Some(v) => match dimensions_between(text, v, dimension, dimension) {
+            Some(n) => 0 < n,
+            None => false,
         },
-        Found::Nothing => false,
+        None => false,
     }
 }
 
@@ -48,55 +46,55 @@ fn map_lists(text: &[u8], at: usize, dimension: u64) -> bool
 }
 
 // The first map that lists the dimension, in the Matrix at `at`.
-fn map_on(text: &[u8], at: usize, dimension: u64) -> Found
+fn map_on(text: &[u8], at: usize, dimension: u64) -> Option<usize>
     ensures { result ≡ child_at (map_lists_at text.now dimension) 0 text.now at }
 {
     let mut kid = first_child(text, at);
     loop {
         match kid {
-            Kid::Child(k) => {
+            Some(k) => {
                 if map_lists(text, k, dimension) {
-                    return Found::At(k);
+                    return Some(k);
                 }
                 kid = next_child(text, k);
             }
-            Kid::Done => {
-                return Found::Nothing;
+            None => {
+                return None;
             }
         }
     }
 }
 
 // The first child of this name in the NamedMap of this index, in the map at `at`.
-fn name_on(text: &[u8], at: usize, index: Index, word: &[u8]) -> Found
+fn name_on(text: &[u8], at: usize, index: Index, word: &[u8]) -> Option<usize>
     ensures { result ≡ trod (in_map_treads text.now word.now index.0) text.now at }
 {
     match child_named(text, at, b"NamedMap", index.0) {
-        Found::At(k) => child_named(text, k, word, 0),
-        Found::Nothing => Found::Nothing,
+        Some(k) => child_named(text, k, word, 0),
+        None => None,
     }
 }
 
 // The map that lists the dimension, from the root.
-pub fn map_there(text: &[u8], dimension: u64) -> Found
+pub fn map_there(text: &[u8], dimension: u64) -> Option<usize>
     ensures { result ≡ map_there text.now dimension }
 {
     match root_of(text) {
-        Kid::Child(root) => match child_named(text, root, b"Matrix", 0) {
-            Found::At(m) => map_on(text, m, dimension),
-            Found::Nothing => Found::Nothing,
+        Some(root) => match child_named(text, root, b"Matrix", 0) {
+            Some(m) => map_on(text, m, dimension),
+            None => None,
         },
-        Kid::Done => Found::Nothing,
+        None => None,
     }
 }
 
 // The child of that name on it.
-pub fn named_there(text: &[u8], dimension: u64, index: Index, word: &[u8]) -> Found
+pub fn named_there(text: &[u8], dimension: u64, index: Index, word: &[u8]) -> Option<usize>
     ensures { result ≡ named_at text.now word.now dimension index.0 }
 {
     match map_there(text, dimension) {
-        Found::At(k) => name_on(text, k, index, word),
-        Found::Nothing => Found::Nothing,
+        Some(k) => name_on(text, k, index, word),
+        None => None,
     }
 }
 
@@ -112,7 +110,7 @@ pub fn place_of(text: &[u8], number: u64, dimension: u64, index: Index) -> NameP
         };
     }
     match named_there(text, dimension, index, b"MapName") {
-        Found::At(k) => {
+        Some(k) => {
             let part = written(text, k);
             NamePlace {
                 number: 0,
@@ -120,7 +118,7 @@ pub fn place_of(text: &[u8], number: u64, dimension: u64, index: Index) -> NameP
                 length: part.len(),
             }
         }
-        Found::Nothing => NamePlace {
+        None => NamePlace {
             number: 18,
             start: 0,
             length: 0,

@@ -1,6 +1,5 @@
 -- A model that passes 6 and 7: of a surface or of voxels, as its ModelType says.
 use Rattle.std.specs.Prelude.{◌≡◌, [], true, false}
-use Rattle.std.proofs.Math.Option
 use Rattle.grammar.specs.Document.{Element}
 use Rattle.grammar.specs.Look.{has}
 use Rattle.cifti.specs.Rows.{surface, voxels}

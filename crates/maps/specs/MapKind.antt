@@ -1,6 +1,5 @@
 -- A map that passes 6 and 7: of a kind that is read, and good as the row of its kind.
 use Rattle.std.specs.Prelude.{◌≡◌, List, [], ◌∷◌}
-use Rattle.std.proofs.Math.Option
 use Rattle.lists.specs.Lists.{each}
 use Rattle.grammar.specs.Document.{Element}
 use Rattle.schema.specs.Schema.{Case}

@@ -1,6 +1,5 @@
 -- Conditions 4 and 5: the root, and the kinds of maps that are not read.
 use Rattle.std.specs.Prelude.{[], Bool}
-use Rattle.std.proofs.Math.Option
 use Rattle.grammar.specs.Document.{Element}
 use Rattle.grammar.specs.Look.{has}
 

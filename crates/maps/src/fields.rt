@@ -4,9 +4,6 @@ ghost use Rattle.nodes.specs.Places.{Stands, the};
 ghost use Rattle.grammar.specs.Parser.{same_bytes};
 ghost use Rattle.maps.specs.Fields.{attribute_word, number_seen};
 
-use nodes::Found;
-use numbers::Whole;
-
 // The attribute's value is the word; a missing one is empty.
 pub fn attribute_is(text: &[u8], at: usize, name: &[u8], word: &[u8]) -> bool
     ensures { Stands text.now at
@@ -21,10 +18,10 @@ pub fn attribute_number(text: &[u8], at: usize, name: &[u8], lo: u64, hi: u64) -
         → result ≡ number_seen lo hi (attribute_word name.now (the text.now at)) }
 {
     match inside::attributes::attribute(text, at, name) {
-        Found::At(v) => match number_values::whole_value(text, v, lo, hi) {
-            Whole::Is(n) => n,
-            Whole::No => 0,
+        Some(v) => match number_values::whole_value(text, v, lo, hi) {
+            Some(n) => n,
+            None => 0,
         },
-        Found::Nothing => 0,
+        None => 0,
     }
 }

@@ -14,7 +14,6 @@ use maps::limits::MOST_RECORDS;
 use marks::mark;
 use models::listing::{Triple, list_start, next_voxel};
 use models::volume::Sizes;
-use nodes::Found;
 use number_lists::{any_number, quick_number};
 use numbers::Next;
 use records::Vertex;
@@ -151,14 +150,14 @@ pub(crate) fn marked_list(
     ensures { ModelTold (volume_from sizes) grid (model_of (the text.now at)) work.old result work.new }
 {
     match list_start(text, at) {
-        Found::At(i) => {
+        Some(i) => {
             if 32 <= kind {
                 return marked_voxels(text, i, length, sizes, grid, work);
             }
             let surface = attribute_number(text, at, b"SurfaceNumberOfVertices", 1, MOST_RECORDS);
             marked_vertices(text, i, length, surface, first, work)
         }
-        Found::Nothing => Verdict {
+        None => Verdict {
             number: 11,
             apart: false,
         },

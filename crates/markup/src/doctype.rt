@@ -7,7 +7,6 @@ ghost use Rattle.steps.specs.Leaves.{doctype_rest_at};
 
 use heads::characters::character_end;
 use letters::blanks::mark_end;
-use steps::Step;
 
 // A DOCTYPE passes over it.
 fn is_skipped(a: u8) -> bool
@@ -17,44 +16,44 @@ fn is_skipped(a: u8) -> bool
 }
 
 // A character that it passes over.
-fn skipped_end(text: &[u8], at: usize) -> Step
+fn skipped_end(text: &[u8], at: usize) -> Option<usize>
     ensures { result ≡ stepped (length text.now) (skipped_at (drop at text.now)) }
 {
     if text.len() <= at {
-        return Step::No;
+        return None;
     }
     if !is_skipped(text[at]) {
-        return Step::No;
+        return None;
     }
     character_end(text, at)
 }
 
 // The rest of it, with its end.
-fn doctype_rest_end(text: &[u8], at: usize) -> Step
+fn doctype_rest_end(text: &[u8], at: usize) -> Option<usize>
     ensures { result ≡ stepped (length text.now) (doctype_rest_at (drop at text.now)) }
 {
     let mut i = at;
     while i < text.len() {
         if text[i] == b'>' {
-            return Step::To(i + 1);
+            return Some(i + 1);
         }
         match skipped_end(text, i) {
-            Step::To(j) => {
+            Some(j) => {
                 i = j;
             }
-            Step::No => {
-                return Step::No;
+            None => {
+                return None;
             }
         }
     }
-    Step::No
+    None
 }
 
-pub fn doctype_end(text: &[u8], at: usize) -> Step
+pub fn doctype_end(text: &[u8], at: usize) -> Option<usize>
     ensures { result ≡ stepped (length text.now) (doctype_at (drop at text.now)) }
 {
     match mark_end(text, at, b"<!DOCTYPE") {
-        Step::To(i) => doctype_rest_end(text, i),
-        Step::No => Step::No,
+        Some(i) => doctype_rest_end(text, i),
+        None => None,
     }
 }

@@ -6,56 +6,55 @@ ghost use Rattle.steps.specs.Step.{stepped};
 
 use super::pieces::between_end;
 use super::tags::{closing_end, open_end};
-use steps::Step;
 use steps::pieces::Between;
 use steps::tags::Opened;
 
 // An element that is at most `depth` deep.
 #[cycle(contents_end_element_end)]
-fn element_end(text: &[u8], at: usize, depth: usize) -> Step
+fn element_end(text: &[u8], at: usize, depth: usize) -> Option<usize>
     ensures { result ≡ stepped (length text.now) (element_at contents depth (drop at text.now)) }
 {
     if depth == 0 {
-        return Step::No;
+        return None;
     }
     match open_end(text, at) {
         Opened::Full(i) => match contents_end(text, i, depth - 1) {
-            Step::To(j) => closing_end(text, at, j),
-            Step::No => Step::No,
+            Some(j) => closing_end(text, at, j),
+            None => None,
         },
-        Opened::Empty(i) => Step::To(i),
-        Opened::Bad => Step::No,
+        Opened::Empty(i) => Some(i),
+        Opened::Bad => None,
     }
 }
 
 // Contents, up to the end tag, of elements that are at most `depth` deep.
 #[cycle(contents_end_element_end)]
-fn contents_end(text: &[u8], at: usize, depth: usize) -> Step
+fn contents_end(text: &[u8], at: usize, depth: usize) -> Option<usize>
     ensures { result ≡ stepped (length text.now) (contents depth (drop at text.now)) }
 {
     let mut i = at;
     loop {
         match between_end(text, i) {
             Between::Close(j) => {
-                return Step::To(j);
+                return Some(j);
             }
             Between::Start(j) => match element_end(text, j, depth) {
-                Step::To(k) => {
+                Some(k) => {
                     i = k;
                 }
-                Step::No => {
-                    return Step::No;
+                None => {
+                    return None;
                 }
             },
             Between::Bad => {
-                return Step::No;
+                return None;
             }
         }
     }
 }
 
 // An element that is at most 16 deep.
-pub fn whole_end(text: &[u8], at: usize) -> Step
+pub fn whole_end(text: &[u8], at: usize) -> Option<usize>
     ensures { result ≡ stepped (length text.now) (element_at contents 16 (drop at text.now)) }
 {
     element_end(text, at, 16)

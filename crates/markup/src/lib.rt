@@ -5,7 +5,6 @@ ghost use Rattle.steps.specs.WellFormed.{WellFormed};
 
 use self::elements::whole_end;
 use self::prolog::{asides_end, root_start};
-use steps::Step;
 
 // What stands between the tags.
 pub mod pieces;
@@ -23,13 +22,13 @@ pub fn well_formed(text: &[u8]) -> bool
     ensures { WellFormed text.now result }
 {
     match root_start(text) {
-        Step::To(i) => match whole_end(text, i) {
-            Step::To(j) => match asides_end(text, j) {
-                Step::To(k) => k == text.len(),
-                Step::No => false,
+        Some(i) => match whole_end(text, i) {
+            Some(j) => match asides_end(text, j) {
+                Some(k) => k == text.len(),
+                None => false,
             },
-            Step::No => false,
+            None => false,
         },
-        Step::No => false,
+        None => false,
     }
 }

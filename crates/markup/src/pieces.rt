@@ -1,5 +1,5 @@
 // What stands between the tags in contents: characters, comments and CDATA.
-ghost use Rattle.std.specs.Prelude.{◌≡◌, ◌<◌, length, drop, get_or};
+ghost use Rattle.std.specs.Prelude.{◌≡◌, ◌<◌, length, drop, get_or, Some};
 ghost use Rattle.grammar.specs.Read.{span};
 ghost use Rattle.grammar.specs.Parser.{look, look₃, text_at};
 ghost use Rattle.steps.specs.Step.{stepped};
@@ -11,7 +11,6 @@ use heads::comments::comment_end;
 use heads::data::data_end;
 use letters::blanks::{feed_end, starts};
 use letters::blocks::past_quick;
-use steps::Step;
 use steps::pieces::{Between, Front};
 
 // What stands behind `<!`.
@@ -50,56 +49,56 @@ pub fn front_at(text: &[u8], at: usize) -> Front
 }
 
 // One character of text, one reference, or one end of a line.
-pub fn text_end(text: &[u8], at: usize) -> Step
+pub fn text_end(text: &[u8], at: usize) -> Option<usize>
     ensures { result ≡ stepped (length text.now) (text_at (drop at text.now)) }
 {
     if text.len() <= at {
-        return Step::No;
+        return None;
     }
     let b = text[at];
     if b == b'&' {
         return reference_end(text, at);
     }
     if b == b'\r' {
-        return Step::To(feed_end(text, at + 1));
+        return Some(feed_end(text, at + 1));
     }
     if b == b'<' {
-        return Step::No;
+        return None;
     }
     character_end(text, at)
 }
 
 // A `]`, which begins no `]]>`.
-fn bracket_end(text: &[u8], at: usize) -> Step
+fn bracket_end(text: &[u8], at: usize) -> Option<usize>
     requires { (at < length text.now) × (get_or text.now at 0 ≡ 93) }
     ensures { result ≡ stepped (length text.now) (piece_at (drop at text.now)) }
 {
     if starts(text, at, b"]]>") {
-        return Step::No;
+        return None;
     }
-    Step::To(at + 1)
+    Some(at + 1)
 }
 
 // A comment or CDATA behind `<`, where no tag stands.
-fn remark_end(text: &[u8], at: usize) -> Step
+fn remark_end(text: &[u8], at: usize) -> Option<usize>
     requires { (at < length text.now) × (get_or text.now at 0 ≡ 60) }
     ensures { result ≡ stepped (length text.now) (piece_at (drop at text.now)) }
 {
     match front_at(text, at) {
-        Front::Close => Step::No,
+        Front::Close => None,
         Front::Comment => comment_end(text, at),
         Front::Data => data_end(text, at),
-        Front::Start => Step::No,
-        Front::Text => Step::No,
+        Front::Start => None,
+        Front::Text => None,
     }
 }
 
 // One comment, one character of text, or CDATA.
-pub fn piece_end(text: &[u8], at: usize) -> Step
+pub fn piece_end(text: &[u8], at: usize) -> Option<usize>
     ensures { result ≡ stepped (length text.now) (piece_at (drop at text.now)) }
 {
     if text.len() <= at {
-        return Step::No;
+        return None;
     }
     let b = text[at];
     if b == b'<' {
@@ -121,7 +120,7 @@ pub fn is_plain(b: u8) -> bool
 
 // Where plain bytes end: by blocks, and one by one behind the last block.
 fn far_plain_end(text: &[u8], at: usize) -> usize
-    ensures { Step.To result ≡ stepped (length text.now) (span plain (drop at text.now)) }
+    ensures { Some result ≡ stepped (length text.now) (span plain (drop at text.now)) }
 {
     let mut i = past_quick(text, at);
     while i < text.len() {
@@ -135,7 +134,7 @@ fn far_plain_end(text: &[u8], at: usize) -> usize
 
 // Where plain bytes end. The first sixteen are read one by one: most texts are short, and blocks would cost more.
 pub fn plain_end(text: &[u8], at: usize) -> usize
-    ensures { Step.To result ≡ stepped (length text.now) (span plain (drop at text.now)) }
+    ensures { Some result ≡ stepped (length text.now) (span plain (drop at text.now)) }
 {
     let mut i = at;
     let mut k: usize = 0;
@@ -173,10 +172,10 @@ pub fn between_end(text: &[u8], at: usize) -> Between
     loop {
         let j = plain_end(text, i);
         match piece_end(text, j) {
-            Step::To(k) => {
+            Some(k) => {
                 i = k;
             }
-            Step::No => {
+            None => {
                 return halt_at(text, j);
             }
         }

@@ -8,132 +8,131 @@ use super::doctype::doctype_end;
 use heads::comments::comment_end;
 use letters::blanks::{asks, blanks_end, equals_end, gap_end, mark_end, starts};
 use letters::classes::is_quote;
-use steps::Step;
 
 // Blanks and comments.
-pub fn asides_end(text: &[u8], at: usize) -> Step
+pub fn asides_end(text: &[u8], at: usize) -> Option<usize>
     ensures { result ≡ stepped (length text.now) (asides_at (drop at text.now)) }
 {
     let mut i = at;
     loop {
         let j = blanks_end(text, i);
         if !starts(text, j, b"<!-") {
-            return Step::To(j);
+            return Some(j);
         }
         match comment_end(text, j) {
-            Step::To(k) => {
+            Some(k) => {
                 i = k;
             }
-            Step::No => {
-                return Step::No;
+            None => {
+                return None;
             }
         }
     }
 }
 
 // The value between two quotes of one kind.
-fn quoted_end(text: &[u8], at: usize, value: &[u8]) -> Step
+fn quoted_end(text: &[u8], at: usize, value: &[u8]) -> Option<usize>
     ensures { result ≡ stepped (length text.now) (quoted_at value.now (drop at text.now)) }
 {
     if text.len() <= at {
-        return Step::No;
+        return None;
     }
     let quote = text[at];
     if !is_quote(quote) {
-        return Step::No;
+        return None;
     }
     match mark_end(text, at + 1, value) {
-        Step::To(i) => {
+        Some(i) => {
             if text.len() <= i {
-                return Step::No;
+                return None;
             }
             if text[i] != quote {
-                return Step::No;
+                return None;
             }
-            Step::To(i + 1)
+            Some(i + 1)
         }
-        Step::No => Step::No,
+        None => None,
     }
 }
 
 // `key="value"`, with the blanks before it.
-fn setting_end(text: &[u8], at: usize, key: &[u8], value: &[u8]) -> Step
+fn setting_end(text: &[u8], at: usize, key: &[u8], value: &[u8]) -> Option<usize>
     ensures { result ≡ stepped (length text.now)
         (setting_at key.now value.now (drop at text.now)) }
 {
     match gap_end(text, at) {
-        Step::To(i) => match mark_end(text, i, key) {
-            Step::To(j) => match equals_end(text, j) {
-                Step::To(k) => quoted_end(text, k, value),
-                Step::No => Step::No,
+        Some(i) => match mark_end(text, i, key) {
+            Some(j) => match equals_end(text, j) {
+                Some(k) => quoted_end(text, k, value),
+                None => None,
             },
-            Step::No => Step::No,
+            None => None,
         },
-        Step::No => Step::No,
+        None => None,
     }
 }
 
 // The encoding, or nothing where `?` stands next.
-fn encoding_end(text: &[u8], at: usize) -> Step
+fn encoding_end(text: &[u8], at: usize) -> Option<usize>
     ensures { result ≡ stepped (length text.now) (encoding_at (drop at text.now)) }
 {
     if asks(text, at) {
-        return Step::To(at);
+        return Some(at);
     }
     setting_end(text, at, b"encoding", b"UTF-8")
 }
 
 // The declaration, or nothing.
-pub fn declaration_end(text: &[u8]) -> Step
+pub fn declaration_end(text: &[u8]) -> Option<usize>
     ensures { result ≡ stepped (length text.now) (declaration_at text.now) }
 {
     if !starts(text, 0, b"<?") {
-        return Step::To(0);
+        return Some(0);
     }
     match mark_end(text, 0, b"<?xml") {
-        Step::To(i) => match setting_end(text, i, b"version", b"1.0") {
-            Step::To(j) => match encoding_end(text, j) {
-                Step::To(k) => mark_end(text, blanks_end(text, k), b"?>"),
-                Step::No => Step::No,
+        Some(i) => match setting_end(text, i, b"version", b"1.0") {
+            Some(j) => match encoding_end(text, j) {
+                Some(k) => mark_end(text, blanks_end(text, k), b"?>"),
+                None => None,
             },
-            Step::No => Step::No,
+            None => None,
         },
-        Step::No => Step::No,
+        None => None,
     }
 }
 
 // A DOCTYPE with the blanks and comments behind it, or nothing.
-fn typed_end(text: &[u8], at: usize) -> Step
+fn typed_end(text: &[u8], at: usize) -> Option<usize>
     ensures { result ≡ stepped (length text.now) (typed_at (drop at text.now)) }
 {
     if text.len() <= at {
-        return Step::To(text.len());
+        return Some(text.len());
     }
     if !starts(text, at, b"<!D") {
-        return Step::To(at);
+        return Some(at);
     }
     match doctype_end(text, at) {
-        Step::To(i) => asides_end(text, i),
-        Step::No => Step::No,
+        Some(i) => asides_end(text, i),
+        None => None,
     }
 }
 
 // Blanks and comments, and at most one DOCTYPE among them.
-fn prologue_end(text: &[u8], at: usize) -> Step
+fn prologue_end(text: &[u8], at: usize) -> Option<usize>
     ensures { result ≡ stepped (length text.now) (prologue_at (drop at text.now)) }
 {
     match asides_end(text, at) {
-        Step::To(i) => typed_end(text, i),
-        Step::No => Step::No,
+        Some(i) => typed_end(text, i),
+        None => None,
     }
 }
 
 // Where the root begins.
-pub fn root_start(text: &[u8]) -> Step
+pub fn root_start(text: &[u8]) -> Option<usize>
     ensures { result ≡ stepped (length text.now) (preamble_at text.now) }
 {
     match declaration_end(text) {
-        Step::To(i) => prologue_end(text, i),
-        Step::No => Step::No,
+        Some(i) => prologue_end(text, i),
+        None => None,
     }
 }

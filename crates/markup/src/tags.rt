@@ -7,7 +7,6 @@ ghost use Rattle.steps.specs.Tags.{opened, close_at, closing_at};
 use heads::attributes::head_end;
 use letters::blanks::{blanks_end, mark_end};
 use letters::names::name_end;
-use steps::Step;
 use steps::tags::Opened;
 
 // A start tag, or the tag of an empty element.
@@ -15,41 +14,41 @@ pub fn open_end(text: &[u8], at: usize) -> Opened
     ensures { result ≡ opened (length text.now) (head_at (drop at text.now)) }
 {
     match head_end(text, at) {
-        Step::To(i) => match mark_end(text, i, b">") {
-            Step::To(j) => Opened::Full(j),
-            Step::No => match mark_end(text, i, b"/>") {
-                Step::To(j) => Opened::Empty(j),
-                Step::No => Opened::Bad,
+        Some(i) => match mark_end(text, i, b">") {
+            Some(j) => Opened::Full(j),
+            None => match mark_end(text, i, b"/>") {
+                Some(j) => Opened::Empty(j),
+                None => Opened::Bad,
             },
         },
-        Step::No => Opened::Bad,
+        None => Opened::Bad,
     }
 }
 
 // An end tag with the name.
-pub fn close_end(text: &[u8], at: usize, name: &[u8]) -> Step
+pub fn close_end(text: &[u8], at: usize, name: &[u8]) -> Option<usize>
     ensures { result ≡ stepped (length text.now) (close_at name.now (drop at text.now)) }
 {
     match mark_end(text, at, b"</") {
-        Step::To(i) => match mark_end(text, i, name) {
-            Step::To(j) => mark_end(text, blanks_end(text, j), b">"),
-            Step::No => Step::No,
+        Some(i) => match mark_end(text, i, name) {
+            Some(j) => mark_end(text, blanks_end(text, j), b">"),
+            None => None,
         },
-        Step::No => Step::No,
+        None => None,
     }
 }
 
 // The end tag at `at` of the element whose start tag begins at `from`.
-pub fn closing_end(text: &[u8], from: usize, at: usize) -> Step
+pub fn closing_end(text: &[u8], from: usize, at: usize) -> Option<usize>
     ensures { result ≡ stepped (length text.now)
         (closing_at (drop (from + 1) text.now) (drop at text.now)) }
 {
     if text.len() <= from {
-        return Step::No;
+        return None;
     }
     let begin = from + 1;
     match name_end(text, begin) {
-        Step::To(end) => close_end(text, at, &text[begin..end]),
-        Step::No => Step::No,
+        Some(end) => close_end(text, at, &text[begin..end]),
+        None => None,
     }
 }

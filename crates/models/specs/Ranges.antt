@@ -1,6 +1,5 @@
 -- THE RANGES OF THE GATHERED MODELS, as the arrays hold them.
-use Rattle.std.specs.Prelude.{List, cond, ℕ, ◌<◌, ◌≤◌, ltb, get_or}
-use Rattle.std.proofs.Math.Option.{Option, some}
+use Rattle.std.specs.Prelude.{List, cond, ℕ, ◌<◌, ◌≤◌, ltb, get_or, Option, Some, None}
 use Rattle.lists.specs.Lists.{tabulated}
 use Rattle.lists.specs.Ranges.{Range}
 use Rattle.models.specs.Gathered.{Sized}
@@ -23,4 +22,4 @@ pub record Ranged (m : Models) : Type 0 where
 
 -- the first range that begins at an index: the i-th, if there are so many
 unfoldable pub range_if : Models → ℕ → Option Range
-range_if m i = cond (ltb i m.count) (some (range_of m i)) Option.none
+range_if m i = cond (ltb i m.count) (Some (range_of m i)) None

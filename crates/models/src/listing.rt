@@ -4,7 +4,6 @@ ghost use Rattle.models.specs.Numbers.{NextVoxel};
 
 use elements::children::first_child;
 use inside::texts::text_start;
-use nodes::{Found, Kid};
 use number_lists::{next_number, quick_number};
 use numbers::Next;
 
@@ -57,11 +56,11 @@ pub fn next_voxel(text: &[u8], at: usize) -> Triple
 }
 
 // Where the list of the model at `at` begins, where a model stands there.
-pub fn list_start(text: &[u8], at: usize) -> Found
+pub fn list_start(text: &[u8], at: usize) -> Option<usize>
     ensures { StartOf text.now at result }
 {
     match first_child(text, at) {
-        Kid::Child(k) => text_start(text, k),
-        Kid::Done => Found::Nothing,
+        Some(k) => text_start(text, k),
+        None => None,
     }
 }

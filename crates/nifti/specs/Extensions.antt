@@ -1,6 +1,5 @@
 -- EXTENSIONS: what each is, how it is written, and the list of them as a relation from extensions to bytes. Assumes nothing.
-use Rattle.std.specs.Prelude.{◌≡◌, List, [], ◌∷◌, ◌++◌, cond, ℕ, ◌+◌, ◌%◌, ◌^◌, ◌≤◌, ◌<◌, eqb, length}
-use Rattle.std.proofs.Math.Option.{Option, some}
+use Rattle.std.specs.Prelude.{◌≡◌, List, [], ◌∷◌, ◌++◌, cond, ℕ, ◌+◌, ◌%◌, ◌^◌, ◌≤◌, ◌<◌, eqb, length, Option, Some, None}
 use Rattle.nifti.specs.Fields.{field}
 use Rattle.nifti.specs.declared.Order.{Order}
 
@@ -36,8 +35,8 @@ pub record Body : Type 0 where
   pub bytes : List ℕ
 
 unfoldable pub first_text : (at : ℕ) → List Extension → Option Body
-first_text at [] = Option.none
-first_text at (e ∷ es) = cond (eqb e.code 32) (some (record { start = at + 8; bytes = e.body })) (first_text (at + size_of e) es)
+first_text at [] = None
+first_text at (e ∷ es) = cond (eqb e.code 32) (Some (record { start = at + 8; bytes = e.body })) (first_text (at + size_of e) es)
 
 -- ---- Bytes without the zeros at their end.
 

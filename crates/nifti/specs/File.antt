@@ -1,6 +1,5 @@
 -- THE FRONT OF A FILE: its fields, the list that is written in it, the conditions in their order, the answer, and the promise.
-use Rattle.std.specs.Prelude.{◌≡◌, List, [], ◌∷◌, Bool, ◌&&◌, ◌||◌, not, cond, ℕ, zero, suc, ◌+◌, ◌*◌, ◌≤◌, eqb, ltb, ℤ, pos, length, get_or, take, drop}
-use Rattle.std.proofs.Math.Option.{Option, some}
+use Rattle.std.specs.Prelude.{◌≡◌, List, [], ◌∷◌, Bool, ◌&&◌, ◌||◌, not, cond, ℕ, zero, suc, ◌+◌, ◌*◌, ◌≤◌, eqb, ltb, ℤ, pos, length, get_or, take, drop, Option, Some, None}
 use Rattle.std.proofs.Math.Seq.{slice}
 use Rattle.lists.specs.Lists.{all_below, is_some}
 use Rattle.lists.specs.Refusals.{Refusal, ◌when◌, first}
@@ -42,8 +41,8 @@ pub data HasList (file : List ℕ) : List Extension → Type 0 where
       → ExtensionList (order_of file) es (slice list_start end file) → HasList file es
 
 pub data ListOf (file : List ℕ) : Option (List Extension) → Type 0 where
-  list : {es : List Extension} → HasList file es → ListOf file (some es)
-  unlisted : ((es : List Extension) → ¬ HasList file es) → ListOf file Option.none
+  list : {es : List Extension} → HasList file es → ListOf file (Some es)
+  unlisted : ((es : List Extension) → ¬ HasList file es) → ListOf file None
 
 -- ---- The conditions.
 
@@ -78,8 +77,8 @@ dims_stand file = ltb 0 (length_count file) && (all_below 4 (one_at file) && all
 
 -- 23: no extension of code 32
 unfoldable pub text_body : Option (List Extension) → Option Body
-text_body Option.none = Option.none
-text_body (some es) = first_text list_start es
+text_body None = None
+text_body (Some es) = first_text list_start es
 
 unfoldable pub conditions_of_front : List ℕ → Option (List Extension) → List Refusal
 conditions_of_front file l =
@@ -100,8 +99,8 @@ refused_front n = front_with n 0 0 0 0 0 0
 
 -- the part: the body without the zero bytes at its end
 unfoldable pub accepted_front : List ℕ → Option Body → Front
-accepted_front file Option.none = refused_front 23
-accepted_front file (some b) =
+accepted_front file None = refused_front 23
+accepted_front file (Some b) =
     front_with 0 (length_count file) (length_at file 0) (length_at file 1) (length_at file 2) b.start (length (without_zeros b.bytes))
 
 unfoldable pub front_by : (number : ℕ) → List ℕ → Option Body → Front

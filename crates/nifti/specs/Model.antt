@@ -1,6 +1,5 @@
 -- THE LIST OF BYTES, FOUND: extension by extension, from the first byte on; and what the code's walk over it answers.
-use Rattle.std.specs.Prelude.{List, [], ◌∷◌, Bool, true, false, ◌&&◌, cond, ℕ, zero, suc, ◌+◌, ◌-◌, ◌%◌, ◌^◌, eqb, leb, ltb, ℤ, pos, negsuc, length, take, drop}
-use Rattle.std.proofs.Math.Option.{Option, some}
+use Rattle.std.specs.Prelude.{List, [], ◌∷◌, Bool, true, false, ◌&&◌, cond, ℕ, zero, suc, ◌+◌, ◌-◌, ◌%◌, ◌^◌, eqb, leb, ltb, ℤ, pos, negsuc, length, take, drop, Option, Some, None}
 use Rattle.std.proofs.Math.Seq.{slice}
 use Rattle.nifti.specs.Fields.{number_at}
 use Rattle.nifti.specs.Extensions.{Extension, size_of}
@@ -19,14 +18,14 @@ extension_in o s = record { code = number_at o 4 4 s; body = take (number_at o 4
 
 -- one more in front, where it is good
 unfoldable pub one_more_if : Bool → Extension → Option (List Extension) → Option (List Extension)
-one_more_if false e l = Option.none
-one_more_if true e Option.none = Option.none
-one_more_if true e (some es) = some (e ∷ es)
+one_more_if false e l = None
+one_more_if true e None = None
+one_more_if true e (Some es) = Some (e ∷ es)
 
 unfoldable pub cut_by : (fuel : ℕ) → Order → List ℕ → Option (List Extension)
-cut_by zero o s = cond (eqb (length s) 0) (some []) Option.none
+cut_by zero o s = cond (eqb (length s) 0) (Some []) None
 cut_by (suc n) o s =
-    cond (eqb (length s) 0) (some [])
+    cond (eqb (length s) 0) (Some [])
     (one_more_if (good_size (number_at o 4 0 s) (length s)) (extension_in o s) (cut_by n o (drop (number_at o 4 0 s) s)))
 
 unfoldable pub cut : Order → List ℕ → Option (List Extension)
@@ -36,11 +35,11 @@ cut o s = cut_by (length s) o s
 
 -- up to the data offset
 unfoldable pub cut_to : ℤ → List ℕ → Option (List Extension)
-cut_to (pos end) file = cond (leb end (length file)) (cut (order_of file) (slice list_start end file)) Option.none
-cut_to (negsuc n) file = Option.none
+cut_to (pos end) file = cond (leb end (length file)) (cut (order_of file) (slice list_start end file)) None
+cut_to (negsuc n) file = None
 
 unfoldable pub list_in : List ℕ → Option (List Extension)
-list_in file = cond (eqb (extender file) 0) (some []) (cut_to (offset file) file)
+list_in file = cond (eqb (extender file) 0) (Some []) (cut_to (offset file) file)
 
 unfoldable pub front_of : List ℕ → Front
 front_of file = front_to file (list_in file)
@@ -57,8 +56,8 @@ taken start size place (e ∷ es) =
     (taken start size (place + size_of e) es)
 
 unfoldable pub taken_by : (start length place : ℕ) → Option (List Extension) → Taken
-taken_by start size place Option.none = not_listed
-taken_by start size place (some es) = taken start size place es
+taken_by start size place None = not_listed
+taken_by start size place (Some es) = taken start size place es
 
 unfoldable pub model_words : Unit {0}
 unfolding good_size extension_in one_more_if cut_by cut cut_to list_in front_of taken taken_by

@@ -1,12 +1,9 @@
 -- The attributes of the element at a position: their names, and where their values begin.
-use Rattle.std.specs.Prelude.{◌≡◌, List, [], ◌∷◌, ℕ, zero, suc, ◌+◌, ◌-◌, ◌≤◌, cond, length, drop}
-use Rattle.std.proofs.Math.Option.{Option, some}
+use Rattle.std.specs.Prelude.{◌≡◌, List, [], ◌∷◌, ℕ, zero, suc, ◌+◌, ◌-◌, ◌≤◌, cond, length, drop, Option, Some, None}
 use Rattle.grammar.specs.Document.{Attribute, attribute}
 use Rattle.grammar.specs.Read.{Read, fail, got, Reader, ◌>>=◌, ◌>>◌, pure, all_of}
 use Rattle.grammar.specs.Parser.{name_at, gap_at, equals_at, value_at, attribute_at_lem, ends, closing, same_bytes}
 use Rattle.nodes.specs.Places.{pick}
-use Rattle.nodes.specs.declared.Found.{Found}
-use Rattle.nodes.specs.declared.Found.TheVariants.{At, Nothing}
 
 -- ON BYTES: blanks, a name and `=`
 unfoldable pub key_bytes_lem : Reader (List ℕ)
@@ -45,11 +42,11 @@ unfoldable pub keys : List ℕ → ℕ → List Key
 keys text at = keys_in (length text) (name_at (drop (at + 1) text))
 
 -- where the value of the first one with the name begins
-unfoldable pub place_in : List ℕ → List Key → Found
-place_in w [] = Nothing
-place_in w (key n v ∷ l) = pick (same_bytes n w) (At v) (place_in w l)
+unfoldable pub place_in : List ℕ → List Key → Option ℕ
+place_in w [] = None
+place_in w (key n v ∷ l) = pick (same_bytes n w) (Some v) (place_in w l)
 
-unfoldable pub place : List ℕ → ℕ → List ℕ → Found
+unfoldable pub place : List ℕ → ℕ → List ℕ → Option ℕ
 place text at w = place_in w (keys text at)
 
 -- A VALUE stands at a position
@@ -76,5 +73,5 @@ pub record First (s : List ℕ) (l : List Attribute) : Type 0 where
 
 -- one by its name: the value of the first attribute with the name
 unfoldable pub lookup : List ℕ → List Attribute → Option (List ℕ)
-lookup w [] = Option.none
-lookup w (attribute n v ∷ l) = cond (same_bytes n w) (some v) (lookup w l)
+lookup w [] = None
+lookup w (attribute n v ∷ l) = cond (same_bytes n w) (Some v) (lookup w l)

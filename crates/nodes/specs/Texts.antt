@@ -1,21 +1,19 @@
 -- The text of the element at a position, and what is written between its tags.
-use Rattle.std.specs.Prelude.{List, [], ℕ, suc, ◌+◌, ◌-◌, Bool, true, false, leb, length, drop}
+use Rattle.std.specs.Prelude.{List, [], ℕ, suc, ◌+◌, ◌-◌, Bool, true, false, leb, length, drop, Option, Some, None}
 use Rattle.grammar.specs.Read.{Read, fail, got}
 use Rattle.nodes.specs.Scan.{tag_at}
 use Rattle.nodes.specs.TextBytes.{Rest, outside, within, bytes, Move, stop, skip, char}
 use Rattle.nodes.specs.TextBytes.{step, says_from}
-use Rattle.nodes.specs.declared.Found.{Found}
-use Rattle.nodes.specs.declared.Found.TheVariants.{At, Nothing}
 use Rattle.nodes.specs.declared.Text.{Text}
 use Rattle.nodes.specs.declared.Text.TheVariants.{Stop, Skip, Letter}
 
 -- ON BYTES: where the contents of the element at a position begin; an empty tag has none
-unfoldable pub inside_by : ℕ → Read Bool → Found
-inside_by n fail = Nothing
-inside_by n (got true r) = At (n - length r)
-inside_by n (got false r) = Nothing
+unfoldable pub inside_by : ℕ → Read Bool → Option ℕ
+inside_by n fail = None
+inside_by n (got true r) = Some (n - length r)
+inside_by n (got false r) = None
 
-unfoldable pub inside : List ℕ → ℕ → Found
+unfoldable pub inside : List ℕ → ℕ → Option ℕ
 inside text at = inside_by (length text) (tag_at (drop at text))
 
 -- A PLACE in contents. Up to the length n of the text it is a byte of it, outside of CDATA; n + 1 + i is byte i, within CDATA.
@@ -38,9 +36,9 @@ unfoldable pub left : List ℕ → ℕ → ℕ
 left text i = length (bytes (rest_from text i))
 
 -- the text from where contents begin
-unfoldable pub text_from : List ℕ → Found → List ℕ
-text_from text Nothing = []
-text_from text (At i) = says_at text i
+unfoldable pub text_from : List ℕ → Option ℕ → List ℕ
+text_from text None = []
+text_from text (Some i) = says_at text i
 
 unfoldable pub text_of_lem : List ℕ → ℕ → List ℕ
 text_of_lem text at = text_from text (inside text at)

@@ -1,13 +1,11 @@
 -- The decoded bytes of a value, one by one. Behind the first byte of a character stand bytes of 128 and more, so that bytes can be
 -- decoded for characters.
-use Rattle.std.specs.Prelude.{List, [], ◌∷◌, ℕ, zero, suc, ◌+◌, ◌-◌, eqb, length, drop, get_or}
+use Rattle.std.specs.Prelude.{List, [], ◌∷◌, ℕ, zero, suc, ◌+◌, ◌-◌, eqb, length, drop, get_or, Option, Some, None}
 use Rattle.grammar.specs.Bytes.{ascii, blank}
 use Rattle.grammar.specs.Read.{Read, fail, got}
 use Rattle.grammar.specs.Parser.{reference_at, line_end_at}
 use Rattle.steps.specs.Leaves.{first_byte}
 use Rattle.nodes.specs.Places.{pick}
-use Rattle.nodes.specs.declared.Char.{Char}
-use Rattle.nodes.specs.declared.Char.TheVariants.{Byte, End}
 
 -- the next decoded byte, up to a quote, and what is left
 pub data Next : Type 0 where
@@ -43,9 +41,9 @@ unfoldable pub value_there : List ℕ → ℕ → List ℕ
 value_there text v = tells (get_or text v 0) (drop (v + 1) text)
 
 -- a decoded byte, as a program answers it
-unfoldable pub as_char : ℕ → Next → Char
-as_char n no_byte = End
-as_char n (a_byte b r) = Byte b (n - length r)
+unfoldable pub as_char : ℕ → Next → Option (ℕ × ℕ)
+as_char n no_byte = None
+as_char n (a_byte b r) = Some (b, (n - length r))
 
-unfoldable pub decoded_at : List ℕ → ℕ → ℕ → Char
+unfoldable pub decoded_at : List ℕ → ℕ → ℕ → Option (ℕ × ℕ)
 decoded_at text at q = as_char (length text) (next_byte q (drop at text))

@@ -2,27 +2,6 @@
 // functions.
 #![tactic(auto)]
 
-// A cursor in a row of children.
-#[derive(Clone, Copy)]
-pub enum Kid {
-    Child(usize),
-    Done,
-}
-
-// A place in the text, or that there is none.
-#[derive(Clone, Copy)]
-pub enum Found {
-    At(usize),
-    Nothing,
-}
-
-// A decoded byte of a value and the place behind it, or the end.
-#[derive(Clone, Copy)]
-pub enum Char {
-    Byte(u8, usize),
-    End,
-}
-
 // A step over the text of an element: a decoded byte, what is passed over, or the end.
 #[derive(Clone, Copy)]
 pub enum Text {

@@ -7,7 +7,6 @@ ghost use Rattle.maps.specs.Digits.{CountsNumbers};
 ghost use Rattle.maps.specs.Seen.{Grown, CountsDigits};
 
 use maps::dims::Dims;
-use nodes::{Char, Found};
 
 fn one_more(dims: Dims, b: u8) -> Dims
     ensures { Grown b dims result }
@@ -37,11 +36,11 @@ fn digits_at(text: &[u8], v: usize) -> Dims
     let mut i = v + 1;
     loop {
         match inside::values::decoded(text, i, q) {
-            Char::Byte(b, j) => {
+            Some((b, j)) => {
                 dims = one_more(dims, b);
                 i = j;
             }
-            Char::End => {
+            None => {
                 return dims;
             }
         }
@@ -54,7 +53,7 @@ pub(crate) fn dimensions_of(text: &[u8], at: usize) -> Dims
     ensures { CountsNumbers (dimensions_of (the text.now at)) result }
 {
     match inside::attributes::attribute(text, at, b"AppliesToMatrixDimension") {
-        Found::At(v) => digits_at(text, v),
-        Found::Nothing => Dims { has: [0; 10] },
+        Some(v) => digits_at(text, v),
+        None => Dims { has: [0; 10] },
     }
 }

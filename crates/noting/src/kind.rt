@@ -7,7 +7,6 @@ ghost use Rattle.cifti.specs.Maps.{kind_of_map, counted_name, counted_bytes};
 
 use cifti::Kind;
 use inside::names::name_is;
-use nodes::Found;
 
 // The kind that the word of the map at `at` names.
 pub(crate) fn kind_of(text: &[u8], at: usize) -> Kind
@@ -15,8 +14,8 @@ pub(crate) fn kind_of(text: &[u8], at: usize) -> Kind
     ensures { result ≡ kind_of_map (the text.now at) }
 {
     match inside::attributes::attribute(text, at, b"IndicesMapToDataType") {
-        Found::At(v) => answers::kind_at(vocabulary::kind_named(text, v)),
-        Found::Nothing => Kind::None,
+        Some(v) => answers::kind_at(vocabulary::kind_named(text, v)),
+        None => Kind::None,
     }
 }
 

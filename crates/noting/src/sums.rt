@@ -12,7 +12,6 @@ use maps::fields::attribute_number;
 use maps::limits::MOST_RECORDS;
 use maps::survey::{Measure, Seen};
 use nodes::ahead::Ahead;
-use steps::Step;
 
 // What a child adds to the length of a map of this kind: a model its count, any other that counts 1.
 fn weight(text: &[u8], at: usize, kind: Kind) -> u64
@@ -53,8 +52,8 @@ fn ahead_behind(text: &[u8], at: usize) -> Ahead
     ensures { AheadBehind text.now at result }
 {
     match skip(text, at) {
-        Step::To(j) => ahead_from(text, j, true),
-        Step::No => Ahead::Stray,
+        Some(j) => ahead_from(text, j, true),
+        None => Ahead::Stray,
     }
 }
 
@@ -64,8 +63,8 @@ pub(crate) fn place_behind(text: &[u8], at: usize) -> usize
     ensures { Behind text.now at result }
 {
     match skip(text, at) {
-        Step::To(j) => j,
-        Step::No => 0,
+        Some(j) => j,
+        None => 0,
     }
 }
 

@@ -9,7 +9,6 @@ use super::sums::{map_measure, place_behind};
 use cifti::Kind;
 use maps::dims::Dims;
 use maps::survey::{MapNote, Maps, Seen, no_note};
-use nodes::Kid;
 
 pub fn no_maps() -> Maps
     ensures { NoneYet result }
@@ -78,7 +77,7 @@ pub fn maps_of(text: &[u8], matrix: usize) -> Maps
     let mut kid = elements::children::first_child(text, matrix);
     loop {
         match kid {
-            Kid::Child(k) => {
+            Some(k) => {
                 if inside::names::name_is(text, k, b"MatrixIndicesMap") {
                     let note = note_of(text, k, maps.count < 3);
                     maps = noted(maps, note);
@@ -87,7 +86,7 @@ pub fn maps_of(text: &[u8], matrix: usize) -> Maps
                     kid = elements::children::next_child(text, k);
                 }
             }
-            Kid::Done => {
+            None => {
                 return maps;
             }
         }

@@ -9,7 +9,7 @@ ghost use Rattle.numbers.specs.declared.Source.TheVariants.{Contents, Value};
 ghost use Rattle.number_lists.specs.Digits.{plain_digit};
 ghost use Rattle.number_lists.specs.Letters.{odd};
 
-use nodes::{Char, Text};
+use nodes::Text;
 use numbers::{Run, Source};
 
 // A byte that may read as something else than itself.
@@ -20,27 +20,28 @@ fn is_odd(b: u8) -> bool
 }
 
 // The next decoded byte of a text: comments and children are passed over.
-fn any_letter(text: &[u8], at: usize) -> Char
+#[tactic(auto, using(numbers::proofs::Laws::Read::seeking))]
+fn any_letter(text: &[u8], at: usize) -> Option<(u8, usize)>
     ensures { result ≡ letter_at text.now at }
 {
     let mut i = at;
     loop {
         match inside::texts::text_at(text, i) {
             Text::Letter(b, j) => {
-                return Char::Byte(b, j);
+                return Some((b, j));
             }
             Text::Skip(j) => {
                 i = j;
             }
             Text::Stop => {
-                return Char::End;
+                return None;
             }
         }
     }
 }
 
 // The same, quick where the byte reads as itself.
-pub fn letter(text: &[u8], at: usize) -> Char
+pub fn letter(text: &[u8], at: usize) -> Option<(u8, usize)>
     ensures { result ≡ letter_at text.now at }
 {
     if text.len() <= at {
@@ -50,11 +51,12 @@ pub fn letter(text: &[u8], at: usize) -> Char
     if is_odd(b) {
         return any_letter(text, at);
     }
-    Char::Byte(b, at + 1)
+    Some((b, at + 1))
 }
 
 // The next decoded byte.
-pub fn char_at(text: &[u8], at: usize, source: Source) -> Char
+#[tactic(auto, using(numbers::proofs::Laws::Read::choosing))]
+pub fn char_at(text: &[u8], at: usize, source: Source) -> Option<(u8, usize)>
     ensures { result ≡ char_at source text.now at }
 {
     match source {
@@ -137,7 +139,7 @@ pub fn digits(text: &[u8], at: usize, source: Source, most: u64, before: u64) ->
     let mut i = first.next;
     while k < most {
         match char_at(text, i, source) {
-            Char::Byte(b, j) => {
+            Some((b, j)) => {
                 if b < b'0' {
                     return Run {
                         value: n,
@@ -156,7 +158,7 @@ pub fn digits(text: &[u8], at: usize, source: Source, most: u64, before: u64) ->
                 k += 1;
                 i = j;
             }
-            Char::End => {
+            None => {
                 return Run {
                     value: n,
                     count: k,
@@ -177,25 +179,26 @@ pub fn word_ends(text: &[u8], at: usize, source: Source) -> bool
     ensures { result ≡ word_ends (stream source text.now at) }
 {
     match char_at(text, at, source) {
-        Char::Byte(b, _) => letters::classes::is_blank(b),
-        Char::End => true,
+        Some((b, _)) => letters::classes::is_blank(b),
+        None => true,
     }
 }
 
 // The place behind the blanks at `at`.
+#[tactic(auto, using(numbers::proofs::Laws::Read::passing))]
 pub fn blanks(text: &[u8], at: usize) -> usize
     ensures { result ≡ behind Contents text.now (leading blank (stream Contents text.now at)) at }
 {
     let mut i = at;
     loop {
         match letter(text, i) {
-            Char::Byte(b, j) => {
+            Some((b, j)) => {
                 if !letters::classes::is_blank(b) {
                     return i;
                 }
                 i = j;
             }
-            Char::End => {
+            None => {
                 return i;
             }
         }

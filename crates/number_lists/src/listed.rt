@@ -8,7 +8,6 @@ ghost use Rattle.number_lists.specs.Within.{Digits};
 
 use super::chars::{blanks, digits, letter, wide, word_ends};
 use super::within::late_number;
-use nodes::Char;
 use numbers::{Next, Run, Source};
 
 // The place behind the plain blanks at `at`, those that stand in the text as they are; none from `last` on is looked at.
@@ -101,10 +100,10 @@ fn number_from(text: &[u8], at: usize, value: u64, next: usize) -> Next
     let run = all_digits(text, run_of(value, at, next));
     if run.count == 0 {
         match letter(text, run.next) {
-            Char::Byte(_, _) => {
+            Some((_, _)) => {
                 return Next::Bad;
             }
-            Char::End => {
+            None => {
                 return Next::End;
             }
         }

@@ -8,6 +8,7 @@ use super::listed::{number_at, plain_digits, seven_on};
 use numbers::Next;
 
 // The byte behind the blanks that stand at byte `at` inside CDATA.
+#[tactic(auto, using(crate::proofs::Laws::Within::passing_within))]
 fn blanks_within(text: &[u8], at: usize) -> usize
     requires { at ≤ length text.now }
     ensures { Past text.now at result }
@@ -23,6 +24,7 @@ fn blanks_within(text: &[u8], at: usize) -> usize
 }
 
 // Byte `at` is a blank; behind the text there is none.
+#[tactic(auto, using(crate::proofs::Laws::Within::looking))]
 fn blank_byte(text: &[u8], at: usize) -> bool
     ensures { result ≡ blank (get_or text.now at 0) }
 {

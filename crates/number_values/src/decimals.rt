@@ -7,24 +7,23 @@ ghost use Rattle.numbers.specs.Answers.{decimal_in};
 
 use super::in_value::right_at;
 use super::written::decimal_at;
-use nodes::Char;
 use number_lists::chars::{blanks, char_at, letter};
-use numbers::{Decimals, Source, Spelling};
+use numbers::{Decimal, Source};
 
 // The decimal that the value at `at` writes.
-pub fn decimal_value(text: &[u8], at: usize) -> Decimals
+pub fn decimal_value(text: &[u8], at: usize) -> Option<Decimal>
     ensures { result ≡ decimal_in (value_there text.now at) }
 {
     if text.len() <= at {
-        return Decimals::No;
+        return None;
     }
     let source = Source::Value(text[at]);
     match decimal_at(text, at + 1, source) {
-        Spelling::Reads(d, j) => match char_at(text, j, source) {
-            Char::Byte(_, _) => Decimals::No,
-            Char::End => Decimals::Is(d),
+        Some((d, j)) => match char_at(text, j, source) {
+            Some((_, _)) => None,
+            None => Some(d),
         },
-        Spelling::Fails => Decimals::No,
+        None => None,
     }
 }
 
@@ -37,21 +36,21 @@ pub fn sixteen_ok(text: &[u8], at: usize) -> bool
     while 0 < left {
         let from = blanks(text, i);
         match decimal_at(text, from, Source::Contents) {
-            Spelling::Reads(d, j) => {
+            Some((d, j)) => {
                 left -= 1;
                 i = j;
                 if !right_at(left, d) {
                     return false;
                 }
             }
-            Spelling::Fails => {
+            None => {
                 return false;
             }
         }
     }
     let from = blanks(text, i);
     match letter(text, from) {
-        Char::Byte(_, _) => false,
-        Char::End => true,
+        Some((_, _)) => false,
+        None => true,
     }
 }

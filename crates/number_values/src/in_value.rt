@@ -4,7 +4,7 @@ ghost use Rattle.numbers.specs.Numbers.{in_value, is_whole};
 ghost use Rattle.numbers.specs.Answers.{places_in};
 ghost use Rattle.numbers.specs.Sixteen.{right_at};
 
-use numbers::{Decimal, Whole};
+use numbers::Decimal;
 
 // The amount is the whole number `n`.
 fn amount_is(a: i64, n: u64) -> bool
@@ -17,16 +17,16 @@ fn amount_is(a: i64, n: u64) -> bool
 }
 
 // A power from -18 to 0, without its sign.
-pub fn places_of(power: i64) -> Whole
+pub fn places_of(power: i64) -> Option<u64>
     ensures { result ≡ places_in power }
 {
     if 0 < power {
-        return Whole::No;
+        return None;
     }
     if power < -18 {
-        return Whole::No;
+        return None;
     }
-    Whole::Is((0 - power) as u64)
+    Some((0 - power) as u64)
 }
 
 // 10 to the power of `places`.
@@ -48,8 +48,8 @@ fn is_one(d: Decimal) -> bool
     ensures { result ≡ in_value is_whole 1 d }
 {
     match places_of(d.power) {
-        Whole::Is(k) => amount_is(d.amount, ten_to(k)),
-        Whole::No => false,
+        Some(k) => amount_is(d.amount, ten_to(k)),
+        None => false,
     }
 }
 

@@ -20,9 +20,8 @@ ghost use Rattle.numbers.specs.Parted.{Parted};
 ghost use Rattle.numbers.specs.declared.Source.TheVariants.{Value};
 
 pub use decimals::{decimal_value, sixteen_ok};
-use nodes::Char;
 use number_lists::chars::{char_at, digits, wide};
-use numbers::{Exponent, Lengths, Part, Source, Three, Whole};
+use numbers::{Lengths, Part, Source};
 
 // The number at `at` up to a comma or the end.
 pub fn part_at(text: &[u8], at: usize, source: Source, most: u64, lo: u64, hi: u64) -> Part
@@ -40,50 +39,50 @@ pub fn part_at(text: &[u8], at: usize, source: Source, most: u64, lo: u64, hi: u
         return Part::No;
     }
     match char_at(text, run.next, source) {
-        Char::Byte(b, j) => {
+        Some((b, j)) => {
             if b == b',' {
                 return Part::Comma(run.value, j);
             }
             Part::No
         }
-        Char::End => Part::Last(run.value),
+        None => Part::Last(run.value),
     }
 }
 
 // The whole number that the value at `at` writes.
-pub fn whole_value(text: &[u8], at: usize, lo: u64, hi: u64) -> Whole
+pub fn whole_value(text: &[u8], at: usize, lo: u64, hi: u64) -> Option<u64>
     ensures { result ≡ whole_in lo hi (value_there text.now at) }
 {
     if text.len() <= at {
-        return Whole::No;
+        return None;
     }
     match part_at(text, at + 1, Source::Value(text[at]), 7, lo, hi) {
-        Part::Last(n) => Whole::Is(n),
-        Part::Comma(_, _) => Whole::No,
-        Part::No => Whole::No,
+        Part::Last(n) => Some(n),
+        Part::Comma(_, _) => None,
+        Part::No => None,
     }
 }
 
 // The three lengths that the value at `at` writes.
-pub fn three_lengths(text: &[u8], at: usize, width: u64, depth: u64, height: u64) -> Three
+pub fn three_lengths(text: &[u8], at: usize, width: u64, depth: u64, height: u64) -> Option<Lengths>
     ensures { result ≡ three_in width depth height (value_there text.now at) }
 {
     if text.len() <= at {
-        return Three::No;
+        return None;
     }
     let source = Source::Value(text[at]);
     match part_at(text, at + 1, source, 7, 1, width) {
         Part::Comma(i, second) => match part_at(text, second, source, 7, 1, depth) {
             Part::Comma(j, third) => match part_at(text, third, source, 7, 1, height) {
-                Part::Last(k) => Three::Are(Lengths { i: i, j: j, k: k }),
-                Part::Comma(_, _) => Three::No,
-                Part::No => Three::No,
+                Part::Last(k) => Some(Lengths { i: i, j: j, k: k }),
+                Part::Comma(_, _) => None,
+                Part::No => None,
             },
-            Part::Last(_) => Three::No,
-            Part::No => Three::No,
+            Part::Last(_) => None,
+            Part::No => None,
         },
-        Part::Last(_) => Three::No,
-        Part::No => Three::No,
+        Part::Last(_) => None,
+        Part::No => None,
     }
 }
 
@@ -117,11 +116,11 @@ fn dimension_at(text: &[u8], at: usize, quote: u8) -> Part
 }
 
 // How many of the dimensions that the value at `at` lists are from `lo` to `hi`.
-pub fn dimensions_between(text: &[u8], at: usize, lo: u64, hi: u64) -> Whole
+pub fn dimensions_between(text: &[u8], at: usize, lo: u64, hi: u64) -> Option<u64>
     ensures { result ≡ between_in lo hi (value_there text.now at) }
 {
     if text.len() <= at {
-        return Whole::No;
+        return None;
     }
     let quote = text[at];
     let mut n: u64 = 0;
@@ -133,48 +132,48 @@ pub fn dimensions_between(text: &[u8], at: usize, lo: u64, hi: u64) -> Whole
                 i = j;
             }
             Part::Last(d) => {
-                return Whole::Is(n + is_within(d, lo, hi));
+                return Some(n + is_within(d, lo, hi));
             }
             Part::No => {
-                return Whole::No;
+                return None;
             }
         }
     }
 }
 
 // How many dimensions the value at `at` lists.
-pub fn dimension_list(text: &[u8], at: usize) -> Whole
+pub fn dimension_list(text: &[u8], at: usize) -> Option<u64>
     ensures { result ≡ listed_in (value_there text.now at) }
 {
     dimensions_between(text, at, 0, 9)
 }
 
-fn exponent_from(text: &[u8], at: usize, source: Source, most: u64, negative: bool) -> Exponent
+fn exponent_from(text: &[u8], at: usize, source: Source, most: u64, negative: bool) -> Option<i64>
     ensures { result ≡ exponent_from most (sign_if negative) (stream source text.now at) }
 {
     match part_at(text, at, source, 2, 0, most) {
-        Part::Last(n) => Exponent::Is(signed(negative, n)),
-        Part::Comma(_, _) => Exponent::No,
-        Part::No => Exponent::No,
+        Part::Last(n) => Some(signed(negative, n)),
+        Part::Comma(_, _) => None,
+        Part::No => None,
     }
 }
 
 // The exponent that the value at `at` writes.
-pub fn exponent_value(text: &[u8], at: usize, most: u64) -> Exponent
+pub fn exponent_value(text: &[u8], at: usize, most: u64) -> Option<i64>
     ensures { result ≡ exponent_in most (value_there text.now at) }
 {
     if text.len() <= at {
-        return Exponent::No;
+        return None;
     }
     let source = Source::Value(text[at]);
     match char_at(text, at + 1, source) {
-        Char::Byte(b, j) => {
+        Some((b, j)) => {
             if b == b'-' {
                 return exponent_from(text, j, source, most, true);
             }
             exponent_from(text, at + 1, source, most, false)
         }
-        Char::End => Exponent::No,
+        None => None,
     }
 }
 

@@ -6,16 +6,15 @@ ghost use Rattle.numbers.specs.Spelled.{SignLeads, Raised, Powered};
 ghost use Rattle.numbers.specs.Stream.{char_at};
 
 use super::signed;
-use nodes::Char;
 use number_lists::chars::{char_at, digits, word_ends};
-use numbers::{Decimal, Exponent, Lead, Source, Spelling};
+use numbers::{Decimal, Lead, Source};
 
 // The sign at `at`, if there is one.
 pub(crate) fn sign_at(text: &[u8], at: usize, source: Source) -> Lead
     ensures { SignLeads source text.now at result }
 {
     match char_at(text, at, source) {
-        Char::Byte(b, j) => {
+        Some((b, j)) => {
             if b == b'-' {
                 return Lead {
                     negative: true,
@@ -33,7 +32,7 @@ pub(crate) fn sign_at(text: &[u8], at: usize, source: Source) -> Lead
                 next: at,
             }
         }
-        Char::End => Lead {
+        None => Lead {
             negative: false,
             next: at,
         },
@@ -41,17 +40,17 @@ pub(crate) fn sign_at(text: &[u8], at: usize, source: Source) -> Lead
 }
 
 // The power of that sign and size, from -45 to 45.
-fn within(negative: bool, n: u64) -> Exponent
+fn within(negative: bool, n: u64) -> Option<i64>
     ensures { result ≡ power_in (with_sign (sign_if negative) n) }
 {
     if 45 < n {
-        return Exponent::No;
+        return None;
     }
-    Exponent::Is(signed(negative, n))
+    Some(signed(negative, n))
 }
 
 // A written power less the places.
-fn less_places(negative: bool, n: u64, places: u64) -> Exponent
+fn less_places(negative: bool, n: u64, places: u64) -> Option<i64>
     requires { (n < 100) × (places ≤ 15) }
     ensures { result ≡ power_in (with_sign (sign_if negative) n -ℤ pos places) }
 {
@@ -72,26 +71,26 @@ fn power_digits(
     negative: bool,
     amount: i64,
     places: u64,
-) -> Spelling
+) -> Option<(Decimal, usize)>
     requires { places ≤ 15 }
     ensures { Raised source text.now at (sign_if negative) amount places result }
 {
     let run = digits(text, at, source, 2, 0);
     if run.count == 0 {
-        return Spelling::Fails;
+        return None;
     }
     if !word_ends(text, run.next, source) {
-        return Spelling::Fails;
+        return None;
     }
     match less_places(negative, run.value, places) {
-        Exponent::Is(p) => Spelling::Reads(
+        Some(p) => Some((
             Decimal {
                 amount: amount,
                 power: p,
             },
             run.next,
-        ),
-        Exponent::No => Spelling::Fails,
+        )),
+        None => None,
     }
 }
 
@@ -104,38 +103,38 @@ fn is_mark(b: u8) -> bool
 // What stands at `at`, behind a mantissa with so many places, `c` being read there.
 pub(crate) fn power_at(
     text: &[u8],
-    c: Char,
+    c: Option<(u8, usize)>,
     at: usize,
     source: Source,
     amount: i64,
     places: u64,
-) -> Spelling
+) -> Option<(Decimal, usize)>
     requires { (c ≡ char_at source text.now at) × (places ≤ 15) }
     ensures { Powered source text.now at amount places result }
 {
     match c {
-        Char::Byte(b, j) => {
+        Some((b, j)) => {
             if letters::classes::is_blank(b) {
-                return Spelling::Reads(
+                return Some((
                     Decimal {
                         amount: amount,
                         power: signed(true, places),
                     },
                     at,
-                );
+                ));
             }
             if is_mark(b) {
                 let lead = sign_at(text, j, source);
                 return power_digits(text, lead.next, source, lead.negative, amount, places);
             }
-            Spelling::Fails
+            None
         }
-        Char::End => Spelling::Reads(
+        None => Some((
             Decimal {
                 amount: amount,
                 power: signed(true, places),
             },
             at,
-        ),
+        )),
     }
 }

@@ -1,12 +1,10 @@
 -- What the table says of a text, as CIFTI and as GIFTI: conditions 3, 6 and 7, and the numbers of words.
-use Rattle.std.specs.Prelude.{◌≡◌, List, Bool, true, false, cond, ℕ}
-use Rattle.std.proofs.Math.Option.{Option, some}
+use Rattle.std.specs.Prelude.{◌≡◌, List, Bool, true, false, cond, ℕ, Some, None}
 use Rattle.grammar.specs.Document.{Element}
 use Rattle.grammar.specs.Parser.{parse}
 use Rattle.nodes.specs.Places.{Stands, the}
 use Rattle.nodes.specs.Root.{root}
 use Rattle.nodes.specs.Values.{value_there}
-use Rattle.nodes.specs.declared.Kid.TheVariants.{Child}
 use Rattle.cifti.specs.Conditions.{shape_wrong, number_wrong}
 use Rattle.cifti.specs.Words.{number_in}
 use Rattle.gifti.specs.Conditions as G
@@ -24,15 +22,15 @@ gifti_fault e = cond (G.shape_wrong e) 6 (cond (G.number_wrong e) 7 0)
 
 -- the root stands at the place, and its fault is known
 pub record JudgedBy (faultIn : Element → ℕ) (text : List ℕ) (at fault : ℕ) : Type 0 where
-  pub parsed : parse text ≡ some (the text at)
-  pub placed : root text ≡ Child at
+  pub parsed : parse text ≡ Some (the text at)
+  pub placed : root text ≡ Some at
   pub stands : Stands text at
   pub fault_is : fault ≡ faultIn (the text at)
 
 -- CONDITIONS 3, 6 AND 7: 3 where no document writes the text; else the fault of the root
 pub record ChecksBy (faultIn : Element → ℕ) (text : List ℕ) (r : Checked) : Type 0 where
-  pub unwritten : parse text ≡ Option.none → (r.number ≡ 3) × (r.root ≡ 0)
-  pub written : (e : Element) → parse text ≡ some e → JudgedBy faultIn text r.root r.number
+  pub unwritten : parse text ≡ None → (r.number ≡ 3) × (r.root ≡ 0)
+  pub written : (e : Element) → parse text ≡ Some e → JudgedBy faultIn text r.root r.number
 
 abbrev pub JudgedCifti : (text : List ℕ) (at fault : ℕ) → Type 0
 JudgedCifti text at n = JudgedBy root_fault text at n

@@ -1,5 +1,5 @@
 -- Decimals, as a reader meets them: a sign, digits, a point, digits, a mark, a sign, digits, and the end of the word.
-use Rattle.std.specs.Prelude.{◌≡◌, List, ◌∷◌, ◌++◌, Bool, true, false, ◌&&◌, ℕ, ◌≤◌, ℤ, pos, ◌-ℤ◌, length}
+use Rattle.std.specs.Prelude.{◌≡◌, List, ◌∷◌, ◌++◌, Bool, true, false, ◌&&◌, ℕ, ◌≤◌, ℤ, pos, ◌-ℤ◌, length, Option, Some, None}
 use Rattle.grammar.specs.Bytes.{blank}
 use Rattle.grammar.specs.Document.{together}
 use Rattle.grammar.specs.Look.{Word}
@@ -12,19 +12,17 @@ use Rattle.numbers.specs.Answers.{sign_if}
 use Rattle.numbers.specs.declared.Source.{Source}
 use Rattle.numbers.specs.declared.Lead.{Lead}
 use Rattle.numbers.specs.declared.Decimal.{Decimal}
-use Rattle.numbers.specs.declared.Spelling.{Spelling}
-use Rattle.numbers.specs.declared.Spelling.TheVariants.{Reads, Fails}
 
 -- What is found from a place on, of words that are right by a test and have a value: one that is right, and the place behind it, or a
 -- word that is not.
-pub data Reading (source : Source) (text : List ℕ) (at : ℕ) (right : Word → Bool) (valued : Word → Decimal) : Spelling → Type 0 where
+pub data Reading (source : Source) (text : List ℕ) (at : ℕ) (right : Word → Bool) (valued : Word → Decimal) : Option (Decimal × ℕ) → Type 0 where
   reads : (x : Word) {j : ℕ} {d : Decimal} → right x ≡ true → d ≡ valued x → Uncut blank x → stream source text at ≡ x
-      ++ stream source text j → word_ends (stream source text j) ≡ true → Reading source text at right valued (Reads d j)
+      ++ stream source text j → word_ends (stream source text j) ≡ true → Reading source text at right valued (Some (d, j))
   fails : (x y : Word) → right x ≡ false → Uncut blank x → stream source text at ≡ x ++ y → word_ends y ≡ true
-      → Reading source text at right valued Fails
+      → Reading source text at right valued None
 
 -- a decimal
-pub record Spelled (source : Source) (text : List ℕ) (at : ℕ) (r : Spelling) : Type 0 where
+pub record Spelled (source : Source) (text : List ℕ) (at : ℕ) (r : Option (Decimal × ℕ)) : Type 0 where
   pub reading : Reading source text at decimal decimal_value r
 
 -- without its sign
@@ -34,7 +32,7 @@ pure_decimal x = scaled (parts power_mark x)
 unfoldable pub pure_value : Sign → Word → Decimal
 pure_value s x = scaled_value s (parts power_mark x)
 
-pub record Pure (source : Source) (text : List ℕ) (at : ℕ) (s : Sign) (r : Spelling) : Type 0 where
+pub record Pure (source : Source) (text : List ℕ) (at : ℕ) (s : Sign) (r : Option (Decimal × ℕ)) : Type 0 where
   pub reading : Reading source text at pure_decimal (pure_value s) r
 
 -- behind the point, where `count` digits stand in front of it, which write `before`
@@ -47,7 +45,7 @@ pub record DigitsInFront (u : Word) (before count : ℕ) : Type 0 where
   pub counted : length u ≡ count
   pub valued : value u ≡ before
 
-pub record Pointed (source : Source) (text : List ℕ) (at before count : ℕ) (s : Sign) (r : Spelling) : Type 0 where
+pub record Pointed (source : Source) (text : List ℕ) (at before count : ℕ) (s : Sign) (r : Option (Decimal × ℕ)) : Type 0 where
   pub reading : {u : Word} → DigitsInFront u before count
       → Reading source text at (λ x. pure_decimal (pointed u x)) (λ x. pure_value s (pointed u x)) r
 
@@ -58,7 +56,7 @@ pub record Mantissa (source : Source) (text : List ℕ) (at : ℕ) (s : Sign) (a
   pub placed : places m ≡ n
   pub stopped : (b : ℕ) (x : Word) → stream source text at ≡ b ∷ x → power_mark b ≡ false → (y : Word) → mantissa (m ++ (b ∷ y)) ≡ false
 
-pub record Powered (source : Source) (text : List ℕ) (at : ℕ) (a : ℤ) (n : ℕ) (r : Spelling) : Type 0 where
+pub record Powered (source : Source) (text : List ℕ) (at : ℕ) (a : ℤ) (n : ℕ) (r : Option (Decimal × ℕ)) : Type 0 where
   pub reading : {s : Sign} {m : Word} → Mantissa source text at s a n m
       → Reading source text at (λ y. pure_decimal (m ++ y)) (λ y. pure_value s (m ++ y)) r
 
@@ -69,7 +67,7 @@ power_digits s n x = digits 1 2 x && in_power 45 (with_sign s (value x) -ℤ pos
 unfoldable pub power_value : Sign → ℤ → ℕ → Word → Decimal
 power_value s a n x = record { amount = a; power = with_sign s (value x) -ℤ pos n }
 
-pub record Raised (source : Source) (text : List ℕ) (at : ℕ) (s : Sign) (a : ℤ) (n : ℕ) (r : Spelling) : Type 0 where
+pub record Raised (source : Source) (text : List ℕ) (at : ℕ) (s : Sign) (a : ℤ) (n : ℕ) (r : Option (Decimal × ℕ)) : Type 0 where
   pub reading : Reading source text at (power_digits s n) (power_value s a n) r
 
 -- A sign in front, if there is one, and the place behind it: what is ahead of that is the rest.

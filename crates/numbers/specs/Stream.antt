@@ -1,11 +1,9 @@
 -- Decoded bytes, one after another, from a value or from a text: what stands at a place, all that is ahead, the place behind some of it.
-use Rattle.std.specs.Prelude.{◌≡◌, List, [], ◌∷◌, Bool, true, cond, ℕ, zero, suc, ◌+◌, ◌*◌, ◌-◌, ◌^◌, ◌≤◌, ◌<◌, length, drop}
+use Rattle.std.specs.Prelude.{◌≡◌, List, [], ◌∷◌, Bool, true, cond, ℕ, zero, suc, ◌+◌, ◌*◌, ◌-◌, ◌^◌, ◌≤◌, ◌<◌, length, drop, Option, Some, None}
 use Rattle.grammar.specs.Bytes.{blank}
 use Rattle.grammar.specs.Look.{Word}
 use Rattle.nodes.specs.Values.{tells, decoded_at}
 use Rattle.nodes.specs.Texts.{says_at, left, text_step}
-use Rattle.nodes.specs.declared.Char.{Char}
-use Rattle.nodes.specs.declared.Char.TheVariants.{Byte, End}
 use Rattle.nodes.specs.declared.Text.{Text}
 use Rattle.nodes.specs.declared.Text.TheVariants.{Stop, Skip, Letter}
 use Rattle.numbers.specs.Numbers.{digit}
@@ -14,19 +12,19 @@ use Rattle.numbers.specs.declared.Source.TheVariants.{Value, Contents}
 use Rattle.numbers.specs.declared.Run.{Run}
 
 -- the next decoded byte of a text: what writes no byte is passed over, at most n times
-unfoldable pub letter_by : Text → (ℕ → Char) → Char
-letter_by Stop f = End
+unfoldable pub letter_by : Text → (ℕ → Option (ℕ × ℕ)) → Option (ℕ × ℕ)
+letter_by Stop f = None
 letter_by (Skip j) f = f j
-letter_by (Letter b j) f = Byte b j
+letter_by (Letter b j) f = Some (b, j)
 
-unfoldable pub letter_within : ℕ → List ℕ → ℕ → Char
-letter_within zero text i = End
+unfoldable pub letter_within : ℕ → List ℕ → ℕ → Option (ℕ × ℕ)
+letter_within zero text i = None
 letter_within (suc n) text i = letter_by (text_step text i) (letter_within n text)
 
-unfoldable pub letter_at : List ℕ → ℕ → Char
+unfoldable pub letter_at : List ℕ → ℕ → Option (ℕ × ℕ)
 letter_at text i = letter_within (suc (left text i)) text i
 
-unfoldable pub char_at : Source → List ℕ → ℕ → Char
+unfoldable pub char_at : Source → List ℕ → ℕ → Option (ℕ × ℕ)
 char_at (Value q) text i = decoded_at text i q
 char_at Contents text i = letter_at text i
 
@@ -41,9 +39,9 @@ left_in (Value q) text i = length text - i
 left_in Contents text i = left text i
 
 -- the place behind the next n decoded bytes
-unfoldable pub behind_by : Char → ℕ → (ℕ → ℕ) → ℕ
-behind_by End i f = i
-behind_by (Byte b j) i f = f j
+unfoldable pub behind_by : Option (ℕ × ℕ) → ℕ → (ℕ → ℕ) → ℕ
+behind_by None i f = i
+behind_by (Some (b, j)) i f = f j
 
 unfoldable pub behind : Source → List ℕ → ℕ → ℕ → ℕ
 behind source text zero i = i
@@ -60,9 +58,9 @@ word_ends [] = true
 word_ends (a ∷ w) = blank a
 
 -- THE MODEL of a reader of digits: n is written by the k digits before
-unfoldable pub digits_by : Char → Run → (ℕ → ℕ → Run) → Run
-digits_by End r f = r
-digits_by (Byte b j) r f = cond (digit b) (f b j) r
+unfoldable pub digits_by : Option (ℕ × ℕ) → Run → (ℕ → ℕ → Run) → Run
+digits_by None r f = r
+digits_by (Some (b, j)) r f = cond (digit b) (f b j) r
 
 unfoldable pub digits_at : Source → List ℕ → (most n k i : ℕ) → Run
 digits_at source text zero n k i = record { value = n; count = k; next = i }

@@ -1,14 +1,7 @@
 // Numbers in words and in texts: what each form means, and what its reader answers. Definitions, laws and types; no functions.
 #![tactic(auto)]
 
-// A whole number, or that there is none.
-#[derive(Clone, Copy)]
-pub enum Whole {
-    Is(u64),
-    No,
-}
-
-// Three lengths, or that there are none.
+// Three lengths.
 #[derive(Clone, Copy)]
 pub struct Lengths {
     pub i: u64,
@@ -16,37 +9,11 @@ pub struct Lengths {
     pub k: u64,
 }
 
-#[derive(Clone, Copy)]
-pub enum Three {
-    Are(Lengths),
-    No,
-}
-
-// A small number with a sign.
-#[derive(Clone, Copy)]
-pub enum Exponent {
-    Is(i64),
-    No,
-}
-
-// The key of a label.
-#[derive(Clone, Copy)]
-pub enum Key {
-    Is(i32),
-    No,
-}
-
 // A decimal as it is written: its digits with the sign, and one power of ten, the written one less the places. 2.0 is 20 with power -1.
 #[derive(Clone, Copy)]
 pub struct Decimal {
     pub amount: i64,
     pub power: i64,
-}
-
-#[derive(Clone, Copy)]
-pub enum Decimals {
-    Is(Decimal),
-    No,
 }
 
 // The number that stands next in a list, and the place behind it.
@@ -85,11 +52,4 @@ pub enum Part {
     Comma(u64, usize),
     Last(u64),
     No,
-}
-
-// A decimal and the place behind it, or that a word is none.
-#[derive(Clone, Copy)]
-pub enum Spelling {
-    Reads(Decimal, usize),
-    Fails,
 }

@@ -1,14 +1,11 @@
 -- CONDITIONS 1 TO 7, one after the other: the number of the first that applies, or that none does and where the matrix stands.
-use Rattle.std.specs.Prelude.{◌≡◌, List, [], ◌∷◌, false, cond, ℕ, ◌≤◌, length}
-use Rattle.std.proofs.Math.Option.{some}
+use Rattle.std.specs.Prelude.{◌≡◌, List, [], ◌∷◌, false, cond, ℕ, ◌≤◌, length, Option, Some, None}
 use Rattle.grammar.specs.Document.{Element}
 use Rattle.grammar.specs.Look.{children}
 use Rattle.grammar.specs.Parser.{parse}
 use Rattle.nodes.specs.Places.{Stands, the}
 use Rattle.nodes.specs.Children.{first_child}
 use Rattle.nodes.specs.Root.{root}
-use Rattle.nodes.specs.declared.Kid.{Kid}
-use Rattle.nodes.specs.declared.Kid.TheVariants.{Child, Done}
 use Rattle.cifti.specs.Rows.{matrix}
 use Rattle.cifti.specs.Maps.{maps_of}
 use Rattle.cifti.specs.Conditions as C
@@ -22,7 +19,7 @@ pub record Passed (text lengths : List ℕ) (m : ℕ) : Type 0 where
   pub fine : lengths_wrong lengths ≡ false
   pub short : length text ≤ 16777216
   pub document : Element
-  pub parsed : parse text ≡ some document
+  pub parsed : parse text ≡ Some document
   pub right_root : root_wrong document ≡ false
   pub read_kinds : kind_not_read document ≡ false
   pub shape : shape_wrong document ≡ false
@@ -36,9 +33,9 @@ pub record Passed (text lengths : List ℕ) (m : ℕ) : Type 0 where
 abbrev pub header_number : (text lengths : List ℕ) → ℕ
 header_number text lengths = C.first (conditions_of_header lengths (length text) (parse text))
 
-unfoldable pub kid_place : Kid → ℕ
-kid_place (Child k) = k
-kid_place Done = 0
+unfoldable pub kid_place : Option ℕ → ℕ
+kid_place (Some k) = k
+kid_place None = 0
 
 -- where the first child of the root begins
 unfoldable pub matrix_place : List ℕ → ℕ

@@ -8,7 +8,6 @@ use super::root::root_wrong;
 use super::unread::kind_not_read;
 use elements::children::first_child;
 use maps::limits::{MOST_BYTES, MOST_RECORDS};
-use nodes::Kid;
 
 // The number of the first that applies; where it is 0, the matrix begins at `matrix`.
 #[derive(Clone, Copy)]
@@ -64,11 +63,11 @@ fn of_root(text: &[u8], root: usize, fault: u8) -> Opening
         };
     }
     match first_child(text, root) {
-        Kid::Child(m) => Opening {
+        Some(m) => Opening {
             number: 0,
             matrix: m,
         },
-        Kid::Done => Opening {
+        None => Opening {
             number: 0,
             matrix: 0,
         },

@@ -11,15 +11,14 @@ use elements::children::{first_child, next_child};
 use inside::attributes::attribute;
 use inside::names::name_is;
 use inside::values::value_is;
-use nodes::{Found, Kid};
 
 fn map_not_read(text: &[u8], at: usize) -> bool
     requires { Stands text.now at }
     ensures { result ≡ not_read (the text.now at) }
 {
     match attribute(text, at, b"IndicesMapToDataType") {
-        Found::At(v) => value_is(text, v, b"CIFTI_INDEX_TYPE_PARCELS"),
-        Found::Nothing => false,
+        Some(v) => value_is(text, v, b"CIFTI_INDEX_TYPE_PARCELS"),
+        None => false,
     }
 }
 
@@ -44,7 +43,7 @@ fn level_not_read(text: &[u8], at: usize, level: u64) -> bool
     let mut kid = first_child(text, at);
     loop {
         match kid {
-            Kid::Child(k) => {
+            Some(k) => {
                 kid = next_child(text, k);
                 if level_named(text, k, level - 1) {
                     if level_not_read(text, k, level - 1) {
@@ -52,7 +51,7 @@ fn level_not_read(text: &[u8], at: usize, level: u64) -> bool
                     }
                 }
             }
-            Kid::Done => {
+            None => {
                 return false;
             }
         }

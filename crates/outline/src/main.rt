@@ -7,7 +7,6 @@ ghost use Rattle.std.specs.Prelude.{◌≤◌, length};
 
 use elements::children::root_of;
 use markup::well_formed;
-use nodes::Kid;
 use std::io::{Read, Write};
 
 // The bytes of lines.
@@ -21,8 +20,8 @@ fn lines_of(out: &mut [u8], text: &[u8]) -> usize {
         return lines::put_part(out, 0, b"refused 3\n", 0, 10);
     }
     match root_of(text) {
-        Kid::Child(root) => walk::outlined(out, text, root),
-        Kid::Done => lines::put_part(out, 0, b"refused 3\n", 0, 10),
+        Some(root) => walk::outlined(out, text, root),
+        None => lines::put_part(out, 0, b"refused 3\n", 0, 10),
     }
 }
 

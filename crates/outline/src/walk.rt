@@ -9,9 +9,8 @@ use inside::values::decoded;
 use letters::blanks::tag_ends;
 use letters::names::name_end;
 use markup::pieces::front_at;
+use nodes::Text;
 use nodes::scan::Tag;
-use nodes::{Char, Text};
-use steps::Step;
 use steps::attributes::Key;
 use steps::pieces::Front;
 
@@ -36,11 +35,11 @@ fn put_value(out: &mut [u8], from: usize, text: &[u8], at: usize) -> usize {
     while turn < text.len() {
         turn += 1;
         match decoded(text, i, q) {
-            Char::Byte(b, j) => {
+            Some((b, j)) => {
                 n = put_hex(out, n, b);
                 i = j;
             }
-            Char::End => {
+            None => {
                 return n;
             }
         }
@@ -75,15 +74,17 @@ fn put_attributes(out: &mut [u8], from: usize, text: &[u8], at: usize) -> usize 
             return n;
         }
         match key_at(text, i) {
-            Key::Is {
-                from: first,
-                to,
-                end,
-            } => {
+            Some(
+                Key {
+                    from: first,
+                    to,
+                    end,
+                },
+            ) => {
                 n = put_attribute(out, n, text, first, to, end);
                 i = behind(text, end);
             }
-            Key::No => {
+            None => {
                 return n;
             }
         }
@@ -94,8 +95,8 @@ fn put_attributes(out: &mut [u8], from: usize, text: &[u8], at: usize) -> usize 
 // The place behind a value.
 fn behind(text: &[u8], at: usize) -> usize {
     match value_end(text, at) {
-        Step::To(j) => j,
-        Step::No => text.len(),
+        Some(j) => j,
+        None => text.len(),
     }
 }
 
@@ -106,12 +107,12 @@ fn put_start(out: &mut [u8], from: usize, text: &[u8], at: usize) -> usize {
     }
     let n = put(out, from, b'<');
     match name_end(text, at + 1) {
-        Step::To(j) => {
+        Some(j) => {
             let k = put_part(out, n, text, at + 1, j);
             let m = put(out, k, b'\n');
             put_attributes(out, m, text, j)
         }
-        Step::No => n,
+        None => n,
     }
 }
 
@@ -162,8 +163,8 @@ fn over_end(out: &mut [u8], text: &[u8], s: State) -> State {
     let first = put_stop(out, s.lines, s.run);
     let n = put_end(out, first);
     match past_tag(text, s.at) {
-        Step::To(j) => made(n, j, fewer(s.open), false),
-        Step::No => made(n, text.len(), 0, false),
+        Some(j) => made(n, j, fewer(s.open), false),
+        None => made(n, text.len(), 0, false),
     }
 }
 

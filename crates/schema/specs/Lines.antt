@@ -1,6 +1,5 @@
 -- The lines of children, as the code goes by them.
-use Rattle.std.specs.Prelude.{◌≡◌, List, Bool, true, cond, ℕ, zero, suc, ◌<◌, leb, ltb}
-use Rattle.std.proofs.Math.Option.{Option, some}
+use Rattle.std.specs.Prelude.{◌≡◌, List, Bool, true, cond, ℕ, zero, suc, ◌<◌, leb, ltb, Option, Some, None}
 use Prim.Native.String.{String}
 use Rattle.lists.specs.Lists.{count_up}
 use Rattle.grammar.specs.Document.{Element}
@@ -11,7 +10,7 @@ use Rattle.schema.specs.Table.{word_at, entry_word, choice_cell, cases_of, order
 
 -- a kind by number; 2^32 and above are none
 unfoldable pub kind_or_none : ℕ → Option ℕ
-kind_or_none k = cond (ltb k 4294967296) (some k) Option.none
+kind_or_none k = cond (ltb k 4294967296) (Some k) None
 
 -- the number of a kind, or of none, at a line; where it is one, the line is one of the lines before `to`
 pub record KindFor (c line to : ℕ) (o : Option ℕ) : Type 0 where
@@ -53,4 +52,4 @@ module _ (t l : List ℕ) where
 
   -- the kind of a child, which has none where it is out of turn
   unfoldable pub kind_next : (kind last : ℕ) → Element → Option ℕ
-  kind_next k last e = cond (in_turn (order_at t k) last (row_place (lines_of_kind t l k) e)) (kind_of (lines_of_kind t l k) e) Option.none
+  kind_next k last e = cond (in_turn (order_at t k) last (row_place (lines_of_kind t l k) e)) (kind_of (lines_of_kind t l k) e) None

@@ -1,7 +1,6 @@
 -- A SCHEMA: tables that say what each kind of element holds, and what it is for a document to be as the tables say. Nothing here is
 -- CIFTI's.
-use Rattle.std.specs.Prelude.{List, [], ◌∷◌, Bool, true, false, ◌&&◌, ◌||◌, cond, ℕ, suc, eqb, leb, length}
-use Rattle.std.proofs.Math.Option.{Option, some}
+use Rattle.std.specs.Prelude.{List, [], ◌∷◌, Bool, true, false, ◌&&◌, ◌||◌, cond, ℕ, suc, eqb, leb, length, Option, Some, None}
 use Prim.Native.String.{String}
 use Rattle.lists.specs.Lists.{all, any, count, is_some, if_there, there}
 use Rattle.grammar.specs.Bytes.{blank}
@@ -58,24 +57,24 @@ pub data Row (K : Type 0) : Type 0 where
 
 module _ {K : Type 0} where
   unfoldable pub kind_among : List (Case K) → Word → Option K
-  kind_among [] v = Option.none
-  kind_among ((s ⇒ k) ∷ l) v = cond (is s v) (some k) (kind_among l v)
+  kind_among [] v = None
+  kind_among ((s ⇒ k) ∷ l) v = cond (is s v) (Some k) (kind_among l v)
 
   unfoldable pub kind_chosen : List (Case K) → Option Word → Option K
-  kind_chosen l Option.none = Option.none
-  kind_chosen l (some v) = kind_among l v
+  kind_chosen l None = None
+  kind_chosen l (Some v) = kind_among l v
 
   unfoldable pub or_else : K → Option K → Option K
-  or_else k Option.none = some k
-  or_else k (some j) = some j
+  or_else k None = Some k
+  or_else k (Some j) = Some j
 
   unfoldable pub kind_by : Which K → Element → Option K
-  kind_by (always k) e = some k
+  kind_by (always k) e = Some k
   kind_by (chosen a l) e = kind_chosen l (value_in a (attributes_of e))
   kind_by (chosen_else a l k) e = or_else k (kind_chosen l (value_in a (attributes_of e)))
 
   unfoldable pub kind_of : List (ChildRow K) → Element → Option K
-  kind_of [] e = Option.none
+  kind_of [] e = None
   kind_of (child s t w ∷ l) e = cond (is s (name_of e)) (kind_by w e) (kind_of l e)
 
   unfoldable pub child_rows : Row K → List (ChildRow K)

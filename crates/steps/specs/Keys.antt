@@ -1,12 +1,11 @@
 -- The name of an attribute, and the head of a tag: parts of the grammar's readers, with their places.
-use Rattle.std.specs.Prelude.{List, ℕ, ◌-◌, length}
+use Rattle.std.specs.Prelude.{List, ℕ, ◌-◌, length, Option, Some, None}
 use Rattle.grammar.specs.Bytes.{ascii, blank}
 use Rattle.grammar.specs.Document.{Attribute}
 use Rattle.grammar.specs.Read.{Read, fail, got, Reader, bind, ◌>>=◌, ◌>>◌, pure, mark, span}
 use Rattle.grammar.specs.Parser.{name_at, gap_at, equals_at, value_at, attributes_at}
 use Rattle.steps.specs.Step.{Went}
 use Rattle.steps.specs.declared.attributes.Key.{Key}
-use Rattle.steps.specs.declared.attributes.Key.TheVariants as key
 
 -- how many bytes are left where a name begins, and where it ends
 pub data Spots : Type 0 where
@@ -21,9 +20,9 @@ unfoldable pub named_at : Reader Spots
 named_at s = bind (key_at s) (λ k r. bind (value_at r) (λ _ r₁. got k r₁))
 
 -- what the program answers, in a text of `n` bytes
-unfoldable pub keyed : ℕ → Read Spots → Key
-keyed n fail = key.No
-keyed n (got (spots a b) r) = key.Is (n - a) (n - b) (n - length r)
+unfoldable pub keyed : ℕ → Read Spots → Option Key
+keyed n fail = None
+keyed n (got (spots a b) r) = Some (record { from = (n - a); to = (n - b); end = (n - length r) })
 
 -- a tag up to its end: `<`, name, attributes, blanks
 pub data Head : Type 0 where

@@ -1,13 +1,11 @@
 -- Readers that are parts of the grammar's, and what each reader leaves.
-use Rattle.std.specs.Prelude.{List, [], ◌∷◌, ℕ, ◌-◌, Bool, true, ◌&&◌, not, eqb, length}
+use Rattle.std.specs.Prelude.{List, [], ◌∷◌, ℕ, ◌-◌, Bool, true, ◌&&◌, not, eqb, length, Option, Some, None}
 use Rattle.grammar.specs.Bytes.{ascii, begins}
 use Rattle.grammar.specs.Characters.{lead1}
 use Rattle.grammar.specs.Read.{Read, fail, got, Reader, mark}
 use Rattle.grammar.specs.Parser.{literal_at, value_character_at}
 use Rattle.grammar.specs.Parser.{remark_at, data_character_at, skipped_at}
 use Rattle.steps.specs.Until.{until}
-use Rattle.steps.specs.declared.characters.Reference.{Reference}
-use Rattle.steps.specs.declared.characters.Reference.TheVariants as reference
 
 -- any legal character
 unfoldable pub anything : ℕ → Bool
@@ -21,9 +19,9 @@ unfoldable pub first_byte : List ℕ → ℕ
 first_byte [] = 0
 first_byte (a ∷ s) = a
 
-unfoldable pub referred : ℕ → Read (List ℕ) → Reference
-referred n fail = reference.No
-referred n (got b r) = reference.Is (first_byte b) (n - length r)
+unfoldable pub referred : ℕ → Read (List ℕ) → Option (ℕ × ℕ)
+referred n fail = None
+referred n (got b r) = Some ((first_byte b), (n - length r))
 
 -- a value behind its first quote
 unfoldable pub value_rest_at : ℕ → Reader (Unit {0})

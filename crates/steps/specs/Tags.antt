@@ -1,20 +1,18 @@
 -- Tags: what the readers of a start tag and of an end tag answer.
-use Rattle.std.specs.Prelude.{List, ℕ}
+use Rattle.std.specs.Prelude.{List, ℕ, Option, Some, None}
 use Rattle.grammar.specs.Bytes.{ascii, blank}
 use Rattle.grammar.specs.Read.{Read, fail, got, Reader, bind, ◌>>◌, mark, span}
 use Rattle.grammar.specs.Parser.{name_at}
 use Rattle.steps.specs.Step.{stepped}
-use Rattle.steps.specs.declared.Step.{Step}
-use Rattle.steps.specs.declared.Step.TheVariants.{To, No}
 use Rattle.steps.specs.Keys.{Head}
 use Rattle.steps.specs.declared.tags.Opened.{Opened}
 use Rattle.steps.specs.declared.tags.Opened.TheVariants.{Full, Empty, Bad}
 
 -- behind the head: `>`, or else `/>`
-unfoldable pub ended : Step → Step → Opened
-ended (To j) e = Full j
-ended No (To j) = Empty j
-ended No No = Bad
+unfoldable pub ended : Option ℕ → Option ℕ → Opened
+ended (Some j) e = Full j
+ended None (Some j) = Empty j
+ended None None = Bad
 
 unfoldable pub opened : ℕ → Read Head → Opened
 opened n fail = Bad

@@ -1,7 +1,6 @@
 -- JOBS: what is still to be read of a text that arrives a bit at a time, and what one byte makes of it. A job is something of the grammar,
 -- or the rest of it where its first bytes are gone. proofs/Laws/Meets says of each which of the grammar's readers it is.
-use Rattle.std.specs.Prelude.{List, [], ◌∷◌, ◌++◌, ℕ, zero, suc, Bool, true, false, cond, ◌&&◌, not, eqb, leb, ltb, length}
-use Rattle.std.proofs.Math.Option.{Option, some}
+use Rattle.std.specs.Prelude.{List, [], ◌∷◌, ◌++◌, ℕ, zero, suc, Bool, true, false, cond, ◌&&◌, not, eqb, leb, ltb, length, Option, Some, None}
 use Rattle.grammar.specs.Bytes.{ascii, blank, letter, name_start, name_byte, quote, skipped}
 use Rattle.grammar.specs.Characters.{lead1, lead2, lead3, lead4, continues, noncharacter}
 use Rattle.grammar.specs.Parser.{CharacterWidth, one, two, three, four, width_by, width, same_bytes}
@@ -302,21 +301,21 @@ Left = Option (List Job)
 
 -- the jobs behind a change, before the jobs `l`; `x` is what the byte makes of these
 unfoldable pub put : Change → List Job → Left → Left
-put dead l x = Option.none
+put dead l x = None
 put done l x = x
-put (turn m) l x = some (m ++ l)
+put (turn m) l x = Some (m ++ l)
 
 unfoldable pub jobs_on : List Job → ℕ → Left
-jobs_on [] a = Option.none
+jobs_on [] a = None
 jobs_on (j ∷ l) a = put (change j a) l (jobs_on l a)
 
 unfoldable pub read_byte : Left → ℕ → Left
-read_byte Option.none a = Option.none
-read_byte (some l) a = jobs_on l a
+read_byte None a = None
+read_byte (Some l) a = jobs_on l a
 
 -- the whole text
 unfoldable pub outset : Left
-outset = some (starting ∷ trailing ∷ [])
+outset = Some (starting ∷ trailing ∷ [])
 
 unfoldable pub all_idle : List Job → Bool
 all_idle [] = true
@@ -324,8 +323,8 @@ all_idle (j ∷ l) = idle j && all_idle l
 
 -- where the text ends: whether all that is left is done there
 unfoldable pub idle_left : Left → Bool
-idle_left Option.none = false
-idle_left (some l) = all_idle l
+idle_left None = false
+idle_left (Some l) = all_idle l
 
 -- all this open: `unfolding reading_jobs` lets a proof compute what is left at a text that is given
 unfoldable pub reading_jobs : Left → ℕ → Left

@@ -1,6 +1,5 @@
 -- A READING IN PARTS: what is left of the text, how many bytes came, and the verdict once the end was told.
-use Rattle.std.specs.Prelude.{◌≡◌, List, [], ◌∷◌, ℕ, ◌+◌, ◌≤◌, Bool, true, false, ◌&&◌, leb, length}
-use Rattle.std.proofs.Math.Option.{Option, some}
+use Rattle.std.specs.Prelude.{◌≡◌, List, [], ◌∷◌, ℕ, ◌+◌, ◌≤◌, Bool, true, false, ◌&&◌, leb, length, Option, Some, None}
 use Rattle.steps.specs.WellFormed.{WellFormed}
 use Rattle.stream.specs.Jobs.{Left, read_byte, outset, idle_left}
 
@@ -14,7 +13,7 @@ pub data Arrival : Type 0 where
 
 -- nothing came yet
 unfoldable pub awaited : Arrival
-awaited = arrival outset 0 Option.none
+awaited = arrival outset 0 None
 
 -- some bytes, one after another
 unfoldable pub read_on : Left → List ℕ → Left
@@ -23,8 +22,8 @@ read_on x (a ∷ s) = read_on (read_byte x a) s
 
 -- a part; behind the end it changes nothing
 unfoldable pub add_part : Arrival → List ℕ → Arrival
-add_part (arrival x n Option.none) p = arrival (read_on x p) (n + length p) Option.none
-add_part (arrival x n (some v)) p = arrival x n (some v)
+add_part (arrival x n None) p = arrival (read_on x p) (n + length p) None
+add_part (arrival x n (Some v)) p = arrival x n (Some v)
 
 unfoldable pub add_parts : Arrival → List (List ℕ) → Arrival
 add_parts r [] = r
@@ -32,8 +31,8 @@ add_parts r (p ∷ ps) = add_parts (add_part r p) ps
 
 -- the end: whether conditions 2 and 3 let the text pass; a second end changes nothing
 unfoldable pub add_end : Arrival → Arrival
-add_end (arrival x n Option.none) = arrival x n (some (leb n 16777216 && idle_left x))
-add_end (arrival x n (some v)) = arrival x n (some v)
+add_end (arrival x n None) = arrival x n (Some (leb n 16777216 && idle_left x))
+add_end (arrival x n (Some v)) = arrival x n (Some v)
 
 -- the verdict, once the end was told
 unfoldable pub verdict_of : Arrival → Option Bool
@@ -41,8 +40,8 @@ verdict_of (arrival x n v) = v
 
 -- the number that a part or an end is answered with: 28 behind the end
 unfoldable pub number_behind : Option Bool → ℕ
-number_behind Option.none = 0
-number_behind (some v) = 28
+number_behind None = 0
+number_behind (Some v) = 28
 
 unfoldable pub number_of : Arrival → ℕ
 number_of r = number_behind (verdict_of r)

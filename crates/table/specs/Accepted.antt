@@ -1,6 +1,5 @@
 -- WHICH CONDITIONS APPLY TO AN INPUT, and what it is for a number to be the one that the paper asks for.
-use Rattle.std.specs.Prelude.{◌≡◌, ◌↔◌, List, [], ◌∷◌, ◌++◌, ℕ, ◌≤◌, length}
-use Rattle.std.proofs.Math.Option.{Option}
+use Rattle.std.specs.Prelude.{◌≡◌, ◌↔◌, List, [], ◌∷◌, ◌++◌, ℕ, ◌≤◌, length, Option}
 use Rattle.lists.specs.Refusals.{Refusal, ◌when◌, Applies}
 use Rattle.grammar.specs.Document.{Element}
 use Rattle.cifti.specs.Conditions.{conditions, conditions_of_header, of_maps}

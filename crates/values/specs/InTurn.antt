@@ -1,9 +1,8 @@
 -- The attributes of a tag, met one by one in the order of a row.
-use Rattle.std.specs.Prelude.{◌≡◌, List, ◌∷◌, ◌++◌, ℕ, length, drop}
+use Rattle.std.specs.Prelude.{◌≡◌, List, ◌∷◌, ◌++◌, ℕ, length, drop, Option}
 use Rattle.nodes.specs.Places.{the, Stands}
 use Rattle.nodes.specs.Attributes.{Key, key, keys_at_lem, keys, place}
 use Rattle.nodes.specs.Scan.{tag_from, InTag}
-use Rattle.nodes.specs.declared.Found.{Found}
 use Rattle.lists.specs.Lists.{all}
 use Rattle.grammar.specs.Bytes.{ascii}
 use Rattle.grammar.specs.Look.{attributes_of}
@@ -28,7 +27,7 @@ pub record TagGoesOn (text : List ℕ) (at i : ℕ) : Type 0 where
   pub parts : keys text at ≡ before ++ keys_from text i
 
 -- where the attribute with the name stands, and a place to which the attributes were passed
-pub record AttributePlaced (text : List ℕ) (at i : ℕ) (name : List ℕ) (found : Found) (to : ℕ) : Type 0 where
+pub record AttributePlaced (text : List ℕ) (at i : ℕ) (name : List ℕ) (found : Option ℕ) (to : ℕ) : Type 0 where
   pub there : found ≡ place text at name
   pub passed : Over text name i to
 

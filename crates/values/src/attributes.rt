@@ -13,14 +13,12 @@ use heads::values::value_end;
 use letters::blanks::tag_ends;
 use letters::names::{equal, name_end};
 use lookup::table;
-use nodes::Found;
-use steps::Step;
 use steps::attributes::Key;
 
 // Where an attribute stands, and a place in the tag.
 #[derive(Drop)]
 struct Sought {
-    place: Found,
+    place: Option<usize>,
     at: usize,
 }
 
@@ -30,20 +28,20 @@ fn seek(text: &[u8], at: usize, i: usize, name: &[u8]) -> Sought
     ensures { AttributePlaced text.now at i name.now result.place result.at }
 {
     match key_at(text, i) {
-        Key::Is { from, to, end } => {
+        Some(Key { from, to, end }) => {
             if equal(&text[from..to], name) {
                 match value_end(text, end) {
-                    Step::To(j) => {
+                    Some(j) => {
                         return Sought {
-                            place: Found::At(end),
+                            place: Some(end),
                             at: j,
                         };
                     }
-                    Step::No => {}
+                    None => {}
                 }
             }
         }
-        Key::No => {}
+        None => {}
     }
     Sought {
         place: inside::attributes::attribute(text, at, name),
@@ -74,14 +72,14 @@ fn attribute_fault(
     let here = seek(text, at, i, table::word(table, letters, w));
     let place = here.place;
     match place {
-        Found::At(v) => {
+        Some(v) => {
             let form = table::attribute_cell(table, a, 1);
             Walk {
                 fault: value_fault(text, v, table, letters, form),
                 at: here.at,
             }
         }
-        Found::Nothing => {
+        None => {
             if table::attribute_cell(table, a, 2) == 0 {
                 return Walk {
                     fault: 6,
@@ -104,8 +102,8 @@ fn attributes_from(text: &[u8], at: usize) -> usize
         return text.len();
     }
     match name_end(text, at + 1) {
-        Step::To(i) => i,
-        Step::No => text.len(),
+        Some(i) => i,
+        None => text.len(),
     }
 }
 
@@ -167,11 +165,13 @@ pub(crate) fn listed_from(
     let mut i = at;
     while !tag_ends(text, i) {
         match key_at(text, i) {
-            Key::Is {
-                from: f,
-                to: e,
-                end,
-            } => {
+            Some(
+                Key {
+                    from: f,
+                    to: e,
+                    end,
+                },
+            ) => {
                 if !name_listed(&text[f..e], table, letters, from, to) {
                     return Listed {
                         right: false,
@@ -179,15 +179,15 @@ pub(crate) fn listed_from(
                     };
                 }
                 match value_end(text, end) {
-                    Step::To(j) => {
+                    Some(j) => {
                         i = j;
                     }
-                    Step::No => {
+                    None => {
                         return Listed { right: true, at: i };
                     }
                 }
             }
-            Key::No => {
+            None => {
                 return Listed { right: true, at: i };
             }
         }

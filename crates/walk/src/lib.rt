@@ -6,7 +6,6 @@ ghost use Rattle.std.specs.Prelude.{◌<◌};
 
 use elements::children::root_of;
 use markup::well_formed;
-use nodes::Kid;
 
 // How often the lines of its children are met.
 mod tally;
@@ -20,14 +19,14 @@ fn of_document(text: &[u8], table: &[u32], letters: &[u8], kind: usize) -> Check
     ensures { ChecksRoot table.now letters.now kind text.now result }
 {
     match root_of(text) {
-        Kid::Child(r) => {
+        Some(r) => {
             let walked = element::fault(text, r, table, letters, kind);
             return Checked {
                 number: walked.fault,
                 root: r,
             };
         }
-        Kid::Done => {
+        None => {
             return Checked { number: 3, root: 0 };
         }
     }

@@ -1,10 +1,8 @@
 -- THE MAP THAT LISTS A DIMENSION, in a document to which 6 to 9 do not apply: there is at most one, and its names are the dimension's.
-use Rattle.std.specs.Prelude.{◌≡◌, Bool, ◌&&◌, ◌||◌, ℕ, ◌-◌, ◌≤◌, eqb, ltb, get_or}
+use Rattle.std.specs.Prelude.{◌≡◌, Bool, ◌&&◌, ◌||◌, ℕ, ◌-◌, ◌≤◌, eqb, ltb, get_or, Option, Some, None}
 use Rattle.std.proofs.Math.Path.{refl, sym, ap}
 use Rattle.std.proofs.Common.{◌∙◌, subst, arith, ltb-true, ltb-false, lt-ltb, le-ltb, ne_eqb}
 use mathlib.Core.List.{List, [], ◌∷◌, append-nil}
-use Rattle.std.proofs.Math.Option.{Option, some}
-use Rattle.std.proofs.Math.Option
 use Rattle.std.proofs.Math.Bool.{true, false, cond, not}
 use Rattle.std.proofs.Math.Decide.{ℕ_discrete}
 use Rattle.std.proofs.Math.ListN.{length}
@@ -92,13 +90,13 @@ pub record Lone (d : ℕ) (e m : Element) : Type 0 where
   pub good : GoodMap m
 
 pub data MapOf (d : ℕ) (e : Element) : Option Element → Type 0 where
-  no_map : Unlisted d e → MapOf d e Option.none
-  the_map : {m : Element} → Lone d e m → MapOf d e (some m)
+  no_map : Unlisted d e → MapOf d e None
+  the_map : {m : Element} → Lone d e m → MapOf d e (Some m)
 
-onward_some : {A : Type 0} (o : Option A) → onward some o ≡ o
+onward_some : {A : Type 0} (o : Option A) → onward Some o ≡ o
 unfolding onward
-onward_some Option.none = refl
-onward_some (some a) = refl
+onward_some None = refl
+onward_some (Some a) = refl
 
 root_step : (d : ℕ) (e : Element) (o : OnlyChild "Matrix" matrix (elements (contents_of e)))
     → reached (map_way d) e ≡ nth 0 (those (map_that_lists d) (elements (contents_of o.one)))

@@ -1,10 +1,8 @@
 -- THE PROMISE IS KEPT: the walk over the NamedMaps of the map that lists the dimension tells the place of each name.
-use Rattle.std.specs.Prelude.{◌≡◌, Bool, true, false, drop}
+use Rattle.std.specs.Prelude.{◌≡◌, Bool, true, false, drop, Option, Some, None, ℕ}
 use Rattle.std.proofs.Math.Path.{refl, sym, ap}
 use Rattle.std.proofs.Common.{◌∙◌, subst, le_of_suc-le-suc, rules, eq-eqb, ne_eqb, lt-ltb, le-ltb}
 use mathlib.Core.List.{List, [], ◌∷◌}
-use Rattle.std.proofs.Math.Option.{Option}
-use Rattle.std.proofs.Math.Option
 use Rattle.std.proofs.Math.Bool.{not}
 use Prim.Native.Nat.{ℕ, zero, suc, ◌+◌, ◌*◌, ◌≤◌, ◌<◌}
 use native.Mathlib.Omega.{arith}
@@ -26,8 +24,6 @@ use Rattle.records.specs.declared.outcome.Outcome.{Outcome}
 use Rattle.nodes.specs.Children as Children
 use Rattle.nodes.specs.Inside.{between_tags}
 use Rattle.nodes.specs.Places.{Stands, the}
-use Rattle.nodes.specs.declared.Found.{Found}
-use Rattle.nodes.specs.declared.Found.TheVariants.{At, Nothing}
 use Rattle.cifti.specs.Conditions.{conditions_of_header, of_maps}
 use Rattle.cifti.specs.Maps.{maps_of}
 use Rattle.cifti.specs.Names.{no_name, names_on}
@@ -73,7 +69,7 @@ module _ (text : List ℕ) where
       let e : 2 * suc n + 1 ≡ suc (suc (2 * n + 1)) = omega arith in
       ap (λ i. get_or (each_in (pair_of text) (c ∷ ks)) i 0) e ∙ size_in ks n (le_of_suc-le-suc h)
 
-nth_at : (ks : List ℕ) (n : ℕ) → n < length ks → nth_place n ks ≡ At (get_or ks n 0)
+nth_at : (ks : List ℕ) (n : ℕ) → n < length ks → nth_place n ks ≡ Some (get_or ks n 0)
 unfolding nth_place
 nth_at [] n h = absurd (omega arith)
 nth_at (c ∷ ks) zero h = refl
@@ -112,9 +108,9 @@ named_long {text} {at} st =
 -- ---- Where 1 to 9 do not apply.
 
 -- the map that is found
-data MapHere (text : List ℕ) (d : ℕ) (e : Element) : Found → Type 0 where
-  nowhere : Unlisted d e → MapHere text d e Nothing
-  stands_here : {k : ℕ} → Stands text k → Lone d e (the text k) → MapHere text d e (At k)
+data MapHere (text : List ℕ) (d : ℕ) (e : Element) : Option ℕ → Type 0 where
+  nowhere : Unlisted d e → MapHere text d e None
+  stands_here : {k : ℕ} → Stands text k → Lone d e (the text k) → MapHere text d e (Some k)
 
 kept_all : {text lengths : List ℕ} {d : ℕ} {before after : List ℕ} {r : Outcome}
     → r ≡ names_answer lengths (length text) (length before) d (parse text) → r.value ≡ 0 → after ≡ before
@@ -136,19 +132,19 @@ module _ (text lengths : List ℕ) (d : ℕ) (h : NoneApplies (conditions_of_hea
       rw (map_way_lem text d k.is)
       (by (way_agrees (map_way d) text k.is) (map_of_lem d k.good (listed_once lengths (maps_of k.document) k.once d)))
     where
-      by : {f : Found} {o : Option Element} → Agrees text f o → MapOf d known.document o → MapHere text d known.document f
+      by : {f : Option ℕ} {o : Option Element} → Agrees text f o → MapOf d known.document o → MapHere text d known.document f
       by not_there (no_map z) = nowhere z
       by (stands_there st) (the_map z) = stands_here st z
 
   -- the name of an index that is not refused is found
-  name_found : (n : ℕ) → no_name d n (maps_of known.document) ≡ false → (m : ℕ) × (named_at text (ascii "MapName") d n ≡ At m)
+  name_found : (n : ℕ) → no_name d n (maps_of known.document) ≡ false → (m : ℕ) × (named_at text (ascii "MapName") d n ≡ Some m)
   name_found n q =
       let k = known in
       by (way_agrees (name_way d n) text k.is) (name_of_lem d n k.good (listed_once lengths (maps_of k.document) k.once d))
       (name_way_lem text d n k.is)
     where
-      by : {f : Found} {o : Option Element} → Agrees text f o → NameOf d n known.document o → named_at text (ascii "MapName") d n ≡ f
-          → (m : ℕ) × (named_at text (ascii "MapName") d n ≡ At m)
+      by : {f : Option ℕ} {o : Option Element} → Agrees text f o → NameOf d n known.document o → named_at text (ascii "MapName") d n ≡ f
+          → (m : ℕ) × (named_at text (ascii "MapName") d n ≡ Some m)
       by not_there (no_name_lem z) w = both_ways z q
       by (stands_there {k = m} st) (a_name z x) w = (m, w)
 
@@ -163,21 +159,21 @@ module _ (text lengths : List ℕ) (d : ℕ) (h : NoneApplies (conditions_of_hea
       ∙ rw (k.is, q, c)
 
   -- 18: no map lists the dimension
-  placed_nowhere : map_there text d ≡ Nothing → {r : Outcome} → r.number ≡ 18 → r.value ≡ 0 → (before : List ℕ)
+  placed_nowhere : map_there text d ≡ None → {r : Outcome} → r.number ≡ 18 → r.value ≡ 0 → (before : List ℕ)
       → MapNamesPlaced text lengths d before r before
   unfolding first
   placed_nowhere w {r} a b before = by map_here w
     where
-      by : {f : Found} → MapHere text d known.document f → f ≡ Nothing → MapNamesPlaced text lengths d before r before
+      by : {f : Option ℕ} → MapHere text d known.document f → f ≡ None → MapNamesPlaced text lengths d before r before
       by (stands_here st z) w = clash (cc)
       by (nowhere z) w =
           kept_all ((λ i. record { number = a i; value = b i }) ∙ sym (number_by (length before) (none_lists z 0) refl)) b refl
 
-  module _ {k : ℕ} (w : map_there text d ≡ At k) where
+  module _ {k : ℕ} (w : map_there text d ≡ Some k) where
     found_map : Stands text k × Lone d known.document (the text k)
     found_map = by map_here w
       where
-        by : {f : Found} → MapHere text d known.document f → f ≡ At k → Stands text k × Lone d known.document (the text k)
+        by : {f : Option ℕ} → MapHere text d known.document f → f ≡ Some k → Stands text k × Lone d known.document (the text k)
         by (nowhere z) w = clash (cc)
         by (stands_here {k = j} st z) w =
             let e : j ≡ k = cc in
@@ -208,7 +204,7 @@ module _ (text lengths : List ℕ) (d : ℕ) (h : NoneApplies (conditions_of_hea
         let (j, f) = name_found n q in
         let there : named_at text (ascii "MapName") d n ≡ name_in text (get_or (named_in text k) n 0) =
         name_thence text (ascii "MapName") d n ∙ ap (thence (trod (in_map_treads text (ascii "MapName") n) text)) w ∙ on_nth text k n u in
-        let is_in : name_in text (get_or (named_in text k) n 0) ≡ At j = sym there ∙ f in
+        let is_in : name_in text (get_or (named_in text k) n 0) ≡ Some j = sym there ∙ f in
         let l = pairs_at_long text k in
         let s : get_or (wrote 0 (pairs_at text k) before) (2 * n) 0 ≡ tag_end text j =
         wrote_read (pairs_at text k) before (2 * n) (omega arith) ∙ start_in text (named_in text k) n u ∙ ap (start_by text) is_in in
@@ -282,12 +278,12 @@ module _ {text lengths : List ℕ} {s : Survey} (sv : Surveys text lengths s) (d
     unfolding positive conditions_of_header
     none_applies = given_none (conditions_of_header lengths (length text) (parse text)) refl (sym sv.number_is ∙ z)
 
-    module _ {f : Found} (w : f ≡ map_there text d) where
-      pub names_nowhere : f ≡ Nothing → {r : Outcome} → r.number ≡ 18 → r.value ≡ 0 → (before : List ℕ)
+    module _ {f : Option ℕ} (w : f ≡ map_there text d) where
+      pub names_nowhere : f ≡ None → {r : Outcome} → r.number ≡ 18 → r.value ≡ 0 → (before : List ℕ)
           → MapNamesPlaced text lengths d before r before
       names_nowhere q a b before = placed_nowhere text lengths d none_applies (sym w ∙ q) a b before
 
-      module _ {k : ℕ} (q : f ≡ At k) {c : ℕ} (e : c ≡ get_or lengths d 0) where
+      module _ {k : ℕ} (q : f ≡ Some k) {c : ℕ} (e : c ≡ get_or lengths d 0) where
         pub names_counted : Counted text k c
         names_counted = placed_counted text lengths d none_applies (sym w ∙ q) e
 

@@ -1,5 +1,5 @@
 -- The walk over the NamedMaps, as loops and stores meet it.
-use Rattle.std.specs.Prelude.{◌≡◌, Bool, true, false, ℕ, ◌+◌, ◌*◌, ◌/◌, ◌≤◌, ◌<◌, eqb, set}
+use Rattle.std.specs.Prelude.{◌≡◌, Bool, true, false, ℕ, ◌+◌, ◌*◌, ◌/◌, ◌≤◌, ◌<◌, eqb, set, Option, Some, None}
 use Rattle.std.proofs.Math.Path.{refl, sym, ap, subst}
 use Rattle.std.proofs.Common.{◌∙◌, length-set, rules}
 use Rattle.std.proofs.Math.Bool.{cond}
@@ -16,10 +16,6 @@ use Rattle.records.specs.declared.outcome.Outcome.{Outcome}
 use Rattle.nodes.specs.Children as Children
 use Rattle.nodes.specs.Inside.{between_tags}
 use Rattle.nodes.specs.Names.{named}
-use Rattle.nodes.specs.declared.Kid.{Kid}
-use Rattle.nodes.specs.declared.Kid.TheVariants.{Child, Done}
-use Rattle.nodes.specs.declared.Found.{Found}
-use Rattle.nodes.specs.declared.Found.TheVariants.{At, Nothing}
 use Rattle.inside.specs.Walked.{places_from, nth_place, child_at}
 use Rattle.inside.specs.Treads.{called, child_named}
 use Rattle.inside.proofs.Laws.Treads.{ahead, next_ahead, places_done, places_child}
@@ -35,14 +31,14 @@ two_stored n a b s h =
     ∙ ap (wrote (n + 1) (b ∷ [])) (wrote_one n a s (omega arith))
     ∙ wrote_on n (n + 1) (a ∷ []) (b ∷ []) s refl (omega arith)
 
-module _ (text : List ℕ) (at n : ℕ) (s : List ℕ) (room : n + 2 ≤ length s) {f : Found}
+module _ (text : List ℕ) (at n : ℕ) (s : List ℕ) (room : n + 2 ≤ length s) {f : Option ℕ}
     (e : f ≡ child_named (ascii "MapName") 0 text at) where
-  pub put_found : {k : ℕ} → f ≡ At k → {a : ℕ} → a ≡ tag_end text k → {l : List ℕ} → l ≡ between_tags text k
+  pub put_found : {k : ℕ} → f ≡ Some k → {a : ℕ} → a ≡ tag_end text k → {l : List ℕ} → l ≡ between_tags text k
       → set (set s n a) (n + 1) (length l) ≡ wrote n (pair_of text at) s
   unfolding pair_of name_in start_by size_by
   put_found {k} h {a} p {l} q = two_stored n a (length l) s room ∙ sym (rw (sym e ∙ h, p, q))
 
-  pub put_missing : f ≡ Nothing → set (set s n 0) (n + 1) 0 ≡ wrote n (pair_of text at) s
+  pub put_missing : f ≡ None → set (set s n 0) (n + 1) 0 ≡ wrote n (pair_of text at) s
   unfolding pair_of name_in start_by size_by
   put_missing h = two_stored n 0 0 s room ∙ sym (rw (sym e ∙ h))
 
@@ -57,22 +53,22 @@ pub ruleset putting = (put_found, put_missing, second_room, two_long, rules)
 -- ---- The loop: with what is left written behind the n numbers, all is written.
 
 -- the NamedMaps from a cursor on
-unfoldable pub named_from : List ℕ → Kid → List ℕ
+unfoldable pub named_from : List ℕ → Option ℕ → List ℕ
 named_from text kid = those (called text (ascii "NamedMap")) (places_from text kid)
 
-pub record Filling (text : List ℕ) (at : ℕ) (start : List ℕ) (n : ℕ) (places : List ℕ) (kid : Kid) : Type 0 where
+pub record Filling (text : List ℕ) (at : ℕ) (start : List ℕ) (n : ℕ) (places : List ℕ) (kid : Option ℕ) : Type 0 where
   pub room : n + length (each_in (pair_of text) (named_from text kid)) ≤ length start
   pub same_long : length places ≡ length start
   pub rest : wrote n (each_in (pair_of text) (named_from text kid)) places ≡ wrote 0 (pairs_at text at) start
 
 module _ {text : List ℕ} {at : ℕ} {start : List ℕ} where
-  pub fill_start : {kid : Kid} → kid ≡ Children.first_child text at → length (pairs_at text at) ≤ length start
+  pub fill_start : {kid : Option ℕ} → kid ≡ Children.first_child text at → length (pairs_at text at) ≤ length start
       → Filling text at start 0 start kid
   unfolding pairs_at named_in named_from
   fill_start e h = rw e (record { room = omega arith; same_long = refl; rest = refl })
 
-  module _ {n : ℕ} {places : List ℕ} {kid : Kid} (go : Filling text at start n places kid) where
-    pub fill_done : kid ≡ Done → places ≡ wrote 0 (pairs_at text at) start
+  module _ {n : ℕ} {places : List ℕ} {kid : Option ℕ} (go : Filling text at start n places kid) where
+    pub fill_done : kid ≡ None → places ≡ wrote 0 (pairs_at text at) start
     unfolding named_from those each_in
     fill_done e =
         sym (ap (λ l. wrote n (each_in (pair_of text) (those (called text (ascii "NamedMap")) l)) places)
@@ -82,8 +78,8 @@ module _ {text : List ℕ} {at : ℕ} {start : List ℕ} where
     pub fill_long : length places ≡ length start
     fill_long = go.same_long
 
-    module _ {k : ℕ} (is_child : kid ≡ Child k) where
-      pub fill_less : {kid₁ : Kid} → kid₁ ≡ Children.next text k → ahead text kid₁ < ahead text kid
+    module _ {k : ℕ} (is_child : kid ≡ Some k) where
+      pub fill_less : {kid₁ : Option ℕ} → kid₁ ≡ Children.next text k → ahead text kid₁ < ahead text kid
       fill_less e = rw (e, is_child) (next_ahead text k)
 
       abbrev behind_it : List ℕ
@@ -96,7 +92,7 @@ module _ {text : List ℕ} {at : ℕ} {start : List ℕ} where
             ap (those (called text (ascii "NamedMap"))) (ap (places_from text) is_child ∙ places_child text k)
             ∙ ap (λ t. cond t (k ∷ named_from text (Children.next text k)) (named_from text (Children.next text k))) (sym q)
 
-        pub fill_off : b ≡ false → {kid₁ : Kid} → kid₁ ≡ Children.next text k → Filling text at start n places kid₁
+        pub fill_off : b ≡ false → {kid₁ : Option ℕ} → kid₁ ≡ Children.next text k → Filling text at start n places kid₁
         fill_off f e =
             let s : named_from text kid ≡ behind_it = splits ∙ rw f in
             rw e (record {
@@ -123,7 +119,7 @@ module _ {text : List ℕ} {at : ℕ} {start : List ℕ} where
           unfolding each_in
           rest_on = subst (λ (l : List ℕ). wrote n (each_in (pair_of text) l) places ≡ wrote 0 (pairs_at text at) start) s_on go.rest
 
-          pub fill_more : {kid₁ : Kid} → kid₁ ≡ Children.next text k → {p : List ℕ} → p ≡ wrote n (pair_of text k) places
+          pub fill_more : {kid₁ : Option ℕ} → kid₁ ≡ Children.next text k → {p : List ℕ} → p ≡ wrote n (pair_of text k) places
               → Filling text at start (n + 2) p kid₁
           unfolding pair_of
           fill_more e {p} h =
@@ -149,19 +145,19 @@ unfolding pairs_at
 pairs_at_long text at = pairs_long text (named_in text at)
 
 -- the first of places
-nth_some : (ks : List ℕ) {k : ℕ} → nth_place 0 ks ≡ At k → 1 ≤ length ks
+nth_some : (ks : List ℕ) {k : ℕ} → nth_place 0 ks ≡ Some k → 1 ≤ length ks
 unfolding nth_place
 nth_some [] h = clash (cc)
 nth_some (c ∷ ks) h = omega arith
 
-nth_none : (ks : List ℕ) → nth_place 0 ks ≡ Nothing → length ks ≡ 0
+nth_none : (ks : List ℕ) → nth_place 0 ks ≡ None → length ks ≡ 0
 unfolding nth_place
 nth_none [] h = refl
 nth_none (c ∷ ks) h = clash (cc)
 
-module _ {text : List ℕ} {at count : ℕ} (c : Counted text at count) {f : Found} (e : f ≡ child_named (ascii "NamedMap") 0 text at)
+module _ {text : List ℕ} {at count : ℕ} (c : Counted text at count) {f : Option ℕ} (e : f ≡ child_named (ascii "NamedMap") 0 text at)
     (before : List ℕ) where
-  pub on_none : f ≡ Nothing → {r : Outcome} → r.number ≡ 18 → r.value ≡ 0 → NamesOn text at count before r before
+  pub on_none : f ≡ None → {r : Outcome} → r.number ≡ 18 → r.value ≡ 0 → NamesOn text at count before r before
   unfolding number_on first child_named child_at named_in
   on_none h {r} a b =
       let z : length (named_in text at) ≡ 0 = nth_none (named_in text at) (sym e ∙ h) in
@@ -171,7 +167,7 @@ module _ {text : List ℕ} {at count : ℕ} (c : Counted text at count) {f : Fou
         holds = rw a;
       }
 
-  module _ {k : ℕ} (h : f ≡ At k) where
+  module _ {k : ℕ} (h : f ≡ Some k) where
     some_there : 1 ≤ length (named_in text at)
     unfolding child_named child_at named_in
     some_there = nth_some (named_in text at) (sym e ∙ h)

@@ -25,8 +25,8 @@ enum_told-1 c = search placingAll
 pub shape_of-places : goal.shape_of-places
 shape_of-places c = search placingAll
 
-pub returns-in-At : goal.returns-in-At
-returns-in-At c = search placingAll
+pub returns-in-Some : goal.returns-in-Some
+returns-in-Some c = search placingAll
 
-pub returns-in-Nothing : goal.returns-in-Nothing
-returns-in-Nothing c = search placingAll
+pub returns-in-None : goal.returns-in-None
+returns-in-None c = search placingAll

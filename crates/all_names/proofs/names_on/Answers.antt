@@ -14,8 +14,8 @@ returns-then-places-count c = search (on_short, rules)
 pub put_names-requires : goal.put_names-requires
 put_names-requires c = search onMap
 
-pub enum_told-in-Nothing : goal.enum_told-in-Nothing
-enum_told-in-Nothing c = search onMap
+pub enum_told-in-None : goal.enum_told-in-None
+enum_told-in-None c = search onMap
 
 pub shape_of-places : goal.shape_of-places
 shape_of-places c = search onMap
@@ -23,5 +23,5 @@ shape_of-places c = search onMap
 pub returns-else-places-count : goal.returns-else-places-count
 returns-else-places-count c = search onMap
 
-pub returns-in-Nothing : goal.returns-in-Nothing
-returns-in-Nothing c = search onMap
+pub returns-in-None : goal.returns-in-None
+returns-in-None c = search onMap

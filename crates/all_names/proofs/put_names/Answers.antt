@@ -19,8 +19,8 @@ loop-kid-smaller c = search filling
 pub loop-kid-preserved : goal.loop-kid-preserved
 loop-kid-preserved c = search filling
 
-pub returns-in-Done : goal.returns-in-Done
-returns-in-Done c = search filling
+pub returns-in-None : goal.returns-in-None
+returns-in-None c = search filling
 
 pub enum_known-kid : goal.enum_known-kid
 enum_known-kid c = search filling
@@ -37,5 +37,5 @@ overflow_add-n c = search filling
 pub enum_told-1 : goal.enum_told-1
 enum_told-1 c = search filling
 
-pub shape_of-places-in-Done : goal.shape_of-places-in-Done
-shape_of-places-in-Done c = search filling
+pub shape_of-places-in-None : goal.shape_of-places-in-None
+shape_of-places-in-None c = search filling

@@ -1,8 +1,7 @@
 -- Where a text is in form, its keys are those ahead of its start.
-use Rattle.std.specs.Prelude.{◌≡◌, List, [], ◌∷◌, Bool, true, false, cond, ℕ, ◌+◌, ◌*◌, ◌%◌, ◌<◌, ◌≤◌, eqb, ℤ}
+use Rattle.std.specs.Prelude.{◌≡◌, List, [], ◌∷◌, Bool, true, false, cond, ℕ, ◌+◌, ◌*◌, ◌%◌, ◌<◌, ◌≤◌, eqb, ℤ, Option, Some, None}
 use Rattle.std.proofs.Math.Path.{refl, sym, ap}
 use Rattle.std.proofs.Common.{subst, ◌∙◌, arith, rules}
-use Rattle.std.proofs.Math.Option.{Option, some}
 use Rattle.std.proofs.Math.ListN.{length}
 use Rattle.std.proofs.Math.Seq.{drop-length}
 use Rattle.lists.specs.Lists.{all, each, is_some}
@@ -13,8 +12,6 @@ use Rattle.nodes.specs.TextBytes.{step, step_by, say}
 use Rattle.nodes.proofs.Laws.TextBytes.{says, says_step}
 use Rattle.nodes.specs.Texts.{says_at, inside, text_of_lem}
 use Rattle.nodes.proofs.Laws.TextSteps.{says_at_outside, left_most, text_none, text_some}
-use Rattle.nodes.specs.declared.Found.{Found}
-use Rattle.nodes.specs.declared.Found.TheVariants.{At, Nothing}
 use Rattle.numbers.specs.Numbers.{words, key, key_value, key_list, listed_keys}
 use Rattle.base64_text.specs.Base64.{unblanked, worth, sixes, three_bytes, three_more, four_ending, four_values, decode, bytes_in, coded}
 use Rattle.base64_text.specs.Fours.{Endian, big, little, keys_in, bytes_or, coded_keys, coded_bytes}
@@ -32,12 +29,12 @@ use Rattle.array_keys.specs.declared.NextKey.TheVariants.{Key, End}
 
 -- ---- The start.
 
-module _ (text : List ℕ) (at : ℕ) {f : Found} (e : f ≡ inside text at) where
-  pub start_there : {i : ℕ} → f ≡ At i → {p : KeyPlace} → p ≡ record { at = i; held = 0; bytes = 0 } → p ≡ keys_start text at
+module _ (text : List ℕ) (at : ℕ) {f : Option ℕ} (e : f ≡ inside text at) where
+  pub start_there : {i : ℕ} → f ≡ Some i → {p : KeyPlace} → p ≡ record { at = i; held = 0; bytes = 0 } → p ≡ keys_start text at
   unfolding keys_start key_start_in
   start_there h q = q ∙ sym (ap (key_start_in text) (sym e ∙ h))
 
-  pub start_nowhere : f ≡ Nothing → {p : KeyPlace} → p ≡ record { at = length text; held = 0; bytes = 0 } → p ≡ keys_start text at
+  pub start_nowhere : f ≡ None → {p : KeyPlace} → p ≡ record { at = length text; held = 0; bytes = 0 } → p ≡ keys_start text at
   unfolding keys_start key_start_in
   start_nowhere h q = q ∙ sym (ap (key_start_in text) (sym e ∙ h))
 
@@ -54,17 +51,17 @@ start_says : (text : List ℕ) (at : ℕ) → says_at text (keys_start text at).
 unfolding keys_start key_start_in
 start_says text at = go (inside text at) refl
   where
-    go : (f : Found) → inside text at ≡ f → says_at text (key_start_in text f).at ≡ text_of_lem text at
-    go (At i) e = sym (text_some text at e)
-    go Nothing e = nothing_at_end text ∙ sym (text_none text at e)
+    go : (f : Option ℕ) → inside text at ≡ f → says_at text (key_start_in text f).at ≡ text_of_lem text at
+    go (Some i) e = sym (text_some text at e)
+    go None e = nothing_at_end text ∙ sym (text_none text at e)
 
 start_held : (text : List ℕ) (at : ℕ) → held_bytes (keys_start text at) ≡ []
 unfolding keys_start key_start_in held_bytes low_bytes
 start_held text at = go (inside text at)
   where
-    go : (f : Found) → held_bytes (key_start_in text f) ≡ []
-    go (At i) = refl
-    go Nothing = refl
+    go : (f : Option ℕ) → held_bytes (key_start_in text f) ≡ []
+    go (Some i) = refl
+    go None = refl
 
 -- ---- Words.
 
@@ -100,29 +97,29 @@ pub ruleset plainly = (plain_key, plain_end, plain_bad, rules)
 
 -- ---- Base64.
 
-more_found : (n : ℕ) (m : Option (List ℕ)) (l w : List ℕ) → ((k : List ℕ) → m ≡ some k → l ≡ k) → three_more n m ≡ some w
+more_found : (n : ℕ) (m : Option (List ℕ)) (l w : List ℕ) → ((k : List ℕ) → m ≡ Some k → l ≡ k) → three_more n m ≡ Some w
     → three_bytes n l ≡ w
 unfolding three_more
-more_found n Option.none l w ih e = never_some e
-more_found n (some k) l w ih e = let z : three_bytes n k ≡ w = cc in ap (three_bytes n) (ih k refl) ∙ z
+more_found n None l w ih e = never_some e
+more_found n (Some k) l w ih e = let z : three_bytes n k ≡ w = cc in ap (three_bytes n) (ih k refl) ∙ z
 
-some_or : (m : Option (List ℕ)) (l : List ℕ) → m ≡ some l → bytes_or m ≡ l
+some_or : (m : Option (List ℕ)) (l : List ℕ) → m ≡ Some l → bytes_or m ≡ l
 unfolding bytes_or
 some_or m l e = rw e refl
 
-four_all : (p q r s : ℕ) (w : Word) (m : Option (List ℕ)) (k l : List ℕ) → ((x : List ℕ) → m ≡ some x → k ≡ x)
-    → four_read p q r s w m ≡ some l → four_ahead p q r s w k ≡ l
+four_all : (p q r s : ℕ) (w : Word) (m : Option (List ℕ)) (k l : List ℕ) → ((x : List ℕ) → m ≡ Some x → k ≡ x)
+    → four_read p q r s w m ≡ Some l → four_ahead p q r s w k ≡ l
 unfolding four_read four_ahead
 four_all p q r s w m k l ih e = go (eqb s 65) (four_values p q r s) e
   where
-    go : (t u : Bool) → cond t (four_ending p q r w) (cond u (three_more (sixes p q r s) m) Option.none) ≡ some l
+    go : (t u : Bool) → cond t (four_ending p q r w) (cond u (three_more (sixes p q r s) m) None) ≡ Some l
         → cond t (bytes_or (four_ending p q r w)) (cond u (three_bytes (sixes p q r s) k) []) ≡ l
     go true u x = some_or (four_ending p q r w) l x
     go false true x = more_found (sixes p q r s) m k l ih x
     go false false x = never_some x
 
 -- Where a word is Base64, reading finds all its bytes.
-pub all_bytes : (w l : List ℕ) → decode w ≡ some l → bytes_ahead w ≡ l
+pub all_bytes : (w l : List ℕ) → decode w ≡ Some l → bytes_ahead w ≡ l
 unfolding decode bytes_ahead four_read
 all_bytes [] l e = cc
 all_bytes (a ∷ []) l e = never_some e
@@ -139,8 +136,8 @@ bytes_all text at h = rw (start_held text at, start_says text at) (go (decode (u
   where
     go : (m : Option (List ℕ)) → decode (unblanked (text_of_lem text at)) ≡ m → is_some m ≡ true
         → bytes_ahead (unblanked (text_of_lem text at)) ≡ bytes_or m
-    go Option.none q s = both_ways s refl
-    go (some l) q s = all_bytes (unblanked (text_of_lem text at)) l q
+    go None q s = both_ways s refl
+    go (Some l) q s = all_bytes (unblanked (text_of_lem text at)) l q
 
 module _ (text : List ℕ) (at : ℕ) (h : coded (text_of_lem text at) ≡ true) where
   pub big_keys : keys_ahead Big text (keys_start text at) ≡ coded_keys big (text_of_lem text at)

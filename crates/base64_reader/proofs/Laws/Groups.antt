@@ -1,16 +1,13 @@
 -- Four letters at a time: one lemma for each way of the code.
-use Rattle.std.specs.Prelude.{◌≡◌, List, [], ◌∷◌, ◌++◌, Bool, ◌&&◌, ◌||◌, ℕ, ◌+◌, ◌*◌, ◌/◌, ◌%◌, ◌^◌, ◌<◌, ◌≤◌, leb}
+use Rattle.std.specs.Prelude.{◌≡◌, List, [], ◌∷◌, ◌++◌, Bool, ◌&&◌, ◌||◌, ℕ, ◌+◌, ◌*◌, ◌/◌, ◌%◌, ◌^◌, ◌<◌, ◌≤◌, leb, Option, Some, None}
 use Rattle.std.proofs.Math.Path.{refl, sym, ap}
 use Rattle.std.proofs.Common.{◌∙◌, append-nil, rules}
-use Rattle.std.proofs.Math.Option.{Option, some}
 use Rattle.std.proofs.Math.Bool.{true, false, not, cond, and-false}
 use native.Mathlib.Omega.{arith}
 use Rattle.std.proofs.Math.Dec.{eqb}
 use borrow.Author.Tests.{eq-eqb, ne_eqb, le-ltb, leb-true, leb-false}
 use Rattle.lists.proofs.Laws.Booleans.{clash, and_halves}
 use Rattle.grammar.specs.Look.{Word}
-use Rattle.nodes.specs.declared.Char.{Char}
-use Rattle.nodes.specs.declared.Char.TheVariants as chars
 use Rattle.base64_text.specs.Base64.{worth, is_value, sixes, three_bytes, three_more, one_byte, two_bytes, four_ending, four_values, decode}
 use Rattle.base64_text.specs.Fours.{bytes_or}
 use Rattle.base64_text.proofs.Laws.Letters.{value_below, is_value_lem as a_value}
@@ -28,7 +25,7 @@ last_bytes {whole} {at} {v} {n} {j} h = record {
   on_bad = λ e. clash (cc);
 }
 
-pub last_bad : {whole : Option (List ℕ)} {at : ℕ} → whole ≡ Option.none → LastTold whole at Bad
+pub last_bad : {whole : Option (List ℕ)} {at : ℕ} → whole ≡ None → LastTold whole at Bad
 last_bad h = record { on_bytes = λ e. clash (cc); on_end = λ e. clash (cc); on_bad = λ e. h }
 
 module _ {n : ℕ} (small : n < 16777216) (at : ℕ) where
@@ -110,15 +107,15 @@ told_bytes {text} {whole} {ahead} {most} {v} {n} {j} h = record {
   on_bad = λ e. clash (cc);
 }
 
-pub told_end : {text : List ℕ} {whole : Option (List ℕ)} {ahead : List ℕ} {most : ℕ} → whole ≡ some [] → ahead ≡ []
+pub told_end : {text : List ℕ} {whole : Option (List ℕ)} {ahead : List ℕ} {most : ℕ} → whole ≡ Some [] → ahead ≡ []
     → GroupRead text whole ahead most End
 told_end h k = record { on_bytes = λ e. clash (cc); on_end = λ e. (h, k); on_bad = λ e. clash (cc) }
 
-pub told_bad : {text : List ℕ} {whole : Option (List ℕ)} {ahead : List ℕ} {most : ℕ} → whole ≡ Option.none → ahead ≡ []
+pub told_bad : {text : List ℕ} {whole : Option (List ℕ)} {ahead : List ℕ} {most : ℕ} → whole ≡ None → ahead ≡ []
     → GroupRead text whole ahead most Bad
 told_bad h k = record { on_bytes = λ e. clash (cc); on_end = λ e. clash (cc); on_bad = λ e. (h, k) }
 
-none_read : decode [] ≡ some []
+none_read : decode [] ≡ Some []
 unfolding decode
 none_read = refl
 
@@ -138,8 +135,8 @@ module _ (n : ℕ) (h : n < 16777216) where
 
   pub three_prefixed : (m : Option (List ℕ)) → three_more n m ≡ prefixed (low_bytes 3 n) m
   unfolding three_more prefixed
-  three_prefixed Option.none = refl
-  three_prefixed (some l) = ap some (three_low l)
+  three_prefixed None = refl
+  three_prefixed (Some l) = ap Some (three_low l)
 
 -- ---- The bits of four values.
 
@@ -227,12 +224,12 @@ module _ (p q r s : ℕ) where
 pub ruleset bits = (bits_wrong, bits_right, bits_p, bits_q, bits_r, bits_pq, bits_pqr, bits_all, rules)
 
 module _ (text : List ℕ) (p q r s at : ℕ) where
-  module _ (pad : s ≡ 65) {c : Char} (t : LetterTold text at c) where
-    pub four_more : {b j : ℕ} → c ≡ chars.Byte b j → FourTold text p q r s at Bad
+  module _ (pad : s ≡ 65) {c : Option (ℕ × ℕ)} (t : LetterTold text at c) where
+    pub four_more : {b j : ℕ} → c ≡ Some (b, j) → FourTold text p q r s at Bad
     unfolding four_read four_ahead four_ending bytes_or
     four_more e = let l = t.on_letter e in told_bad (rw (eq-eqb s 65 pad, l.splits) refl) (rw (eq-eqb s 65 pad, l.splits) refl)
 
-    pub four_last : c ≡ chars.End → {g : Group} → LastTold (four_ending p q r []) at g → FourTold text p q r s at g
+    pub four_last : c ≡ None → {g : Group} → LastTold (four_ending p q r []) at g → FourTold text p q r s at g
     unfolding four_read four_ahead bytes_or prefixed
     four_last e {g} h =
         let nothing = t.on_end e in
@@ -243,7 +240,7 @@ module _ (text : List ℕ) (p q r s at : ℕ) where
                 some_read = l.some_read;
                 few = l.few;
                 small = l.small;
-                spelled = rw (x, nothing, l.stays, nothing, none_read, l.spelled) (ap some (sym (append-nil (low_bytes n v))));
+                spelled = rw (x, nothing, l.stays, nothing, none_read, l.spelled) (ap Some (sym (append-nil (low_bytes n v))));
                 bytes = rw (x, nothing, l.stays, nothing, none_ahead, l.spelled) (sym (append-nil (low_bytes n v)));
                 less = rw l.stays (omega (arith, l.few));
               });
@@ -299,37 +296,37 @@ retold t e f h = record {
   on_bad = λ q. (let b = t.on_bad q in (e ∙ b.0, f ∙ b.1));
 }
 
-module _ {text : List ℕ} {at : ℕ} {x : Char} (tx : LetterTold text at x) where
-  pub group_none : x ≡ chars.End → GroupTold text at End
+module _ {text : List ℕ} {at : ℕ} {x : Option (ℕ × ℕ)} (tx : LetterTold text at x) where
+  pub group_none : x ≡ None → GroupTold text at End
   group_none e = let n = tx.on_end e in told_end (ap decode n ∙ none_read) (ap bytes_ahead n ∙ none_ahead)
 
-  module _ {a i : ℕ} (ea : x ≡ chars.Byte a i) {y : Char} (ty : LetterTold text i y) where
+  module _ {a i : ℕ} (ea : x ≡ Some (a, i)) {y : Option (ℕ × ℕ)} (ty : LetterTold text i y) where
     A : Letter text at a i
     A = tx.on_letter ea
 
-    pub group_one : y ≡ chars.End → GroupTold text at Bad
+    pub group_one : y ≡ None → GroupTold text at Bad
     unfolding decode bytes_ahead
     group_one e = let n = A.splits ∙ ap (λ l. a ∷ l) (ty.on_end e) in told_bad (rw n refl) (rw n refl)
 
-    module _ {b j : ℕ} (eb : y ≡ chars.Byte b j) {z : Char} (tz : LetterTold text j z) where
+    module _ {b j : ℕ} (eb : y ≡ Some (b, j)) {z : Option (ℕ × ℕ)} (tz : LetterTold text j z) where
       B : Letter text i b j
       B = ty.on_letter eb
 
-      pub group_two : z ≡ chars.End → GroupTold text at Bad
+      pub group_two : z ≡ None → GroupTold text at Bad
       unfolding decode bytes_ahead
       group_two e = let n = A.splits ∙ ap (λ l. a ∷ l) (B.splits ∙ ap (λ l. b ∷ l) (tz.on_end e)) in told_bad (rw n refl) (rw n refl)
 
-      module _ {c k : ℕ} (ec : z ≡ chars.Byte c k) {u : Char} (tu : LetterTold text k u) where
+      module _ {c k : ℕ} (ec : z ≡ Some (c, k)) {u : Option (ℕ × ℕ)} (tu : LetterTold text k u) where
         C : Letter text j c k
         C = tz.on_letter ec
 
-        pub group_three : u ≡ chars.End → GroupTold text at Bad
+        pub group_three : u ≡ None → GroupTold text at Bad
         unfolding decode bytes_ahead
         group_three e =
             let n = A.splits ∙ ap (λ l. a ∷ l) (B.splits ∙ ap (λ l. b ∷ l) (C.splits ∙ ap (λ l. c ∷ l) (tu.on_end e))) in
             told_bad (rw n refl) (rw n refl)
 
-        module _ {d m : ℕ} (ed : u ≡ chars.Byte d m) {p q r s : ℕ} (ep : p ≡ worth a) (eq : q ≡ worth b) (er : r ≡ worth c)
+        module _ {d m : ℕ} (ed : u ≡ Some (d, m)) {p q r s : ℕ} (ep : p ≡ worth a) (eq : q ≡ worth b) (er : r ≡ worth c)
             (es : s ≡ worth d) where
           D : Letter text k d m
           D = tu.on_letter ed

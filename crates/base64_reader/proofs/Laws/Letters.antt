@@ -1,7 +1,8 @@
 -- The next letter that is no blank, and the value of a letter.
-use Rattle.std.specs.Prelude.{◌≡◌, refl, List, [], ◌∷◌, Bool, not, ℕ, ◌^◌, ◌<◌, ◌≤◌, leb}
+use Rattle.std.specs.Prelude.{◌≡◌, refl, List, [], ◌∷◌, Bool, not, ℕ, ◌^◌, ◌<◌, ◌≤◌, leb, Option, Some, None}
 use Rattle.std.proofs.Math.Path.{sym, ap}
 use Rattle.std.proofs.Common.{◌∙◌, arith, rules}
+use Rattle.std.proofs.lemmas.Option.{some_pair_parts}
 use Rattle.std.proofs.Math.Bool.{true, false}
 use borrow.Author.Tests.{not-true, not-false, leb-true}
 use Rattle.std.proofs.Math.ListN.{length, get_or}
@@ -11,21 +12,19 @@ use Rattle.lists.proofs.Laws.Tables.{entry_of_table, size_of_table}
 use Rattle.lists.proofs.Laws.Booleans.{clash}
 use Rattle.grammar.specs.Bytes.{blank}
 use Rattle.nodes.specs.Texts.{says_at, left}
-use Rattle.nodes.specs.declared.Char.{Char}
-use Rattle.nodes.specs.declared.Char.TheVariants as chars
 use Rattle.numbers.specs.Stream.{char_at, letter_at, stream, left_in}
 use Rattle.numbers.proofs.Laws.Stream.{char_byte, char_end}
 use Rattle.numbers.specs.declared.Source.TheVariants.{Contents}
 use Rattle.base64_text.specs.Base64.{unblanked, worth}
 use Rattle.base64_reader.specs.Groups.{values_lent, letters_at, Letter, LetterTold}
 
-pub letter_told : {text : List ℕ} {i b j : ℕ} → Letter text i b j → LetterTold text i (chars.Byte b j)
+pub letter_told : {text : List ℕ} {i b j : ℕ} → Letter text i b j → LetterTold text i (Some (b, j))
 letter_told {text} {i} {b} {j} h = record {
-  on_letter = λ {b = c} {j = k} e. (let p : b ≡ c = cc in let q : j ≡ k = cc in rw (p, q) at h);
+  on_letter = λ {b = c} {j = k} e. (let p = some_pair_parts _ _ _ _ e in rw (p.0, p.1) at h);
   on_end = λ e. clash (cc);
 }
 
-pub end_told : {text : List ℕ} {i : ℕ} → letters_at text i ≡ [] → LetterTold text i chars.End
+pub end_told : {text : List ℕ} {i : ℕ} → letters_at text i ≡ [] → LetterTold text i None
 end_told h = record { on_letter = λ e. clash (cc); on_end = λ e. h }
 
 -- blanks are passed over
@@ -36,16 +35,16 @@ pub record Passing (text : List ℕ) (at i : ℕ) : Type 0 where
 pub passing_start : (text : List ℕ) (at : ℕ) → Passing text at at
 passing_start text at = record { same = refl; less = omega arith }
 
-module _ {text : List ℕ} {at i : ℕ} (go : Passing text at i) {c : Char} (ec : c ≡ letter_at text i) where
+module _ {text : List ℕ} {at i : ℕ} (go : Passing text at i) {c : Option (ℕ × ℕ)} (ec : c ≡ letter_at text i) where
   from : c ≡ char_at Contents text i
   unfolding char_at
   from = ec
 
-  pub passing_end : c ≡ chars.End → LetterTold text at chars.End
+  pub passing_end : c ≡ None → LetterTold text at None
   unfolding letters_at unblanked those stream
   passing_end e = end_told (go.same ∙ rw (char_end Contents text i from e) refl)
 
-  module _ {b j : ℕ} (e : c ≡ chars.Byte b j) where
+  module _ {b j : ℕ} (e : c ≡ Some (b, j)) where
     begins : says_at text i ≡ b ∷ says_at text j
     unfolding stream
     begins = (char_byte Contents text i from e).splits
@@ -61,7 +60,7 @@ module _ {text : List ℕ} {at i : ℕ} (go : Passing text at i) {c : Char} (ec 
           let k : blank b ≡ true = sym et ∙ not-false t n in
           record { same = go.same ∙ rw (begins, k) refl; less = omega (arith, go.less, passing_less) }
 
-      pub passing_letter : not t ≡ true → LetterTold text at (chars.Byte b j)
+      pub passing_letter : not t ≡ true → LetterTold text at (Some (b, j))
       unfolding letters_at unblanked those
       passing_letter n =
           let k : blank b ≡ false = sym et ∙ not-true t n in

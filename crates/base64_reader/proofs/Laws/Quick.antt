@@ -1,12 +1,11 @@
 -- Four plain letters.
-use Rattle.std.specs.Prelude.{◌≡◌, refl, List, Bool, true, false, ◌&&◌, ◌||◌, not, ℕ, ◌+◌, ◌-◌, ◌<◌, ◌≤◌, eqb, length, get_or}
+use Rattle.std.specs.Prelude.{◌≡◌, refl, List, Bool, true, false, ◌&&◌, ◌||◌, not, ℕ, ◌+◌, ◌-◌, ◌<◌, ◌≤◌, eqb, length, get_or, Some}
 use Rattle.std.proofs.Common.{ap, arith, rules}
 use Rattle.std.proofs.lemmas.Bool.{not-true}
 use Rattle.lists.specs.Lists.{all_below}
 use Rattle.lists.proofs.Laws.Quantifiers.{all_below_iff}
 use Rattle.lists.proofs.Laws.Booleans.{and_left, and_right, both_ways}
 use Rattle.grammar.specs.Bytes.{blank, special}
-use Rattle.nodes.specs.declared.Char.TheVariants as chars
 use Rattle.numbers.specs.Stream.{char_at}
 use Rattle.numbers.proofs.Laws.Listed.{plain_char}
 use Rattle.base64_text.specs.Base64.{worth, is_value}
@@ -34,7 +33,7 @@ letter_itself a h =
     unless false k q = both_ways k refl
 
 letter_there : (text : List ℕ) (i : ℕ) → i < length text → worth (get_or text i 0) < 64
-    → LetterTold text i (chars.Byte (get_or text i 0) (i + 1))
+    → LetterTold text i (Some ((get_or text i 0), (i + 1)))
 unfolding itself char_at
 letter_there text i h w =
     let a = get_or text i 0 in
@@ -68,16 +67,16 @@ module _ (text : List ℕ) (at : ℕ) where
         are : Values p q r s n
         are = bits_some p q r s en h
 
-        one : LetterTold text at (chars.Byte (get_or text at 0) (at + 1))
+        one : LetterTold text at (Some ((get_or text at 0), (at + 1)))
         one = letter_there text at quick_0 (rw ep at are.first)
 
-        two : LetterTold text (at + 1) (chars.Byte (get_or text (at + 1) 0) (at + 2))
+        two : LetterTold text (at + 1) (Some ((get_or text (at + 1) 0), (at + 2)))
         two = let e : at + 1 + 1 ≡ at + 2 = omega arith in rw e at (letter_there text (at + 1) quick_1 (rw eq at are.second))
 
-        three : LetterTold text (at + 2) (chars.Byte (get_or text (at + 2) 0) (at + 3))
+        three : LetterTold text (at + 2) (Some ((get_or text (at + 2) 0), (at + 3)))
         three = let e : at + 2 + 1 ≡ at + 3 = omega arith in rw e at (letter_there text (at + 2) quick_2 (rw er at are.third))
 
-        four : LetterTold text (at + 3) (chars.Byte (get_or text (at + 3) 0) (at + 4))
+        four : LetterTold text (at + 3) (Some ((get_or text (at + 3) 0), (at + 4)))
         four = let e : at + 3 + 1 ≡ at + 4 = omega arith in rw e at (letter_there text (at + 3) quick_3 (rw es at are.fourth))
 
         told : GroupTold text at (Bytes n 3 (at + 4))

@@ -1,13 +1,10 @@
 -- Whether a text is Base64.
-use Rattle.std.specs.Prelude.{◌≡◌, refl, List, Bool, true, false, ℕ, zero, suc, ◌+◌, ◌*◌, ◌<◌, ◌≤◌}
+use Rattle.std.specs.Prelude.{◌≡◌, refl, List, Bool, true, false, ℕ, zero, suc, ◌+◌, ◌*◌, ◌<◌, ◌≤◌, Option, Some, None}
 use Rattle.std.proofs.Math.Path.{sym, ap}
 use Rattle.std.proofs.Common.{◌∙◌, arith, rules}
-use Rattle.std.proofs.Math.Option.{Option, some}
 use Rattle.lists.specs.Lists.{is_some, those}
 use Rattle.nodes.specs.Texts.{says_at, left, inside, text_of_lem}
 use Rattle.nodes.proofs.Laws.TextSteps.{text_none, text_some}
-use Rattle.nodes.specs.declared.Found.{Found}
-use Rattle.nodes.specs.declared.Found.TheVariants.{At, Nothing}
 use Rattle.base64_text.specs.Base64.{unblanked, decode, bytes_in, coded}
 use Rattle.base64_reader.specs.Groups.{letters_at, low_bytes, prefixed, GroupTold, QuickGroup, sixteen_at}
 use Rattle.base64_reader.proofs.Laws.Sixteen.{four_small, four_quick}
@@ -21,8 +18,8 @@ held_at text i = refl
 
 prefixed_is : (l : List ℕ) (m : Option (List ℕ)) → is_some (prefixed l m) ≡ is_some m
 unfolding is_some prefixed
-prefixed_is l Option.none = refl
-prefixed_is l (some k) = refl
+prefixed_is l None = refl
+prefixed_is l (Some k) = refl
 
 -- BASE64 OR NOT
 pub record Coding (text : List ℕ) (at i : ℕ) : Type 0 where
@@ -94,12 +91,12 @@ pub ruleset coding = (
 )
 
 -- THE TEXT OF AN ELEMENT
-module _ (text : List ℕ) (at : ℕ) {f : Found} (e : f ≡ inside text at) where
-  pub coded_there : {i : ℕ} → f ≡ At i → {r : Bool} → r ≡ coded (says_at text i) → r ≡ coded (text_of_lem text at)
+module _ (text : List ℕ) (at : ℕ) {f : Option ℕ} (e : f ≡ inside text at) where
+  pub coded_there : {i : ℕ} → f ≡ Some i → {r : Bool} → r ≡ coded (says_at text i) → r ≡ coded (text_of_lem text at)
   coded_there h k = k ∙ ap coded (sym (text_some text at (sym e ∙ h)))
 
-  pub coded_missing : f ≡ Nothing → true ≡ coded (text_of_lem text at)
+  pub coded_missing : f ≡ None → true ≡ coded (text_of_lem text at)
   unfolding coded bytes_in unblanked those decode is_some
   coded_missing h = ap coded (sym (text_none text at (sym e ∙ h)))
 
-pub ruleset coded-texts = (coded_there, coded_missing, rules)
+pub ruleset coded_texts = (coded_there, coded_missing, rules)

@@ -1,9 +1,8 @@
 -- The bytes that are found in a text are those that it is written for, and no others.
-use Rattle.std.specs.Prelude.{◌≡◌, ◌↔◌, Bool, ◌&&◌}
+use Rattle.std.specs.Prelude.{◌≡◌, ◌↔◌, Bool, ◌&&◌, Option, Some, None}
 use Rattle.std.proofs.Math.Path.{refl, sym, ap}
 use Rattle.std.proofs.Common.{◌∙◌}
 use mathlib.Core.List.{List, [], ◌∷◌}
-use Rattle.std.proofs.Math.Option.{Option, some}
 use Rattle.std.proofs.Math.Bool.{true, false, cond}
 use Prim.Native.Nat.{ℕ, ◌+◌, ◌*◌, ◌/◌, ◌%◌, ◌<◌}
 use native.Mathlib.Omega.{arith}
@@ -66,7 +65,7 @@ module _ (n : ℕ) (h : n < 16777216) where
   unfolding decode
   four_read_lem w = rw (first_worth, second_worth, third_worth, fourth_worth, no_pad (n % 64) (omega arith), values, whole_again)
 
-  one_read : n % 65536 ≡ 0 → decode (first_letter n ∷ second_letter n ∷ 61 ∷ 61 ∷ []) ≡ some ((n / 65536) ∷ [])
+  one_read : n % 65536 ≡ 0 → decode (first_letter n ∷ second_letter n ∷ 61 ∷ 61 ∷ []) ≡ Some ((n / 65536) ∷ [])
   unfolding decode four_ending one_byte
   one_read e =
       rw (
@@ -79,7 +78,7 @@ module _ (n : ℕ) (h : n < 16777216) where
         eq-eqb (n % 65536) 0 e,
       )
 
-  two_read : n % 256 ≡ 0 → decode (first_letter n ∷ second_letter n ∷ third_letter n ∷ 61 ∷ []) ≡ some ((n / 65536) ∷ (n / 256 % 256) ∷ [])
+  two_read : n % 256 ≡ 0 → decode (first_letter n ∷ second_letter n ∷ third_letter n ∷ 61 ∷ []) ≡ Some ((n / 65536) ∷ (n / 256 % 256) ∷ [])
   unfolding decode four_ending two_bytes
   two_read e =
       rw (
@@ -95,7 +94,7 @@ module _ (n : ℕ) (h : n < 16777216) where
         eq-eqb (n % 256) 0 e,
       )
 
-empty : decode [] ≡ some []
+empty : decode [] ≡ Some []
 unfolding decode
 empty = refl
 
@@ -131,16 +130,16 @@ spare_8 a b = omega arith
 null : 0 < 256
 null = omega arith
 
-pub written_read : (l : List ℕ) → Bytes l → decode (encode l) ≡ some l
+pub written_read : (l : List ℕ) → Bytes l → decode (encode l) ≡ Some l
 unfolding encode three_more
 written_read [] none = empty
 written_read (a ∷ []) (more g none) =
-    one_read (bits_of_three a 0 0) (in_24 a 0 0 g null null) (spare_16 a) ∙ ap (λ x. some (x ∷ [])) (a_back a 0 0 g null null)
+    one_read (bits_of_three a 0 0) (in_24 a 0 0 g null null) (spare_16 a) ∙ ap (λ x. Some (x ∷ [])) (a_back a 0 0 g null null)
 written_read (a ∷ b ∷ []) (more g (more h none)) =
     two_read (bits_of_three a b 0) (in_24 a b 0 g h null) (spare_8 a b) ∙ rw (a_back a b 0 g h null, b_back a b 0 g h null)
 written_read (a ∷ b ∷ c ∷ l) (more g (more h (more k t))) =
     four_read_lem (bits_of_three a b c) (in_24 a b c g h k) (encode l) ∙ ap (three_more (bits_of_three a b c)) (written_read l t)
-    ∙ ap some (three_back a b c g h k l)
+    ∙ ap Some (three_back a b c g h k l)
 
 -- ---- What is found was written so.
 
@@ -270,67 +269,67 @@ module _ (a b : ℕ) (va : is_value (worth a) ≡ true) (vb : is_value (worth b)
 
 -- ---- By cases on what the search asks.
 
-some_is : {A : Type 0} {l m : A} → some l ≡ some m → l ≡ m
+some_is : {A : Type 0} {l m : A} → Some l ≡ Some m → l ≡ m
 some_is e = cc
 
 module _ (a b c d : ℕ) where
   one_end : (l : List ℕ) → is_value (worth a) ≡ true → is_value (worth b) ≡ true → c ≡ 61 → d ≡ 61
-      → one_byte (sixes (worth a) (worth b) 0 0) ≡ some l → Written (a ∷ b ∷ c ∷ d ∷ []) l
+      → one_byte (sixes (worth a) (worth b) 0 0) ≡ Some l → Written (a ∷ b ∷ c ∷ d ∷ []) l
   unfolding one_byte
   one_end l va vb ec ed e = go (eqb (n % 65536) 0) refl e
     where
       n : ℕ
       n = sixes (worth a) (worth b) 0 0
 
-      go : (t : Bool) → eqb (n % 65536) 0 ≡ t → cond t (some ((n / 65536) ∷ [])) Option.none ≡ some l → Written (a ∷ b ∷ c ∷ d ∷ []) l
+      go : (t : Bool) → eqb (n % 65536) 0 ≡ t → cond t (Some ((n / 65536) ∷ [])) None ≡ Some l → Written (a ∷ b ∷ c ∷ d ∷ []) l
       go true k q = rw (ec, ed, sym (some_is q)) (one_written a b va vb n refl (eqb-true _ 0 k))
       go false k q = never_some q
 
   two_end : (l : List ℕ) → is_value (worth a) ≡ true → is_value (worth b) ≡ true → is_value (worth c) ≡ true → d ≡ 61
-      → two_bytes (sixes (worth a) (worth b) (worth c) 0) ≡ some l → Written (a ∷ b ∷ c ∷ d ∷ []) l
+      → two_bytes (sixes (worth a) (worth b) (worth c) 0) ≡ Some l → Written (a ∷ b ∷ c ∷ d ∷ []) l
   unfolding two_bytes
   two_end l va vb vc ed e = go (eqb (n % 256) 0) refl e
     where
       n : ℕ
       n = sixes (worth a) (worth b) (worth c) 0
 
-      go : (t : Bool) → eqb (n % 256) 0 ≡ t → cond t (some ((n / 65536) ∷ (n / 256 % 256) ∷ [])) Option.none ≡ some l
+      go : (t : Bool) → eqb (n % 256) 0 ≡ t → cond t (Some ((n / 65536) ∷ (n / 256 % 256) ∷ [])) None ≡ Some l
           → Written (a ∷ b ∷ c ∷ d ∷ []) l
       go true k q = rw (ed, sym (some_is q)) (two_written a b va vb c vc n refl (eqb-true _ 0 k))
       go false k q = never_some q
 
-  end_written : (w l : List ℕ) → d ≡ 61 → four_ending (worth a) (worth b) (worth c) w ≡ some l → Written (a ∷ b ∷ c ∷ d ∷ w) l
+  end_written : (w l : List ℕ) → d ≡ 61 → four_ending (worth a) (worth b) (worth c) w ≡ Some l → Written (a ∷ b ∷ c ∷ d ∷ w) l
   unfolding four_ending
   end_written [] l ed e = go (is_value (worth a) && is_value (worth b)) refl (eqb (worth c) 65) refl (is_value (worth c)) refl e
     where
       go : (t : Bool) → (is_value (worth a) && is_value (worth b)) ≡ t → (u : Bool) → eqb (worth c) 65 ≡ u → (v : Bool)
           → is_value (worth c) ≡ v
           → cond t
-          (cond u (one_byte (sixes (worth a) (worth b) 0 0)) (cond v (two_bytes (sixes (worth a) (worth b) (worth c) 0)) Option.none))
-          Option.none ≡ some l → Written (a ∷ b ∷ c ∷ d ∷ []) l
+          (cond u (one_byte (sixes (worth a) (worth b) 0 0)) (cond v (two_bytes (sixes (worth a) (worth b) (worth c) 0)) None))
+          None ≡ Some l → Written (a ∷ b ∷ c ∷ d ∷ []) l
       go true x true y v z q = let (va, vb) = and_halves (is_value (worth a)) (is_value (worth b)) x in one_end l va vb (pads c y) ed q
       go true x false y true z q = let (va, vb) = and_halves (is_value (worth a)) (is_value (worth b)) x in two_end l va vb z ed q
       go true x false y false z q = never_some q
       go false x u y v z q = never_some q
   end_written (x ∷ w) l ed e = never_some e
 
-  more_written : (w l : List ℕ) (m : Option (List ℕ)) → ((k : List ℕ) → m ≡ some k → Written w k)
+  more_written : (w l : List ℕ) (m : Option (List ℕ)) → ((k : List ℕ) → m ≡ Some k → Written w k)
       → is_value (worth a) ≡ true → is_value (worth b) ≡ true → is_value (worth c) ≡ true → is_value (worth d) ≡ true
-      → three_more (sixes (worth a) (worth b) (worth c) (worth d)) m ≡ some l → Written (a ∷ b ∷ c ∷ d ∷ w) l
+      → three_more (sixes (worth a) (worth b) (worth c) (worth d)) m ≡ Some l → Written (a ∷ b ∷ c ∷ d ∷ w) l
   unfolding three_more
-  more_written w l Option.none ih va vb vc vd e = never_some e
-  more_written w l (some k) ih va vb vc vd e =
+  more_written w l None ih va vb vc vd e = never_some e
+  more_written w l (Some k) ih va vb vc vd e =
       rw (sym (some_is e))
       (four_written a b va vb c vc d vd (sixes (worth a) (worth b) (worth c) (worth d)) w k refl (ih k refl))
 
-  step_written : (w l : List ℕ) → ((k : List ℕ) → decode w ≡ some k → Written w k) → decode (a ∷ b ∷ c ∷ d ∷ w) ≡ some l
+  step_written : (w l : List ℕ) → ((k : List ℕ) → decode w ≡ Some k → Written w k) → decode (a ∷ b ∷ c ∷ d ∷ w) ≡ Some l
       → Written (a ∷ b ∷ c ∷ d ∷ w) l
   unfolding decode four_values
   step_written w l ih e = go (eqb (worth d) 65) refl (four_values (worth a) (worth b) (worth c) (worth d)) refl e
     where
       go : (t : Bool) → eqb (worth d) 65 ≡ t → (u : Bool) → four_values (worth a) (worth b) (worth c) (worth d) ≡ u
           → cond t (four_ending (worth a) (worth b) (worth c) w)
-          (cond u (three_more (sixes (worth a) (worth b) (worth c) (worth d)) (decode w)) Option.none) ≡ some l
+          (cond u (three_more (sixes (worth a) (worth b) (worth c) (worth d)) (decode w)) None) ≡ Some l
           → Written (a ∷ b ∷ c ∷ d ∷ w) l
       go true x u y q = end_written w l (pads d x) q
       go false x true y q =
@@ -340,7 +339,7 @@ module _ (a b c d : ℕ) where
           more_written w l (decode w) ih va vb vc vd q
       go false x false y q = never_some q
 
-pub read_written : (w l : List ℕ) → decode w ≡ some l → Written w l
+pub read_written : (w l : List ℕ) → decode w ≡ Some l → Written w l
 unfolding decode encode
 read_written [] l e = rw (sym (some_is e)) (record { spelled = refl; bytes = none })
 read_written (a ∷ []) l e = never_some e
@@ -349,7 +348,7 @@ read_written (a ∷ b ∷ c ∷ []) l e = never_some e
 read_written (a ∷ b ∷ c ∷ d ∷ w) l e = step_written a b c d w l (λ k q. read_written w k q) e
 
 -- THE THEOREM: a text holds the bytes that it is written for, its blanks left out, and no others.
-pub bytes_iff : (w l : List ℕ) → (bytes_in w ≡ some l) ↔ Written (unblanked w) l
+pub bytes_iff : (w l : List ℕ) → (bytes_in w ≡ Some l) ↔ Written (unblanked w) l
 unfolding bytes_in
 bytes_iff w l = (read_written (unblanked w) l, λ t. ap decode t.spelled ∙ written_read l t.bytes)
 
@@ -381,5 +380,5 @@ encode_unblanked (a ∷ b ∷ c ∷ l) (more g (more h (more k t))) =
       encode_unblanked l t,
     ) refl
 
-pub written_found : (l : List ℕ) → Bytes l → bytes_in (encode l) ≡ some l
+pub written_found : (l : List ℕ) → Bytes l → bytes_in (encode l) ≡ Some l
 written_found l h = (bytes_iff (encode l) l).1 (record { spelled = encode_unblanked l h; bytes = h })

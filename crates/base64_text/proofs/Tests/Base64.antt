@@ -1,6 +1,5 @@
 -- RFC 4648's own rows, and what is no Base64, computed.
-use Rattle.std.specs.Prelude.{◌≡◌, refl, List, [], ◌∷◌, true, not, pos, negsuc}
-use Rattle.std.proofs.Math.Option.{some}
+use Rattle.std.specs.Prelude.{◌≡◌, refl, List, [], ◌∷◌, true, not, pos, negsuc, Some}
 use Prim.Native.String.{String}
 use Rattle.lists.specs.Lists.{lists, all, each}
 use Rattle.grammar.specs.Bytes.{ascii, blank}
@@ -16,7 +15,7 @@ written : each encode (rows ("" ∷ "f" ∷ "fo" ∷ "foo" ∷ "foob" ∷ "fooba
 unfolding base64 lists rows
 written = refl
 
-found : each bytes_in (rows ("" ∷ " Z g = =\n" ∷ "Zm9v\nYmE=" ∷ [])) ≡ each some (rows ("" ∷ "f" ∷ "fooba" ∷ []))
+found : each bytes_in (rows ("" ∷ " Z g = =\n" ∷ "Zm9v\nYmE=" ∷ [])) ≡ each Some (rows ("" ∷ "f" ∷ "fooba" ∷ []))
 unfolding base64 lists blank rows
 found = refl
 

@@ -1,10 +1,9 @@
 -- EACH RECORD HAS ONE LINE: of an accepted text, the lines of records are those of each brain map's stretch, in text order of maps, each
 -- counted from 0.
-use Rattle.std.specs.Prelude.{◌≡◌, Bool, true, ◌||◌, cond, ℕ, zero, suc, ◌+◌, ◌≤◌, ◌<◌, eqb, leb, ltb, drop}
+use Rattle.std.specs.Prelude.{◌≡◌, Bool, true, ◌||◌, cond, ℕ, zero, suc, ◌+◌, ◌≤◌, ◌<◌, eqb, leb, ltb, drop, Some}
 use Rattle.std.proofs.Math.Path.{refl, sym, ap}
 use Rattle.std.proofs.Common.{◌∙◌, le_of_suc-le-suc, not-suc-le-zero, length-append, get_or-append-add}
 use mathlib.Core.List.{List, [], ◌∷◌, ◌++◌}
-use Rattle.std.proofs.Math.Option.{some}
 use Rattle.std.proofs.Math.Bool.{false, not}
 use native.Mathlib.Omega.{arith}
 use borrow.Author.Tests.{eqb-true, eqb-false, eq-eqb, leb-true, ltb-true, ltb-false, not-false}
@@ -167,8 +166,8 @@ unfolding each listed_dimensions each_in
 map_few [] = omega arith
 map_few (e ∷ l) =
     let has = lists_one e in
-    let some : length (map_of e).dimensions ≡ suc (length has.others) = ap length has.are in
-    omega (arith, map_few l, some, length-append (map_of e).dimensions (listed_dimensions (each map_of l)))
+    let few : length (map_of e).dimensions ≡ suc (length has.others) = ap length has.are in
+    omega (arith, map_few l, few, length-append (map_of e).dimensions (listed_dimensions (each map_of l)))
 
 below_three : (n : ℕ) → n ≤ 3 → (l : List ℕ) → any (beyond n) l ≡ false
     → length l ≡ count (eqb 0) l + count (eqb 1) l + count (eqb 2) l
@@ -282,14 +281,14 @@ each_counted (m ∷ k) =
 module _ {text lengths records work : List ℕ} {a : Answer} {s v : List ℕ} (r : Reads text lengths records work a s v) (yes : a.number ≡ 0)
     (e : Element) (w : Writes e text) where
   given : ℕ
-  given = refusal lengths (length text) (length records) (length work) (some e)
+  given = refusal lengths (length text) (length records) (length work) (Some e)
 
-  answer_is : a ≡ answer_by given (some e)
+  answer_is : a ≡ answer_by given (Some e)
   unfolding given answer_to
   answer_is = answers_of r.answered w
 
   given_none : given ≡ 0
-  given_none = sym (answer_number given (some e)) ∙ sym (ap (λ (x : Answer). x.number) answer_is) ∙ yes
+  given_none = sym (answer_number given (Some e)) ∙ sym (ap (λ (x : Answer). x.number) answer_is) ∙ yes
 
   told_dimensions : answer_dimensions a ≡ told_by 0 (maps_of e)
   unfolding answer_by maps_in accepted_with answer_dimensions
@@ -301,12 +300,12 @@ module _ {text lengths records work : List ℕ} {a : Answer} {s v : List ℕ} (r
 
   lengths_right : lengths_wrong lengths ≡ false
   unfolding conditions conditions_of_header conditions_of_table of_maps there given
-  lengths_right = row_fails (refusal_none lengths (length text) (length records) (length work) (some e) given_none)
+  lengths_right = row_fails (refusal_none lengths (length text) (length records) (length work) (Some e) given_none)
 
   told_maps : Told lengths (maps_of e)
   unfolding conditions conditions_of_header conditions_of_table of_maps there given
   told_maps =
-      let none = refusal_none lengths (length text) (length records) (length work) (some e) given_none in
+      let none = refusal_none lengths (length text) (length records) (length work) (Some e) given_none in
       told_all lengths (maps_of e) (row_fails (rows_past 7 none)) (row_fails (rows_past 8 none))
 
   three_maps : length (brain_maps (maps_of e)) ≤ 3

@@ -1,9 +1,8 @@
 -- DEMAND 2 in one statement: of an accepted text, the answer tells of each dimension what its map says, and the records hold, from the
 -- start that it tells, the location of every index: that of the one model whose range the index is in.
-use Rattle.std.specs.Prelude.{◌≡◌, List, [], ◌∷◌, ◌++◌, Bool, cond, ℕ, zero, suc, ◌+◌, ◌-◌, ◌<◌, ◌≤◌, eqb, get_or}
+use Rattle.std.specs.Prelude.{◌≡◌, List, [], ◌∷◌, ◌++◌, Bool, cond, ℕ, zero, suc, ◌+◌, ◌-◌, ◌<◌, ◌≤◌, eqb, get_or, Some}
 use Rattle.std.proofs.Math.Path.{refl, ap}
 use Rattle.std.proofs.Common.{sym, ◌∙◌, length-append}
-use Rattle.std.proofs.Math.Option.{some}
 use Rattle.std.proofs.Math.Bool.{true, false}
 use native.Mathlib.Omega.{arith}
 use Rattle.std.proofs.Math.ListN.{length, get_or-append}
@@ -28,10 +27,10 @@ use Rattle.cifti.specs.declared.answer.Answer.{Answer}
 -- ---- Number 0: no condition applies.
 
 -- the eleventh row
-ranges_right : (lengths : List ℕ) (size room work : ℕ) (e : Element) → refusal lengths size room work (some e) ≡ 0
+ranges_right : (lengths : List ℕ) (size room work : ℕ) (e : Element) → refusal lengths size room work (Some e) ≡ 0
     → ranges_wrong (maps_of e) ≡ false
 unfolding conditions conditions_of_header conditions_of_table of_maps there
-ranges_right lengths size room work e h = row_fails (rows_past 10 (refusal_none lengths size room work (some e) h))
+ranges_right lengths size room work e h = row_fails (rows_past 10 (refusal_none lengths size room work (Some e) h))
 
 even_in_lem : (k : List Map) (m : Map) (l : List Map) → is_brain m.kind ≡ true → any uneven (brain_maps (k ++ (m ∷ l))) ≡ false
     → uneven m ≡ false
@@ -74,14 +73,14 @@ module _ {text lengths records work : List ℕ} {a : Answer} {s v : List ℕ} (r
   start = total reach k
 
   number_of : ℕ
-  number_of = refusal lengths (length text) (length records) (length work) (some e)
+  number_of = refusal lengths (length text) (length records) (length work) (Some e)
 
-  answer_is : a ≡ answer_by number_of (some e)
+  answer_is : a ≡ answer_by number_of (Some e)
   unfolding number_of answer_to
   answer_is = answers_of r.answered w
 
   number_is : number_of ≡ 0
-  number_is = sym (answer_number number_of (some e)) ∙ sym (ap (λ (x : Answer). x.number) answer_is) ∙ yes
+  number_is = sym (answer_number number_of (Some e)) ∙ sym (ap (λ (x : Answer). x.number) answer_is) ∙ yes
 
   accepted_is : a ≡ accepted_with (k ++ (m ∷ l))
   unfolding answer_by maps_in

@@ -1,8 +1,7 @@
 -- LABELS: one answer for every input, the same for two texts of one document, and there is one; 24 and 25 in statements about all places.
-use Rattle.std.specs.Prelude.{◌≡◌, ◌↔◌, ℕ, ◌≤◌, ◌<◌, ℤ, pos, length, get_or}
+use Rattle.std.specs.Prelude.{◌≡◌, ◌↔◌, ℕ, ◌≤◌, ◌<◌, ℤ, pos, length, get_or, Option}
 use Rattle.std.proofs.Common.{sym, ap, ◌∙◌, ltb-true, lt-ltb}
 use mathlib.Core.List.{List, [], ◌∷◌, ◌++◌, append_assoc}
-use Rattle.std.proofs.Math.Option.{Option}
 use Rattle.std.proofs.Math.Bool.{true}
 use Rattle.lists.specs.Lists.{any, two_of}
 use Rattle.lists.proofs.Laws.Quantifiers.{any_iff}

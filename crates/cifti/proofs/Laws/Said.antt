@@ -1,7 +1,6 @@
 -- WHAT AN ANSWER SAYS, in the paper's terms; and that it says so of the maps: where a stretch begins, and what stands in it.
-use Rattle.std.specs.Prelude.{◌≡◌, refl, List, [], ◌∷◌, ◌++◌, Bool, true, false, ◌||◌, cond, ℕ, zero, suc, ◌+◌, ◌<◌, eqb, length, get_or}
+use Rattle.std.specs.Prelude.{◌≡◌, refl, List, [], ◌∷◌, ◌++◌, Bool, true, false, ◌||◌, cond, ℕ, zero, suc, ◌+◌, ◌<◌, eqb, length, get_or, Option, Some, None}
 use Rattle.std.proofs.Common.{ap, ◌∙◌, true≢false, le_of_suc-le-suc, not-suc-le-zero, arith, get_or-append-add}
-use Rattle.std.proofs.Math.Option.{Option, some}
 use Rattle.std.proofs.Math.ListN.{get_or-append}
 use Rattle.lists.specs.Lists.{any, total, each_in, those, count_up, tabulated}
 use Rattle.cifti.specs.Maps.{Map, brain_maps, length_of, is_brain, is_series}
@@ -18,7 +17,7 @@ pub record Says : Type 0 where
   pub series : Option S.Series
 
 abbrev given : {A : Type 0} → Bool → A → Option A
-given b a = cond b (some a) Option.none
+given b a = cond b (Some a) None
 
 unfoldable pub said : Dimension → Says
 said d = record {

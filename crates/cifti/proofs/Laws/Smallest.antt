@@ -1,7 +1,6 @@
 -- THE SMALLEST THAT APPLIES IS GIVEN: the refusal is the first row that applies, and the numbers of the read rise down the rows.
-use Rattle.std.specs.Prelude.{◌≡◌, List, ℕ}
+use Rattle.std.specs.Prelude.{◌≡◌, List, ℕ, Option}
 use Rattle.std.proofs.Math.Path.{refl}
-use Rattle.std.proofs.Math.Option.{Option}
 use Rattle.lists.specs.Refusals.{rising, positive, NoneApplies}
 use Rattle.lists.proofs.Laws.Refusals.{Given, first_given, given_none}
 use Rattle.grammar.specs.Document.{Element}

@@ -1,7 +1,6 @@
 -- WHAT A GOOD TABLE OF LABELS HOLDS: every Label has a key in form.
-use Rattle.std.specs.Prelude.{◌≡◌, refl, List, [], ◌∷◌, true}
+use Rattle.std.specs.Prelude.{◌≡◌, refl, List, [], ◌∷◌, true, Some}
 use Rattle.std.proofs.Common.{subst}
-use Rattle.std.proofs.Math.Option.{some}
 use Rattle.lists.specs.Lists.{all}
 use Rattle.lists.proofs.Laws.Booleans.{and_left, and_right, and_both}
 use Rattle.grammar.specs.Document.{Element}
@@ -20,7 +19,7 @@ table_rows = child "Label" any_times (always label) ∷ []
 label_kind : (e : Element) → GoodAs rows table_rows e → is "Label" (name_of e) ≡ true → Good rows label e
 unfolding kind_of kind_by
 label_kind e (good_as {k} q g) n =
-    let at : some label ≡ some k = rw n at q in
+    let at : Some label ≡ Some k = rw n at q in
     let z : k ≡ label = cc in
     subst (λ (j : ElementKind). Good rows j e) z g
 

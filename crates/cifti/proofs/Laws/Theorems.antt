@@ -1,8 +1,7 @@
 -- ONE ANSWER FOR EVERY INPUT; it depends on the text only through its document; and there is one. Each is the law of questions on a text
 -- (TextLaws), at the reader's terms.
-use Rattle.std.specs.Prelude.{◌≡◌, refl, List, ℕ, zero, suc, ◌≤◌, length, replicate}
+use Rattle.std.specs.Prelude.{◌≡◌, refl, List, ℕ, zero, suc, ◌≤◌, length, replicate, Option}
 use Rattle.std.proofs.Common.{sym, ap, ◌∙◌}
-use Rattle.std.proofs.Math.Option.{Option}
 use Rattle.grammar.specs.Document.{Element}
 use Rattle.grammar.specs.Parser.{parse}
 use Rattle.grammar.specs.Erased.{Node, WritesDocument}

@@ -1,8 +1,7 @@
 -- What the rules do not see: the bytes between the tags as written, and the size of a text that is not too long.
-use Rattle.std.specs.Prelude.{◌≡◌, List, [], ◌∷◌, ◌++◌, Bool, false, not, ℤ}
+use Rattle.std.specs.Prelude.{◌≡◌, List, [], ◌∷◌, ◌++◌, Bool, false, not, ℤ, Option, Some}
 use Rattle.std.proofs.Math.Path.{refl, ap}
 use Rattle.std.proofs.Common.{sym, ap₂, ◌∙◌, le-ltb}
-use Rattle.std.proofs.Math.Option.{Option, some}
 use Prim.Native.Nat.{ℕ, zero, suc, ◌≤◌}
 use Prim.Native.String.{String}
 use Rattle.std.proofs.Math.ListN.{length}
@@ -142,7 +141,7 @@ number_erased : (e : Element) → number_wrong (plain e) ≡ number_wrong e
 unfolding number_wrong
 number_erased e = ap not (walk_erased rows numbered numbered_erased e cifti)
 
-of_maps_lem : (p : List Map → Bool) (e : Element) → of_maps p (some (plain e)) ≡ of_maps p (some e)
+of_maps_lem : (p : List Map → Bool) (e : Element) → of_maps p (Some (plain e)) ≡ of_maps p (Some e)
 unfolding of_maps there
 of_maps_lem p e = ap p (maps_erased e)
 
@@ -151,7 +150,7 @@ unfolding text_too_long
 small n h = le-ltb 16777216 n h
 
 header_erased : (lengths : List ℕ) (size : ℕ) (e : Element)
-    → conditions_of_header lengths size (some (plain e)) ≡ conditions_of_header lengths size (some e)
+    → conditions_of_header lengths size (Some (plain e)) ≡ conditions_of_header lengths size (Some e)
 unfolding conditions_of_header no_document of_maps there is_some
 header_erased lengths size e = rw (root_erased e, kinds_erased e, shape_erased e, number_erased e, maps_erased e) refl
 
@@ -160,18 +159,18 @@ header_size : (lengths : List ℕ) (m n : ℕ) (d : Option Element) → m ≤ 16
 unfolding conditions_of_header
 header_size lengths m n d h k = rw (small m h, small n k) refl
 
-table_erased : (room work : ℕ) (e : Element) → conditions_of_table room work (some (plain e)) ≡ conditions_of_table room work (some e)
+table_erased : (room work : ℕ) (e : Element) → conditions_of_table room work (Some (plain e)) ≡ conditions_of_table room work (Some e)
 unfolding conditions_of_table of_maps there
 table_erased room work e = rw (maps_erased e) refl
 
-labels_erased : (e : Element) → conditions_of_labels (some (plain e)) ≡ conditions_of_labels (some e)
+labels_erased : (e : Element) → conditions_of_labels (Some (plain e)) ≡ conditions_of_labels (Some e)
 unfolding conditions_of_labels of_maps there
 labels_erased e = rw (maps_erased e) refl
 
 -- ---- The terms that the promises are made of.
 
 module _ (lengths : List ℕ) (room work : ℕ) where
-  refusal_bytes_lem : (n : ℕ) (e : Element) → refusal lengths n room work (some (plain e)) ≡ refusal lengths n room work (some e)
+  refusal_bytes_lem : (n : ℕ) (e : Element) → refusal lengths n room work (Some (plain e)) ≡ refusal lengths n room work (Some e)
   unfolding refusal conditions
   refusal_bytes_lem n e = rw (header_erased lengths n e, table_erased room work e, labels_erased e) refl
 
@@ -180,13 +179,13 @@ module _ (lengths : List ℕ) (room work : ℕ) where
   unfolding refusal conditions
   refusal_size m n h k d = ap (λ a. first (a ++ (conditions_of_table room work d ++ conditions_of_labels d))) (header_size lengths m n d h k)
 
-answer_bytes_lem : (number : ℕ) (e : Element) → answer_by number (some (plain e)) ≡ answer_by number (some e)
+answer_bytes_lem : (number : ℕ) (e : Element) → answer_by number (Some (plain e)) ≡ answer_by number (Some e)
 unfolding answer_by maps_in
 answer_bytes_lem zero e = rw (maps_erased e) refl
 answer_bytes_lem (suc n) e = refl
 
 records_bytes : (number : ℕ) (e : Element) (records : List ℕ)
-    → records_by number (some (plain e)) records ≡ records_by number (some e) records
+    → records_by number (Some (plain e)) records ≡ records_by number (Some e) records
 unfolding records_by maps_in
 records_bytes zero e records = rw (maps_erased e) refl
 records_bytes (suc n) e records = refl
@@ -194,16 +193,16 @@ records_bytes (suc n) e records = refl
 pub answer_unseeing : (lengths : List ℕ) (room work : ℕ) → Unseeing (answer_to lengths room work)
 unfolding answer_to
 answer_unseeing lengths room work = record {
-  bytes = λ n e. rw (refusal_bytes_lem lengths room work n e) (answer_bytes_lem (refusal lengths n room work (some e)) e);
-  size = λ m n h k e. ap (λ r. answer_by r (some e)) (refusal_size lengths room work m n h k (some e));
+  bytes = λ n e. rw (refusal_bytes_lem lengths room work n e) (answer_bytes_lem (refusal lengths n room work (Some e)) e);
+  size = λ m n h k e. ap (λ r. answer_by r (Some e)) (refusal_size lengths room work m n h k (Some e));
 }
 
 pub records_unseeing : (lengths records : List ℕ) (work : ℕ) → Unseeing (records_after lengths records work)
 unfolding records_after
 records_unseeing lengths records work = record {
   bytes = λ n e. rw (refusal_bytes_lem lengths (length records) work n e)
-      (records_bytes (refusal lengths n (length records) work (some e)) e records);
-  size = λ m n h k e. ap (λ r. records_by r (some e) records) (refusal_size lengths (length records) work m n h k (some e));
+      (records_bytes (refusal lengths n (length records) work (Some e)) e records);
+  size = λ m n h k e. ap (λ r. records_by r (Some e) records) (refusal_size lengths (length records) work m n h k (Some e));
 }
 
 -- a map name's number; its part is the caller's own bytes
@@ -211,13 +210,13 @@ pub name_unseeing : (lengths : List ℕ) (d i : ℕ) → Unseeing (λ size. name
 unfolding name_refusal of_maps there
 name_unseeing lengths d i = record {
   bytes = λ n e. ap₂ (λ a l. first (a ++ (18 when no_name d i l ∷ []))) (header_erased lengths n e) (maps_erased e);
-  size = λ m n h k e. ap (λ a. first (a ++ (18 when no_name d i (maps_of e) ∷ []))) (header_size lengths m n (some e) h k);
+  size = λ m n h k e. ap (λ a. first (a ++ (18 when no_name d i (maps_of e) ∷ []))) (header_size lengths m n (Some e) h k);
 }
 
 -- ---- Labels: a name's part is the caller's own bytes; all else is told by the document.
 
 module _ (lengths : List ℕ) (d i : ℕ) where
-  before_bytes : (n : ℕ) (e : Element) → labels_refusals lengths n d i (some (plain e)) ≡ labels_refusals lengths n d i (some e)
+  before_bytes : (n : ℕ) (e : Element) → labels_refusals lengths n d i (Some (plain e)) ≡ labels_refusals lengths n d i (Some e)
   unfolding labels_refusals of_maps there
   before_bytes n e = rw (header_erased lengths n e, labels_erased e, maps_erased e) refl
 
@@ -230,17 +229,17 @@ module _ (lengths : List ℕ) (d i : ℕ) where
   unfolding keys_refusal of_maps there
   keys_unseeing room = record {
     bytes = λ n e. rw (before_bytes n e, maps_erased e) refl;
-    size = λ m n h k e. ap (λ a. first (a ++ (17 when keys_short d i room (maps_of e) ∷ []))) (before_size m n h k (some e));
+    size = λ m n h k e. ap (λ a. first (a ++ (17 when keys_short d i room (maps_of e) ∷ []))) (before_size m n h k (Some e));
   }
 
   pub label_unseeing : (key : ℤ) → Unseeing (λ size. label_refusal lengths size d i key)
   unfolding label_refusal of_maps there
   label_unseeing key = record {
     bytes = λ n e. rw (before_bytes n e, maps_erased e) refl;
-    size = λ m n h k e. ap (λ a. first (a ++ (19 when no_key d i key (maps_of e) ∷ []))) (before_size m n h k (some e));
+    size = λ m n h k e. ap (λ a. first (a ++ (19 when no_key d i key (maps_of e) ∷ []))) (before_size m n h k (Some e));
   }
 
-  keys_bytes : (number : ℕ) (e : Element) → keys_by number d i (some (plain e)) ≡ keys_by number d i (some e)
+  keys_bytes : (number : ℕ) (e : Element) → keys_by number d i (Some (plain e)) ≡ keys_by number d i (Some e)
   unfolding keys_by maps_in
   keys_bytes zero e = rw (maps_erased e) refl
   keys_bytes (suc n) e = refl
@@ -248,8 +247,8 @@ module _ (lengths : List ℕ) (d i : ℕ) where
   pub given_unseeing : (room : ℕ) → Unseeing (λ size. keys_given lengths size d i room)
   unfolding keys_given
   given_unseeing room = record {
-    bytes = λ n e. rw ((keys_unseeing room).bytes n e) (keys_bytes (keys_refusal lengths n d i room (some e)) e);
-    size = λ m n h k e. ap (λ r. keys_by r d i (some e)) ((keys_unseeing room).size m n h k e);
+    bytes = λ n e. rw ((keys_unseeing room).bytes n e) (keys_bytes (keys_refusal lengths n d i room (Some e)) e);
+    size = λ m n h k e. ap (λ r. keys_by r d i (Some e)) ((keys_unseeing room).size m n h k e);
   }
 
   pub count_unseeing : (room : ℕ) → Unseeing (λ size. keys_count lengths size d i room)

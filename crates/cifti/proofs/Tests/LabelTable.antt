@@ -1,6 +1,5 @@
 -- Tables of labels, computed: one key written in two ways, the names of a key.
-use Rattle.std.specs.Prelude.{◌≡◌, refl, [], ◌∷◌, true, false, pos, negsuc}
-use Rattle.std.proofs.Math.Option.{Option, some}
+use Rattle.std.specs.Prelude.{◌≡◌, refl, [], ◌∷◌, true, false, pos, negsuc, Option, Some, None}
 use Prim.Native.String.{String}
 use Rattle.lists.specs.Lists.{lists}
 use Rattle.grammar.specs.Bytes.{ascii}
@@ -11,8 +10,8 @@ use Rattle.numbers.specs.Numbers.{numbers}
 use Rattle.cifti.specs.LabelTable.{label_words, keys_right, table_keys, key_twice_in, names_with}
 
 unfoldable told : {A : Type 0} → A → (Element → A) → Option Element → A
-told a f Option.none = a
-told a f (some e) = f e
+told a f None = a
+told a f (Some e) = f e
 
 unfoldable asked : {A : Type 0} → A → (Element → A) → String → A
 asked a f s = told a f (parse (ascii s))

@@ -38,7 +38,7 @@ module _ {text : List ℕ} {n : MapNote} (m : Noted text n) {b : Bool} (p : b �
   unfolding series_in
   series_no f h = rw (sym p ∙ f) h
 
-pub ruleset series-told = (series_here, series_yes, series_no, rules)
+pub ruleset series_told = (series_here, series_yes, series_no, rules)
 
 module _ (n : MapNote) (start : ℕ) {b : Bool} (p : b ≡ is_brain n.kind) where
   pub start_yes : b ≡ true → start ≡ start_in n start
@@ -49,7 +49,7 @@ module _ (n : MapNote) (start : ℕ) {b : Bool} (p : b ≡ is_brain n.kind) wher
   unfolding start_in
   start_no f = rw (sym p ∙ f)
 
-pub ruleset start-told = (start_yes, start_no, rules)
+pub ruleset start_told = (start_yes, start_no, rules)
 
 pub described_by : {text : List ℕ} {n : MapNote} → Noted text n → (start : ℕ) → {s : S.Series} → s ≡ series_in text n → {p : ℕ}
     → p ≡ start_in n start

@@ -1,5 +1,5 @@
 -- What is proved of Series.
-use Rattle.std.specs.Prelude.{◌≡◌, List, true, ℕ, ℤ, pos}
+use Rattle.std.specs.Prelude.{◌≡◌, List, true, ℕ, ℤ, pos, Option, Some, None}
 use Rattle.std.proofs.Math.Path.{refl, sym, ap}
 use Rattle.std.proofs.Common.{◌∙◌, rules}
 use Rattle.lists.specs.Lists.{all}
@@ -8,15 +8,9 @@ use Rattle.grammar.specs.Look.{Word, attr}
 use Rattle.nodes.specs.Places.{Stands, the}
 use Rattle.nodes.specs.Attributes.{place}
 use Rattle.nodes.specs.Values.{value_there}
-use Rattle.nodes.specs.declared.Found.{Found}
-use Rattle.nodes.specs.declared.Found.TheVariants.{At, Nothing}
 use Rattle.numbers.specs.Numbers.{numbers, decimal, decimal_value, no_decimal, exponent, exponent_value}
 use Rattle.numbers.specs.Answers.{decimal_in, exponent_in}
 use Rattle.numbers.specs.declared.Decimal.{Decimal}
-use Rattle.numbers.specs.declared.Decimals.{Decimals}
-use Rattle.numbers.specs.declared.Decimals.TheVariants as decimals
-use Rattle.numbers.specs.declared.Exponent.{Exponent}
-use Rattle.numbers.specs.declared.Exponent.TheVariants as exponents
 use Rattle.cifti.specs.Words.{units, number_in}
 use Rattle.cifti.specs.declared.answer.Series as S
 use Rattle.maps.proofs.Laws.Kinds.{SeriesFacts, series_facts}
@@ -34,32 +28,32 @@ exponent_seen_lem w h = rw h refl
 
 -- ---- The attributes.
 
-module _ {text : List ℕ} {at : ℕ} (w : List ℕ) (st : Stands text at) {f : Found} (e : f ≡ place text at w) where
-  pub decimal_is : {v : ℕ} {a : Decimals} {d : Decimal} → f ≡ At v → a ≡ decimal_in (value_there text v) → a ≡ decimals.Is d
+module _ {text : List ℕ} {at : ℕ} (w : List ℕ) (st : Stands text at) {f : Option ℕ} (e : f ≡ place text at w) where
+  pub decimal_is : {v : ℕ} {a : Option Decimal} {d : Decimal} → f ≡ Some v → a ≡ decimal_in (value_there text v) → a ≡ Some d
       → d ≡ decimal_seen (attribute_word w (the text at))
   unfolding decimal_seen or_no_decimal
   decimal_is h p q = sym (ap (λ x. or_no_decimal (decimal_in x)) (sym (found_value w st e h)) ∙ ap or_no_decimal (sym p ∙ q))
 
-  pub decimal_no : {v : ℕ} {a : Decimals} {r : Decimal} → f ≡ At v → a ≡ decimal_in (value_there text v) → a ≡ decimals.No → r ≡ no_decimal
+  pub decimal_no : {v : ℕ} {a : Option Decimal} {r : Decimal} → f ≡ Some v → a ≡ decimal_in (value_there text v) → a ≡ None → r ≡ no_decimal
       → r ≡ decimal_seen (attribute_word w (the text at))
   unfolding decimal_seen or_no_decimal
   decimal_no h p q k = k ∙ sym (ap (λ x. or_no_decimal (decimal_in x)) (sym (found_value w st e h)) ∙ ap or_no_decimal (sym p ∙ q))
 
-  pub decimal_none : {r : Decimal} → f ≡ Nothing → r ≡ no_decimal → r ≡ decimal_seen (attribute_word w (the text at))
+  pub decimal_none : {r : Decimal} → f ≡ None → r ≡ no_decimal → r ≡ decimal_seen (attribute_word w (the text at))
   unfolding decimal_seen or_no_decimal decimal_in numbers all
   decimal_none h k = k ∙ rw (found_none w st e h) refl
 
-  pub exponent_is : {v : ℕ} {a : Exponent} {n : ℤ} → f ≡ At v → a ≡ exponent_in 30 (value_there text v) → a ≡ exponents.Is n
+  pub exponent_is : {v : ℕ} {a : Option ℤ} {n : ℤ} → f ≡ Some v → a ≡ exponent_in 30 (value_there text v) → a ≡ Some n
       → n ≡ exponent_seen (attribute_word w (the text at))
   unfolding exponent_seen or_no_exponent
   exponent_is h p q = sym (ap (λ x. or_no_exponent (exponent_in 30 x)) (sym (found_value w st e h)) ∙ ap or_no_exponent (sym p ∙ q))
 
-  pub exponent_no : {v : ℕ} {a : Exponent} → f ≡ At v → a ≡ exponent_in 30 (value_there text v) → a ≡ exponents.No
+  pub exponent_no : {v : ℕ} {a : Option ℤ} → f ≡ Some v → a ≡ exponent_in 30 (value_there text v) → a ≡ None
       → pos 0 ≡ exponent_seen (attribute_word w (the text at))
   unfolding exponent_seen or_no_exponent
   exponent_no h p q = sym (ap (λ x. or_no_exponent (exponent_in 30 x)) (sym (found_value w st e h)) ∙ ap or_no_exponent (sym p ∙ q))
 
-  pub exponent_none : f ≡ Nothing → pos 0 ≡ exponent_seen (attribute_word w (the text at))
+  pub exponent_none : f ≡ None → pos 0 ≡ exponent_seen (attribute_word w (the text at))
   unfolding exponent_seen or_no_exponent exponent_in numbers all
   exponent_none h = rw (found_none w st e h) refl
 

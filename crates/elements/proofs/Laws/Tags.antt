@@ -27,7 +27,7 @@ pub turns_so : (b : ℕ) {s t : Bool} → s ≡ closing b → t ≡ quote b → 
 unfolding turns
 turns_so b e f = rw (e, f)
 
-pub ruleset byte-turns = (closes_so, turns_so, rules)
+pub ruleset byte_turns = (closes_so, turns_so, rules)
 
 module _ (q b : ℕ) (k : q ≡ 0 → ⊥) where
   quote_turns : b ≡ q → turns q b ≡ true
@@ -83,7 +83,7 @@ module _ {text : List ℕ} {at i : ℕ} (g : Quoted text 0 at i) (h : i < length
   pub sign_here : t ≡ true → Turning text 0 at i
   sign_here f = turn_here g (sym e ∙ f)
 
-pub ruleset signs-on = (turn_start, turn_end, sign_on, sign_here, rules)
+pub ruleset signs_on = (turn_start, turn_end, sign_on, sign_here, rules)
 
 module _ {text : List ℕ} {q at i : ℕ} (k : q ≡ 0 → ⊥) (g : Quoted text q at i) (h : i < length text) where
   pub value_on : (get_or text i 0 ≡ q → ⊥) → Quoted text q at (i + 1)
@@ -92,7 +92,7 @@ module _ {text : List ℕ} {q at i : ℕ} (k : q ≡ 0 → ⊥) (g : Quoted text
   pub value_here : get_or text i 0 ≡ q → Turning text q at i
   value_here e = turn_here g (quote_turns q (get_or text i 0) k e)
 
-pub ruleset values-on = (quote_from, turn_end, value_on, value_here, rules)
+pub ruleset values_on = (quote_from, turn_end, value_on, value_here, rules)
 
 -- AMONG SIXTEEN BYTES
 pub record Nearing (text : List ℕ) (q at n : ℕ) : Type 0 where
@@ -150,7 +150,7 @@ module _ {text : List ℕ} {q at n : ℕ} (g : Nearby text q at n) where
       let s = g.goes.same ∙ ap (λ m. tag_from q (drop (at + m) text)) e ∙ t.goes.same in
       record { goes = record { ahead = omega arith; same = s }; here = t.here }
 
-pub ruleset near-then-far = (near_turns, near_far, rules)
+pub ruleset near_then_far = (near_turns, near_far, rules)
 
 -- A TAG THAT ENDS HERE
 pub sign_now : (text : List ℕ) (at : ℕ) → at < length text → {c : Bool} → c ≡ closing (get_or text at 0) → c ≡ true → {r : Tag}
@@ -158,7 +158,7 @@ pub sign_now : (text : List ℕ) (at : ℕ) → at < length text → {c : Bool} 
 unfolding finishes
 sign_now text at u e y z = tag_stops text at 0 at (tag_start text at) u e y z
 
-pub ruleset tag-now = (sign_now, rules)
+pub ruleset tag_now = (sign_now, rules)
 
 -- THE REST OF A TAG
 module _ {text : List ℕ} {at i j : ℕ} (t : Tagging text at 0 i) (s : Turning text 0 i j) where
@@ -199,4 +199,4 @@ module _ {text : List ℕ} {at i j : ℕ} (t : Tagging text at 0 i) (s : Turning
             let y : eqb (get_or text k 0) b ≡ true = rw n at (v.here h) in
             tag_goes text at b k (tag_jumps opens v.goes) h {t = false} (rw n) refl (rw (n, y))
 
-pub ruleset tag-turns = (tag_start, sign_none, sign_ends, sign_some, value_none, value_less, value_ends, rules)
+pub ruleset tag_turns = (tag_start, sign_none, sign_ends, sign_some, value_none, value_less, value_ends, rules)

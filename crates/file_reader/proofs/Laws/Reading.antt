@@ -110,9 +110,9 @@ name_cut {file} {r = r} p =
     let n : (r.start + r.length) - r.start ≡ r.length = omega arith in
     record { place = r; placed = p; is = ap (λ m. take m (drop r.start file)) n }
 
-pub ruleset reading-file = (handed_long, file_refused, file_read, part_inside, rules)
+pub ruleset reading_file = (handed_long, file_refused, file_read, part_inside, rules)
 
-pub ruleset naming-file = (
+pub ruleset naming_file = (
   handed_long,
   place_refused,
   place_named,

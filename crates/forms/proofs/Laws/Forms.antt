@@ -1,5 +1,5 @@
 -- The turns of the tests of form.
-use Rattle.std.specs.Prelude.{◌≡◌, refl, List, [], Bool, true, false, ◌&&◌, cond, ℕ, ◌<◌, ◌≤◌, leb, ℤ}
+use Rattle.std.specs.Prelude.{◌≡◌, refl, List, [], Bool, true, false, ◌&&◌, cond, ℕ, ◌<◌, ◌≤◌, leb, ℤ, Option, Some, None}
 use Rattle.std.proofs.Math.Path.{ap, sym}
 use Rattle.std.proofs.Common.{◌∙◌, arith, rules}
 use borrow.Author.Tests.{le-leb, lt-leb}
@@ -7,21 +7,11 @@ use Rattle.lists.specs.Lists.{all, those}
 use Rattle.grammar.specs.Look.{Word}
 use Rattle.nodes.specs.Texts.{says_at, left, inside, text_of_lem}
 use Rattle.nodes.proofs.Laws.TextSteps.{text_none, text_some}
-use Rattle.nodes.specs.declared.Found.{Found}
-use Rattle.nodes.specs.declared.Found.TheVariants.{At, Nothing}
 use Rattle.numbers.specs.Numbers.{parts, filled, words, whole, dimension_list, exponent, decimal, volume_dimensions, wholes, last_row, sixteen}
 use Rattle.numbers.specs.Answers.{whole_in, listed_in, exponent_in, decimal_in, three_in, next_number}
 use Rattle.numbers.proofs.Laws.Walk.{Handed, number_law, end_law, bad_law}
-use Rattle.numbers.specs.declared.Whole.{Whole}
-use Rattle.numbers.specs.declared.Whole.TheVariants.{Is, No}
 use Rattle.numbers.specs.declared.Lengths.{Lengths}
-use Rattle.numbers.specs.declared.Three.{Three}
-use Rattle.numbers.specs.declared.Three.TheVariants as three
-use Rattle.numbers.specs.declared.Exponent.{Exponent}
-use Rattle.numbers.specs.declared.Exponent.TheVariants as exponents
 use Rattle.numbers.specs.declared.Decimal.{Decimal}
-use Rattle.numbers.specs.declared.Decimals.{Decimals}
-use Rattle.numbers.specs.declared.Decimals.TheVariants as decimals
 use Rattle.numbers.specs.declared.Next.{Next}
 use Rattle.numbers.specs.declared.Next.TheVariants.{Number, End, Bad}
 
@@ -35,57 +25,57 @@ module _ {A : Type 0} {yes no : A} (apart : yes ≡ no → ⊥) {r : A} where
   told_no true d e f = refl
   told_no false d e f = absurd (d (sym f ∙ e))
 
-is_no : {n : ℕ} → Is n ≡ No → ⊥
+is_no : {n : ℕ} → Some n ≡ None → ⊥
 is_no e = let z : ◌≡◌ {A = ℕ} 0 1 = cc in omega arith
 
-exponent_no : {n : ℤ} → exponents.Is n ≡ exponents.No → ⊥
+exponent_no : {n : ℤ} → Some n ≡ None → ⊥
 exponent_no e = let z : ◌≡◌ {A = ℕ} 0 1 = cc in omega arith
 
-decimal_no : {n : Decimal} → decimals.Is n ≡ decimals.No → ⊥
+decimal_no : {n : Decimal} → Some n ≡ None → ⊥
 decimal_no e = let z : ◌≡◌ {A = ℕ} 0 1 = cc in omega arith
 
-three_no : {n : Lengths} → three.Are n ≡ three.No → ⊥
+three_no : {n : Lengths} → Some n ≡ None → ⊥
 three_no e = let z : ◌≡◌ {A = ℕ} 0 1 = cc in omega arith
 
-module _ (w : Word) {r : Whole} where
-  pub whole_yes : (lo hi : ℕ) → r ≡ whole_in lo hi w → {n : ℕ} → r ≡ Is n → true ≡ whole lo hi w
+module _ (w : Word) {r : Option ℕ} where
+  pub whole_yes : (lo hi : ℕ) → r ≡ whole_in lo hi w → {n : ℕ} → r ≡ Some n → true ≡ whole lo hi w
   unfolding whole_in
   whole_yes lo hi e f = told_no is_no (whole lo hi w) is_no e f
 
-  pub whole_no : (lo hi : ℕ) → r ≡ whole_in lo hi w → r ≡ No → false ≡ whole lo hi w
+  pub whole_no : (lo hi : ℕ) → r ≡ whole_in lo hi w → r ≡ None → false ≡ whole lo hi w
   unfolding whole_in
   whole_no lo hi e f = told_yes is_no (whole lo hi w) e f
 
-  pub listed_yes : r ≡ listed_in w → {n : ℕ} → r ≡ Is n → true ≡ dimension_list w
+  pub listed_yes : r ≡ listed_in w → {n : ℕ} → r ≡ Some n → true ≡ dimension_list w
   unfolding listed_in
   listed_yes e f = told_no is_no (dimension_list w) is_no e f
 
-  pub listed_no : r ≡ listed_in w → r ≡ No → false ≡ dimension_list w
+  pub listed_no : r ≡ listed_in w → r ≡ None → false ≡ dimension_list w
   unfolding listed_in
   listed_no e f = told_yes is_no (dimension_list w) e f
 
 module _ (w : Word) where
-  pub exponent_yes : {r : Exponent} (most : ℕ) → r ≡ exponent_in most w → {n : ℤ} → r ≡ exponents.Is n → true ≡ exponent most w
+  pub exponent_yes : {r : Option ℤ} (most : ℕ) → r ≡ exponent_in most w → {n : ℤ} → r ≡ Some n → true ≡ exponent most w
   unfolding exponent_in
   exponent_yes most e f = told_no exponent_no (exponent most w) exponent_no e f
 
-  pub exponent_none : {r : Exponent} (most : ℕ) → r ≡ exponent_in most w → r ≡ exponents.No → false ≡ exponent most w
+  pub exponent_none : {r : Option ℤ} (most : ℕ) → r ≡ exponent_in most w → r ≡ None → false ≡ exponent most w
   unfolding exponent_in
   exponent_none most e f = told_yes exponent_no (exponent most w) e f
 
-  pub decimal_yes : {r : Decimals} → r ≡ decimal_in w → {n : Decimal} → r ≡ decimals.Is n → true ≡ decimal w
+  pub decimal_yes : {r : Option Decimal} → r ≡ decimal_in w → {n : Decimal} → r ≡ Some n → true ≡ decimal w
   unfolding decimal_in
   decimal_yes e f = told_no decimal_no (decimal w) decimal_no e f
 
-  pub decimal_none : {r : Decimals} → r ≡ decimal_in w → r ≡ decimals.No → false ≡ decimal w
+  pub decimal_none : {r : Option Decimal} → r ≡ decimal_in w → r ≡ None → false ≡ decimal w
   unfolding decimal_in
   decimal_none e f = told_yes decimal_no (decimal w) e f
 
-  pub three_yes : {r : Three} (a b c : ℕ) → r ≡ three_in a b c w → {n : Lengths} → r ≡ three.Are n → true ≡ volume_dimensions a b c w
+  pub three_yes : {r : Option Lengths} (a b c : ℕ) → r ≡ three_in a b c w → {n : Lengths} → r ≡ Some n → true ≡ volume_dimensions a b c w
   unfolding three_in
   three_yes a b c e f = told_no three_no (volume_dimensions a b c w) three_no e f
 
-  pub three_none : {r : Three} (a b c : ℕ) → r ≡ three_in a b c w → r ≡ three.No → false ≡ volume_dimensions a b c w
+  pub three_none : {r : Option Lengths} (a b c : ℕ) → r ≡ three_in a b c w → r ≡ None → false ≡ volume_dimensions a b c w
   unfolding three_in
   three_none a b c e f = told_yes three_no (volume_dimensions a b c w) e f
 
@@ -137,24 +127,24 @@ module _ {text : List ℕ} {at most i : ℕ} (go : Listing text at most i) {r : 
     listing_on h = record { same_list = one ∙ rw (le-leb n most h) }
 
 -- THE TEXT OF AN ELEMENT
-module _ (text : List ℕ) (at : ℕ) {f : Found} (e : f ≡ inside text at) where
-  text_there : {i : ℕ} → f ≡ At i → says_at text i ≡ text_of_lem text at
+module _ (text : List ℕ) (at : ℕ) {f : Option ℕ} (e : f ≡ inside text at) where
+  text_there : {i : ℕ} → f ≡ Some i → says_at text i ≡ text_of_lem text at
   text_there h = sym (text_some text at (sym e ∙ h))
 
-  text_missing : f ≡ Nothing → [] ≡ text_of_lem text at
+  text_missing : f ≡ None → [] ≡ text_of_lem text at
   text_missing h = sym (text_none text at (sym e ∙ h))
 
-  pub wholes_there : (most : ℕ) {i : ℕ} → f ≡ At i → {r : Bool} → r ≡ wholes most (says_at text i) → r ≡ wholes most (text_of_lem text at)
+  pub wholes_there : (most : ℕ) {i : ℕ} → f ≡ Some i → {r : Bool} → r ≡ wholes most (says_at text i) → r ≡ wholes most (text_of_lem text at)
   wholes_there most h k = k ∙ ap (wholes most) (text_there h)
 
-  pub wholes_missing : (most : ℕ) → f ≡ Nothing → true ≡ wholes most (text_of_lem text at)
+  pub wholes_missing : (most : ℕ) → f ≡ None → true ≡ wholes most (text_of_lem text at)
   unfolding wholes words parts those filled all
   wholes_missing most h = ap (wholes most) (text_missing h)
 
-  pub sixteen_there : {i : ℕ} → f ≡ At i → {r : Bool} → r ≡ sixteen (says_at text i) → r ≡ sixteen (text_of_lem text at)
+  pub sixteen_there : {i : ℕ} → f ≡ Some i → {r : Bool} → r ≡ sixteen (says_at text i) → r ≡ sixteen (text_of_lem text at)
   sixteen_there h k = k ∙ ap sixteen (text_there h)
 
-  pub sixteen_missing : f ≡ Nothing → false ≡ sixteen (text_of_lem text at)
+  pub sixteen_missing : f ≡ None → false ≡ sixteen (text_of_lem text at)
   unfolding sixteen words parts those filled all last_row
   sixteen_missing h = ap sixteen (text_missing h)
 

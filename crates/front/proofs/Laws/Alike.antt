@@ -1,8 +1,7 @@
 -- FILES WHOSE FIELDS ARE ALIKE: the same number in each, in the order of its own file. With the same list they have the same front.
-use Rattle.std.specs.Prelude.{◌≡◌, List, ℕ, zero, suc, ◌+◌, ◌*◌, ◌≤◌, ◌<◌, pos, length, get_or}
+use Rattle.std.specs.Prelude.{◌≡◌, List, ℕ, zero, suc, ◌+◌, ◌*◌, ◌≤◌, ◌<◌, pos, length, get_or, Option, Some, None}
 use Rattle.std.proofs.Math.Path.{refl, ap}
 use Rattle.std.proofs.Common.{sym, ◌∙◌, arith, le-ltb}
-use Rattle.std.proofs.Math.Option.{Option, some}
 use Rattle.std.proofs.Math.Seq.{slice}
 use Rattle.lists.specs.Lists.{all_below}
 use Rattle.nifti.specs.Fields.{number_at, signed}
@@ -68,8 +67,8 @@ module _ {x y : List ℕ} (a : Alike x y) where
 
   accepted_alike : (o : Option Body) → accepted_front x o ≡ accepted_front y o
   unfolding accepted_front
-  accepted_alike Option.none = refl
-  accepted_alike (some b) = rw (count_alike, length_alike 0 (omega arith), length_alike 1 (omega arith), length_alike 2 (omega arith))
+  accepted_alike None = refl
+  accepted_alike (Some b) = rw (count_alike, length_alike 0 (omega arith), length_alike 1 (omega arith), length_alike 2 (omega arith))
 
   by_alike : (n : ℕ) (o : Option Body) → front_by n x o ≡ front_by n y o
   unfolding front_by
@@ -90,5 +89,5 @@ orders_alike {x} {y} {l} a p q r s =
 -- the same list is written in both, where the extender is the same and the bytes up to the data offset write it, each in its order
 pub lists_alike : {x y : List ℕ} {end : ℕ} {es : List Extension} → Alike x y → (extender x ≡ 0 → ⊥) → extender x ≡ extender y
     → offset x ≡ pos end → end ≤ length x → end ≤ length y → ExtensionList (order_of x) es (slice list_start end x)
-    → ExtensionList (order_of y) es (slice list_start end y) → ListOf x (some es) × ListOf y (some es)
+    → ExtensionList (order_of y) es (slice list_start end y) → ListOf x (Some es) × ListOf y (Some es)
 lists_alike a z e o i j h k = (list (listed z o i h), list (listed (λ w. z (e ∙ w)) (sym (offset_alike a) ∙ o) j k))

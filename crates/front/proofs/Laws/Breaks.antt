@@ -1,8 +1,7 @@
 -- THE FOUR CASES OF 22: no list is written up to the data offset just where, behind some good extensions, fewer than 16 bytes are left
 -- before the data offset or the end of the bytes, or a size is below 16, not a multiple of 16, or past either.
-use Rattle.std.specs.Prelude.{◌≡◌, List, [], ◌∷◌, ◌++◌, true, ◌↔◌, ℕ, zero, suc, ◌+◌, ◌-◌, ◌%◌, ◌^◌, ◌≤◌, ◌<◌, length, take, drop}
+use Rattle.std.specs.Prelude.{◌≡◌, List, [], ◌∷◌, ◌++◌, true, ◌↔◌, ℕ, zero, suc, ◌+◌, ◌-◌, ◌%◌, ◌^◌, ◌≤◌, ◌<◌, length, take, drop, Option, None}
 use Rattle.std.proofs.Common.{sym, ap, ◌∙◌, subst, arith, length-drop, length-append, length-take-le}
-use Rattle.std.proofs.Math.Option.{Option}
 use Rattle.std.proofs.Math.Decide.{ℕ_discrete, dec_lt}
 use Rattle.std.proofs.Math.Seq.{take-append-add}
 use Rattle.lists.proofs.Laws.Booleans.{refute, never_some}
@@ -33,7 +32,7 @@ module _ (o : Order) (left : ℕ) (s : List ℕ) (inside : left ≤ length s) (s
   long : length (take left s) ≡ left
   long = length-take-le left s inside
 
-  bad : (Fits (number_at o 4 0 s) left → ⊥) → cut o (take left s) ≡ Option.none
+  bad : (Fits (number_at o 4 0 s) left → ⊥) → cut o (take left s) ≡ None
   bad h =
       let l = long in
       cut_bad o (take left s) (λ z. omega arith) (refute _ (λ g. h (there (size_fits _ _ g))))
@@ -46,7 +45,7 @@ module _ (o : Order) (left : ℕ) (s : List ℕ) (inside : left ≤ length s) (s
           let e : number_at o 4 0 (take left s) ≡ number_at o 4 0 s = number_within o 4 0 left s (omega arith) in
           record { low = omega arith; inside = omega arith; high = rw (← e) f.high; whole = rw (← e) f.whole }
 
-onward_none : (e : Extension) {l : Option (List Extension)} → l ≡ Option.none → one_more_if true e l ≡ Option.none
+onward_none : (e : Extension) {l : Option (List Extension)} → l ≡ None → one_more_if true e l ≡ None
 unfolding one_more_if
 onward_none e h = rw h
 
@@ -57,7 +56,7 @@ take_one o e g t left h =
     let p : left ≡ length (written o e) + (left - size_of e) = omega arith in
     ap (λ n. take n (written o e ++ t)) p ∙ take-append-add (written o e) t (left - size_of e)
 
-pub broken_none : {o : Order} {left : ℕ} {s : List ℕ} → Breaks o left s → left ≤ length s → cut o (take left s) ≡ Option.none
+pub broken_none : {o : Order} {left : ℕ} {s : List ℕ} → Breaks o left s → left ≤ length s → cut o (take left s) ≡ None
 broken_none {o} {left} {s} (few_before_offset h k) i = bad o left s i h (λ f. let a = f.low in let b = f.inside in omega arith)
 broken_none {o} {left} {s} (few_before_end h k) i = bad o left s i h (λ f. let a = f.low in let b = f.inside in omega arith)
 broken_none {o} {left} {s} (size_below h k) i = bad o left s i h (λ f. let a = f.low in omega arith)

@@ -1,7 +1,6 @@
 -- A document that passes 6, 29 and 7 holds what `Held` says.
-use Rattle.std.specs.Prelude.{◌≡◌, refl, List, [], ◌∷◌, ◌++◌, Bool, true, false, ◌&&◌, ◌||◌, cond}
+use Rattle.std.specs.Prelude.{◌≡◌, refl, List, [], ◌∷◌, ◌++◌, Bool, true, false, ◌&&◌, ◌||◌, cond, Option, Some, None}
 use Rattle.std.proofs.Common.{sym, ap, ◌∙◌, subst, append-nil, arith}
-use Rattle.std.proofs.Math.Option.{Option, some}
 use Rattle.std.proofs.lemmas.Bool.{false≢true}
 use borrow.Author.Tests.{eqb-true, not-false}
 use Rattle.lists.specs.Lists.{all, count, those, each_in}
@@ -79,7 +78,7 @@ meta_table = refl
 table_kind : (e : Element) → GoodAs gifti_rows root_rows e → is "LabelTable" (name_of e) ≡ true → Good gifti_rows (of_cifti label_table) e
 unfolding kind_of kind_by
 table_kind e (good_as {k} q g) n =
-    let at : some (of_cifti label_table) ≡ some k = rw (not_both "LabelTable" "MetaData" (name_of e) n meta_table, n) at q in
+    let at : Some (of_cifti label_table) ≡ Some k = rw (not_both "LabelTable" "MetaData" (name_of e) n meta_table, n) at q in
     let z : k ≡ of_cifti label_table = cc in
     subst (λ (j : GiftiKind). Good gifti_rows j e) z g
 
@@ -107,7 +106,7 @@ meta_data_lem = refl
 data_kind : (k : GiftiKind) (e : Element) → GoodAs gifti_rows (array_rows k) e → is "Data" (name_of e) ≡ true → Good gifti_rows k e
 unfolding kind_of kind_by
 data_kind k e (good_as {k = j} q g) n =
-    let at : some k ≡ some j = rw (not_both "Data" "MetaData" (name_of e) n meta_data_lem, n) at q in
+    let at : Some k ≡ Some j = rw (not_both "Data" "MetaData" (name_of e) n meta_data_lem, n) at q in
     let z : j ≡ k = cc in
     subst (λ (i : GiftiKind). Good gifti_rows i e) z g
 
@@ -178,18 +177,18 @@ good_array : (a : Element) → GoodAs gifti_rows root_rows a → is "DataArray" 
 unfolding kind_of kind_by kind_chosen kind_among or_else encodings array_read encoding_read is_coded has attr or_empty
 good_array a (good_as {k} q g) n h = go (value_in "Encoding" (attributes_of a)) refl chosen_so (and_left _ _ h)
   where
-    chosen_so : or_else other_array (kind_chosen encodings (value_in "Encoding" (attributes_of a))) ≡ some k
+    chosen_so : or_else other_array (kind_chosen encodings (value_in "Encoding" (attributes_of a))) ≡ Some k
     chosen_so = rw (
       not_both "DataArray" "MetaData" (name_of a) n meta_array,
       not_both "DataArray" "LabelTable" (name_of a) n table_array,
       n,
     ) at q
 
-    coded_so : (v : Word) → value_in "Encoding" (attributes_of a) ≡ some v → is_coded a ≡ is "Base64Binary" v
+    coded_so : (v : Word) → value_in "Encoding" (attributes_of a) ≡ Some v → is_coded a ≡ is "Base64Binary" v
     coded_so v p = ap (λ o. is "Base64Binary" (or_empty o)) p
 
-    pick : (v : Word) → value_in "Encoding" (attributes_of a) ≡ some v → (b c : Bool) → is "ASCII" v ≡ b → is "Base64Binary" v ≡ c
-        → or_else other_array (cond b (some plain_array) (cond c (some coded_array) Option.none)) ≡ some k → (b || c) ≡ true → GoodArray a
+    pick : (v : Word) → value_in "Encoding" (attributes_of a) ≡ Some v → (b c : Bool) → is "ASCII" v ≡ b → is "Base64Binary" v ≡ c
+        → or_else other_array (cond b (Some plain_array) (cond c (Some coded_array) None)) ≡ Some k → (b || c) ≡ true → GoodArray a
     pick v p true c x y r t =
         let z : k ≡ plain_array = cc in
         good_plain (subst (λ (i : GiftiKind). Good gifti_rows i a) z g)
@@ -198,10 +197,10 @@ good_array a (good_as {k} q g) n h = go (value_in "Encoding" (attributes_of a)) 
         good_coded (subst (λ (i : GiftiKind). Good gifti_rows i a) z g) (coded_so v p ∙ y)
     pick v p false false x y r t = absurd (false≢true t)
 
-    go : (o : Option Word) → value_in "Encoding" (attributes_of a) ≡ o → or_else other_array (kind_chosen encodings o) ≡ some k
+    go : (o : Option Word) → value_in "Encoding" (attributes_of a) ≡ o → or_else other_array (kind_chosen encodings o) ≡ Some k
         → (is "ASCII" (or_empty o) || is "Base64Binary" (or_empty o)) ≡ true → GoodArray a
-    go Option.none p r t = both_ways t (rw (none_read.0, none_read.1) refl)
-    go (some v) p r t = pick v p (is "ASCII" v) (is "Base64Binary" v) refl refl r t
+    go None p r t = both_ways t (rw (none_read.0, none_read.1) refl)
+    go (Some v) p r t = pick v p (is "ASCII" v) (is "Base64Binary" v) refl refl r t
 
 -- ---- The arrays of the root.
 

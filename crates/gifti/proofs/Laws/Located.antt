@@ -1,9 +1,8 @@
 -- THE KEYS of every answer that the promise allows with number 0: what each place holds, and that it has a Label.
-use Rattle.std.specs.Prelude.{◌≡◌, true, ℕ, ◌<◌, ltb, ℤ, pos, get_or}
+use Rattle.std.specs.Prelude.{◌≡◌, true, ℕ, ◌<◌, ltb, ℤ, pos, get_or, Some}
 use Rattle.std.proofs.Math.Path.{refl, ap}
 use Rattle.std.proofs.Common.{sym, ◌∙◌, arith}
 use mathlib.Core.List.{List, [], ◌++◌}
-use Rattle.std.proofs.Math.Option.{some}
 use borrow.Author.Tests.{ltb-true, not-false}
 use Rattle.std.proofs.Math.ListN.{length, drop, get_or-append}
 use Rattle.lists.specs.Lists.{all, there}
@@ -26,12 +25,12 @@ use Rattle.gifti.proofs.Laws.Arrays.{filled_at}
 
 module _ {text : List ℕ} {i : ℕ} {keys : List ℤ} {count : ℕ} {after : List ℤ} (r : KeysOf text i keys 0 count after)
     {e : Element} (w : Writes e text) where
-  number : gifti_refusal (length text) i (length keys) (some e) ≡ 0
+  number : gifti_refusal (length text) i (length keys) (Some e) ≡ 0
   number = sym (answers_of r.numbered w)
 
-  none : NoneApplies (gifti_refusals (length text) i (length keys) (some e))
+  none : NoneApplies (gifti_refusals (length text) i (length keys) (Some e))
   unfolding gifti_refusal gifti_refusals conditions_of_file conditions_of_arrays positive
-  none = given_none (gifti_refusals (length text) i (length keys) (some e)) refl number
+  none = given_none (gifti_refusals (length text) i (length keys) (Some e)) refl number
 
   -- 18, 30 and 31 do not apply
   found : ltb i (length (arrays_of e)) ≡ true
@@ -46,7 +45,7 @@ module _ {text : List ℕ} {i : ℕ} {keys : List ℤ} {count : ℕ} {after : Li
   unfolding gifti_refusals conditions_of_file conditions_of_arrays there key_unknown some_unknown
   known = not-false _ (row_fails (rows_past 10 none))
 
-  given : keys_given (length text) i (length keys) (some e) ≡ keys_at i e
+  given : keys_given (length text) i (length keys) (Some e) ≡ keys_at i e
   unfolding keys_given keys_by
   given = rw number refl
 

@@ -1,8 +1,7 @@
 -- What the rules of GIFTI do not see: the bytes between the tags as written, and the size of a text that is not too long.
-use Rattle.std.specs.Prelude.{◌≡◌, List, ◌++◌, Bool, not, ℤ}
+use Rattle.std.specs.Prelude.{◌≡◌, List, ◌++◌, Bool, not, ℤ, Option, Some}
 use Rattle.std.proofs.Math.Path.{refl, ap}
 use Rattle.std.proofs.Common.{◌∙◌}
-use Rattle.std.proofs.Math.Option.{Option, some}
 use Prim.Native.Nat.{ℕ, zero, suc, ◌≤◌}
 use Prim.Native.String.{String}
 use Rattle.std.proofs.Math.ListN.{length}
@@ -144,7 +143,7 @@ room_erased : (i room : ℕ) (e : Element) → room_short i room (plain e) ≡ r
 unfolding room_short
 room_erased i room e = rw (keys_at_lem i e) refl
 
-file_erased : (size : ℕ) (e : Element) → conditions_of_file size (some (plain e)) ≡ conditions_of_file size (some e)
+file_erased : (size : ℕ) (e : Element) → conditions_of_file size (Some (plain e)) ≡ conditions_of_file size (Some e)
 unfolding conditions_of_file no_document there is_some
 file_erased size e = rw (root_erased e, shape_erased e, not_read_erased e, number_erased e) refl
 
@@ -152,7 +151,7 @@ file_size : (m n : ℕ) (d : Option Element) → m ≤ 16777216 → n ≤ 167772
 unfolding conditions_of_file
 file_size m n d h k = rw (small m h, small n k) refl
 
-of_arrays_erased : (i room : ℕ) (e : Element) → conditions_of_arrays i room (some (plain e)) ≡ conditions_of_arrays i room (some e)
+of_arrays_erased : (i room : ℕ) (e : Element) → conditions_of_arrays i room (Some (plain e)) ≡ conditions_of_arrays i room (Some e)
 unfolding conditions_of_arrays there
 of_arrays_erased i room e =
     rw (arrays_erased e, twice_erased e, no_array_erased i e, length_erased e, unknown_erased e, room_erased i room e) refl
@@ -164,10 +163,10 @@ module _ (i room : ℕ) where
   unfolding gifti_refusal gifti_refusals
   refusal_unseeing = record {
     bytes = λ n e. rw (file_erased n e, of_arrays_erased i room e) refl;
-    size = λ m n h k e. ap (λ a. first (a ++ conditions_of_arrays i room (some e))) (file_size m n (some e) h k);
+    size = λ m n h k e. ap (λ a. first (a ++ conditions_of_arrays i room (Some e))) (file_size m n (Some e) h k);
   }
 
-  by_bytes : (number : ℕ) (e : Element) → keys_by number i (some (plain e)) ≡ keys_by number i (some e)
+  by_bytes : (number : ℕ) (e : Element) → keys_by number i (Some (plain e)) ≡ keys_by number i (Some e)
   unfolding keys_by
   by_bytes zero e = keys_at_lem i e
   by_bytes (suc n) e = refl
@@ -175,8 +174,8 @@ module _ (i room : ℕ) where
   pub given_unseeing : Unseeing (λ size. keys_given size i room)
   unfolding keys_given
   given_unseeing = record {
-    bytes = λ n e. rw (refusal_unseeing.bytes n e) (by_bytes (gifti_refusal n i room (some e)) e);
-    size = λ m n h k e. ap (λ r. keys_by r i (some e)) (refusal_unseeing.size m n h k e);
+    bytes = λ n e. rw (refusal_unseeing.bytes n e) (by_bytes (gifti_refusal n i room (Some e)) e);
+    size = λ m n h k e. ap (λ r. keys_by r i (Some e)) (refusal_unseeing.size m n h k e);
   }
 
   pub count_unseeing : Unseeing (λ size. keys_count size i room)

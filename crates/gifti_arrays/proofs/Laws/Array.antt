@@ -1,9 +1,7 @@
 -- One array: how it writes its keys, and whether they are as many as they are to be.
-use Rattle.std.specs.Prelude.{◌≡◌, Bool, ◌&&◌, cond, List, ℕ, ◌+◌, ◌*◌, ◌%◌, eqb, length}
+use Rattle.std.specs.Prelude.{◌≡◌, Bool, ◌&&◌, cond, List, ℕ, ◌+◌, ◌*◌, ◌%◌, eqb, length, Option, Some, None}
 use Rattle.std.proofs.Math.Path.{refl, sym, ap, subst}
 use Rattle.std.proofs.Common.{◌∙◌, arith, eqb-true, eq-eqb, ne_eqb, rules}
-use Rattle.std.proofs.Math.Option.{Option, some}
-use Rattle.std.proofs.Math.Option
 use Rattle.std.proofs.Math.Bool.{true, false}
 use Prim.Native.String.{String}
 use Rattle.std.proofs.lemmas.Bool.{eqb-false}
@@ -16,8 +14,6 @@ use Rattle.nodes.specs.Found.{value_at_name}
 use Rattle.nodes.proofs.Laws.Found.{has_law}
 use Rattle.nodes.specs.Texts.{text_of_lem}
 use Rattle.nodes.proofs.Laws.TextSteps.{text_law}
-use Rattle.nodes.specs.declared.Found.{Found}
-use Rattle.nodes.specs.declared.Found.TheVariants.{At, Nothing}
 use Rattle.inside.specs.Way.{nth}
 use Rattle.inside.proofs.Laws.Walked.{child_same, child_agrees, Agrees, not_there, stands_there}
 use Rattle.inside.specs.Treads.{child_named}
@@ -49,24 +45,24 @@ pub named_agrees : (s : String) (n : ℕ) {text : List ℕ} {at : ℕ} → Stand
     → Agrees text (child_named (ascii s) n text at) (nth n (children s (the text at)))
 unfolding child_named children
 named_agrees s n {text} {at} st =
-    subst (λ (f : Found). Agrees text f (nth n (those (λ d. is s (name_of d)) (elements (contents_of (the text at))))))
+    subst (λ (f : Option ℕ). Agrees text f (nth n (those (λ d. is s (name_of d)) (elements (contents_of (the text at))))))
     (sym (child_same n st (λ k h. called_alike text s k h)))
     (child_agrees (λ d. is s (name_of d)) n st)
 
 -- what agrees with an element stands where it was found
-found_element : {text : List ℕ} {k : ℕ} {o : Option Element} {a : Element} → Agrees text (At k) o → o ≡ some a
+found_element : {text : List ℕ} {k : ℕ} {o : Option Element} {a : Element} → Agrees text (Some k) o → o ≡ Some a
     → (Stands text k) × (the text k ≡ a)
 found_element (stands_there st) q = (st, cc)
 
-never_nothing : {text : List ℕ} {o : Option Element} {a : Element} → Agrees text Nothing o → o ≡ some a → {A : Type 0} → A
+never_nothing : {text : List ℕ} {o : Option Element} {a : Element} → Agrees text None o → o ≡ Some a → {A : Type 0} → A
 never_nothing not_there q = never_some q
 
-module _ {text : List ℕ} {f : Found} {a : Element} (g : Agrees text f (some a)) where
-  pub found_there : {k : ℕ} → f ≡ At k → (Stands text k) × (the text k ≡ a)
-  found_there {k} e = found_element (subst (λ (x : Found). Agrees text x (some a)) e g) refl
+module _ {text : List ℕ} {f : Option ℕ} {a : Element} (g : Agrees text f (Some a)) where
+  pub found_there : {k : ℕ} → f ≡ Some k → (Stands text k) × (the text k ≡ a)
+  found_there {k} e = found_element (subst (λ (x : Option ℕ). Agrees text x (Some a)) e g) refl
 
-  pub found_nowhere : f ≡ Nothing → {A : Type 0} → A
-  found_nowhere e = never_nothing (subst (λ (x : Found). Agrees text x (some a)) e g) refl
+  pub found_nowhere : f ≡ None → {A : Type 0} → A
+  found_nowhere e = never_nothing (subst (λ (x : Option ℕ). Agrees text x (Some a)) e g) refl
 
 -- ---- The encoding.
 
@@ -96,12 +92,12 @@ pub ruleset encoding = (encoding_plain, encoding_big, encoding_little, rules)
 
 -- ---- The Data.
 
-module _ (text : List ℕ) (at : ℕ) {f : Found} (e : f ≡ child_named (ascii "Data") 0 text at) where
-  pub data_found : {k : ℕ} → f ≡ At k → k ≡ data_at text at
+module _ (text : List ℕ) (at : ℕ) {f : Option ℕ} (e : f ≡ child_named (ascii "Data") 0 text at) where
+  pub data_found : {k : ℕ} → f ≡ Some k → k ≡ data_at text at
   unfolding data_at or_start
   data_found h = sym (ap or_start (sym e ∙ h))
 
-  pub data_missing : f ≡ Nothing → 0 ≡ data_at text at
+  pub data_missing : f ≡ None → 0 ≡ data_at text at
   unfolding data_at or_start
   data_missing h = sym (ap or_start (sym e ∙ h))
 
@@ -156,16 +152,16 @@ module _ {text : List ℕ} {a : Element} {n : ArrayNote} (o : ArrayNoted text a 
 -- ---- What is noted of an array that is as its row says.
 
 module _ {text : List ℕ} {at : ℕ} (h : ArrayHere text at) where
-  data_there : Agrees text (child_named (ascii "Data") 0 text at) (some h.good.held)
+  data_there : Agrees text (child_named (ascii "Data") 0 text at) (Some h.good.held)
   unfolding nth
   data_there =
       subst (λ (o : Option Element). Agrees text (child_named (ascii "Data") 0 text at) o)
       (ap (nth 0) h.good.one_data) (named_agrees "Data" 0 h.stands)
 
-  text_at : (f : Found) → child_named (ascii "Data") 0 text at ≡ f → text_of_lem text (or_start f) ≡ text_of h.good.held
+  text_at : (f : Option ℕ) → child_named (ascii "Data") 0 text at ≡ f → text_of_lem text (or_start f) ≡ text_of h.good.held
   unfolding or_start
-  text_at Nothing e = found_nowhere data_there e
-  text_at (At k) e = let (st, q) = found_there data_there e in text_law st ∙ ap text_of q
+  text_at None e = found_nowhere data_there e
+  text_at (Some k) e = let (st, q) = found_there data_there e in text_law st ∙ ap text_of q
 
   -- the text of the Data
   text_so : text_of_lem text (data_at text at) ≡ text_of h.good.held

@@ -1,5 +1,5 @@
 -- All arrays, one after the other.
-use Rattle.std.specs.Prelude.{◌≡◌, Bool, true, false, ◌&&◌, ℤ}
+use Rattle.std.specs.Prelude.{◌≡◌, Bool, true, false, ◌&&◌, ℤ, Option, Some, None, ℕ}
 use Rattle.std.proofs.Math.Path.{refl, ap}
 use Rattle.std.proofs.Common.{sym, ◌∙◌, arith, rules}
 use mathlib.Core.List.{List, [], ◌∷◌, ◌++◌}
@@ -17,8 +17,6 @@ use Rattle.nodes.proofs.Laws.Names.{name_is_law}
 use Rattle.nodes.specs.Children.{first_child, next}
 use Rattle.nodes.proofs.Laws.Children.{left}
 use Rattle.nodes.proofs.Laws.Along.{Along, along_start, along_done, along_stands, along_here, along_less, along_next, children_few}
-use Rattle.nodes.specs.declared.Kid.{Kid}
-use Rattle.nodes.specs.declared.Kid.TheVariants.{Child, Done}
 use Rattle.numbers.specs.Numbers.{in_keys}
 use Rattle.lists.proofs.Laws.Lists.{count_most, few_those}
 use Rattle.lists.specs.Reordered.{member}
@@ -95,10 +93,10 @@ summed_up {fit = fit} s =
       few = omega arith;
     }
 
-abbrev pub Walking : (text : List ℕ) (e : Element) (codes : List ℕ) (arrays : ℕ) (fit : Bool) (keys known : ℕ) → Kid → Type 0
+abbrev pub Walking : (text : List ℕ) (e : Element) (codes : List ℕ) (arrays : ℕ) (fit : Bool) (keys known : ℕ) → Option ℕ → Type 0
 Walking text e codes arrays fit keys known kid = Along text (Summed text e codes arrays fit keys known) kid
 
-pub walking_start : {text : List ℕ} {root : ℕ} {codes : List ℕ} → ArraysAsked text root codes → {kid : Kid}
+pub walking_start : {text : List ℕ} {root : ℕ} {codes : List ℕ} → ArraysAsked text root codes → {kid : Option ℕ}
     → kid ≡ first_child text root → Walking text (the text root) codes 0 true 0 0 kid
 unfolding arrays_of children
 walking_start {text} {root} a e =
@@ -121,13 +119,13 @@ walking_start {text} {root} a e =
     })
     e
 
-module _ {text : List ℕ} {e : Element} {codes : List ℕ} {arrays : ℕ} {fit : Bool} {keys known : ℕ} {kid : Kid}
+module _ {text : List ℕ} {e : Element} {codes : List ℕ} {arrays : ℕ} {fit : Bool} {keys known : ℕ} {kid : Option ℕ}
     (go : Walking text e codes arrays fit keys known kid) where
-  pub walking_done : kid ≡ Done → ArraysTold e codes (record { arrays = arrays; fit = fit; keys = keys; known = known })
+  pub walking_done : kid ≡ None → ArraysTold e codes (record { arrays = arrays; fit = fit; keys = keys; known = known })
   walking_done h = summed_up (along_done go h)
 
-  module _ {k : ℕ} (is_child : kid ≡ Child k) where
-    pub walking_less : {kid₁ : Kid} → kid₁ ≡ next text k → left text kid₁ < left text kid
+  module _ {k : ℕ} (is_child : kid ≡ Some k) where
+    pub walking_less : {kid₁ : Option ℕ} → kid₁ ≡ next text k → left text kid₁ < left text kid
     walking_less e = along_less go is_child e
 
     here : (b : Bool) → b ≡ named text k (ascii "DataArray") → is "DataArray" (name_of (the text k)) ≡ b
@@ -138,7 +136,7 @@ module _ {text : List ℕ} {e : Element} {codes : List ℕ} {arrays : ℕ} {fit 
       unfolding those
       passes f l = rw (here b q ∙ f) refl
 
-      pub walking_other : b ≡ false → {kid₁ : Kid} → kid₁ ≡ next text k → Walking text e codes arrays fit keys known kid₁
+      pub walking_other : b ≡ false → {kid₁ : Option ℕ} → kid₁ ≡ next text k → Walking text e codes arrays fit keys known kid₁
       walking_other f n = along_next go is_child passed n
         where
           passed : (l : List Element) → Summed text e codes arrays fit keys known (the text k ∷ l)
@@ -196,7 +194,7 @@ module _ {text : List ℕ} {e : Element} {codes : List ℕ} {arrays : ℕ} {fit 
           pub room_known : known + r.known < 2 ^ 64
           room_known = let h = room.2 in omega arith
 
-          pub walking_more : {kid₁ : Kid} → kid₁ ≡ next text k
+          pub walking_more : {kid₁ : Option ℕ} → kid₁ ≡ next text k
               → Walking text e codes (arrays + 1) (fit && r.fits) (keys + r.keys) (known + r.known) kid₁
           unfolding all keys_of_all each_in
           walking_more n = along_next go is_child taken n

@@ -1,5 +1,5 @@
 -- What is proved of Arrays.
-use Rattle.std.specs.Prelude.{◌≡◌, refl, List, [], ◌∷◌, Bool, true, false, ◌&&◌, ◌||◌, ℕ, ◌<◌}
+use Rattle.std.specs.Prelude.{◌≡◌, refl, List, [], ◌∷◌, Bool, true, false, ◌&&◌, ◌||◌, ℕ, ◌<◌, Option, Some, None}
 use Rattle.std.proofs.Math.Path.{sym}
 use Rattle.std.proofs.Common.{ap, ◌∙◌, rules}
 use Rattle.std.proofs.Math.Bool.{not}
@@ -16,8 +16,6 @@ use Rattle.nodes.specs.Names.{named}
 use Rattle.nodes.proofs.Laws.Names.{name_is_law}
 use Rattle.nodes.specs.Found.{value_at_name}
 use Rattle.nodes.proofs.Laws.Found.{has_law}
-use Rattle.nodes.specs.declared.Kid.{Kid}
-use Rattle.nodes.specs.declared.Kid.TheVariants.{Child, Done}
 use Rattle.maps.proofs.Laws.Unread.{Seeking, seek_start, seek_done, seek_stands, seek_less, seek_other, seek_found, seek_missed}
 use Rattle.gifti.specs.Arrays.{arrays_of}
 use Rattle.gifti.specs.Conditions.{root_wrong, encoding_read, array_read, array_not_read}
@@ -82,30 +80,30 @@ some_unread (a ∷ l) = go (array_read a) (some_unread l)
     go true h = h
     go false h = refl
 
-abbrev pub Reading : List ℕ → ℕ → Kid → Type 0
+abbrev pub Reading : List ℕ → ℕ → Option ℕ → Type 0
 Reading text at kid = Seeking "DataArray" unread text at kid
 
 of_root : (e : Element) {b : Bool} → b ≡ any unread (arrays_of e) → b ≡ array_not_read e
 unfolding array_not_read
 of_root e h = h ∙ some_unread (arrays_of e)
 
-pub reading_start : {text : List ℕ} {at : ℕ} → Stands text at → {kid : Kid} → kid ≡ first_child text at → Reading text at kid
+pub reading_start : {text : List ℕ} {at : ℕ} → Stands text at → {kid : Option ℕ} → kid ≡ first_child text at → Reading text at kid
 reading_start st e = seek_start _ _ st e
 
-module _ {text : List ℕ} {at : ℕ} {kid : Kid} (go : Reading text at kid) where
-  pub reading_done : kid ≡ Done → false ≡ array_not_read (the text at)
+module _ {text : List ℕ} {at : ℕ} {kid : Option ℕ} (go : Reading text at kid) where
+  pub reading_done : kid ≡ None → false ≡ array_not_read (the text at)
   unfolding arrays_of
   reading_done e = of_root (the text at) (seek_done _ _ go e)
 
-  module _ {k : ℕ} (is_child : kid ≡ Child k) where
+  module _ {k : ℕ} (is_child : kid ≡ Some k) where
     pub reading_stands : Stands text k
     reading_stands = seek_stands _ _ go is_child
 
-    pub reading_less : {kid₁ : Kid} → kid₁ ≡ next text k → left text kid₁ < left text kid
+    pub reading_less : {kid₁ : Option ℕ} → kid₁ ≡ next text k → left text kid₁ < left text kid
     reading_less e = seek_less _ _ go is_child e
 
     module _ {b : Bool} (nm : b ≡ named text k (ascii "DataArray")) where
-      pub reading_other : b ≡ false → {kid₁ : Kid} → kid₁ ≡ next text k → Reading text at kid₁
+      pub reading_other : b ≡ false → {kid₁ : Option ℕ} → kid₁ ≡ next text k → Reading text at kid₁
       reading_other f e = seek_other _ _ go is_child nm f e
 
       module _ (t : b ≡ true) {c : Bool} (q : c ≡ unread (the text k)) where
@@ -113,10 +111,10 @@ module _ {text : List ℕ} {at : ℕ} {kid : Kid} (go : Reading text at kid) whe
         unfolding arrays_of
         reading_found r = of_root (the text at) (seek_found _ _ go is_child nm t q r)
 
-        pub reading_read : c ≡ false → {kid₁ : Kid} → kid₁ ≡ next text k → Reading text at kid₁
+        pub reading_read : c ≡ false → {kid₁ : Option ℕ} → kid₁ ≡ next text k → Reading text at kid₁
         reading_read r e = seek_missed _ _ go is_child nm t q r e
 
-pub ruleset reading-arrays = (
+pub ruleset reading_arrays = (
   reading_start,
   reading_done,
   reading_stands,

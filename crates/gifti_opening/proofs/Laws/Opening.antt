@@ -1,8 +1,7 @@
 -- The turns of the opening: of the root, and of the whole.
-use Rattle.std.specs.Prelude.{◌≡◌, List, [], ◌∷◌, Bool, true, false, cond, ℕ, ◌≤◌, ◌<◌, length}
+use Rattle.std.specs.Prelude.{◌≡◌, List, [], ◌∷◌, Bool, true, false, cond, ℕ, ◌≤◌, ◌<◌, length, Some, None}
 use Rattle.std.proofs.Math.Path.{sym}
 use Rattle.std.proofs.Common.{ap, ◌∙◌, arith, rules, lt-ltb, le-ltb}
-use Rattle.std.proofs.Math.Option.{Option, some}
 use Rattle.lists.specs.Lists.{there, is_some}
 use Rattle.lists.specs.Refusals.{Refusal, ◌when◌, first}
 use Rattle.lists.proofs.Laws.Refusals.{first_row}
@@ -82,11 +81,11 @@ module _ (text : List ℕ) where
   number_long h = rw (lt-ltb 16777216 (length text) h)
 
   module _ (short : length text ≤ 16777216) where
-    pub number_unwritten : parse text ≡ Option.none → file_number text ≡ 3
+    pub number_unwritten : parse text ≡ None → file_number text ≡ 3
     unfolding conditions_of_file first text_too_long no_document is_some
     number_unwritten h = rw (le-ltb 16777216 (length text) short, h)
 
-    pub number_written_lem : (d : Element) → parse text ≡ some d → file_number text ≡ root_number d
+    pub number_written_lem : (d : Element) → parse text ≡ Some d → file_number text ≡ root_number d
     unfolding conditions_of_file first text_too_long no_document is_some there root_number
     number_written_lem d h = rw (le-ltb 16777216 (length text) short, h)
         (root_rows_lem (root_wrong d) (shape_wrong d) (array_not_read d) (number_wrong d) [])

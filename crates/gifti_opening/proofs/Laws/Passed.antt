@@ -1,9 +1,8 @@
 -- ONLY ONE ANSWER of `gifti_opened`; what it says of a call's number: refused, it is that number, and else it is the first of the
 -- conditions of arrays.
-use Rattle.std.specs.Prelude.{◌≡◌, List, ℕ, length}
+use Rattle.std.specs.Prelude.{◌≡◌, List, ℕ, length, Some, Option, None}
 use Rattle.std.proofs.Math.Path.{refl, sym, ap, subst}
 use Rattle.std.proofs.Common.{◌∙◌}
-use Rattle.std.proofs.Math.Option.{Option, some}
 use Rattle.std.proofs.Math.Decide.{ℕ_discrete}
 use borrow.Author.Tests.{ltb-false}
 use Rattle.lists.specs.Lists.{there, is_some}
@@ -14,7 +13,6 @@ use Rattle.grammar.specs.Document.{Element}
 use Rattle.grammar.specs.Parser.{parse}
 use Rattle.nodes.specs.Places.{Stands, the}
 use Rattle.nodes.proofs.Laws.Root.{root_law}
-use Rattle.nodes.specs.declared.Kid.TheVariants.{Child}
 use Rattle.cifti.specs.Conditions.{text_too_long, no_document}
 use Rattle.gifti.specs.Conditions.{shape_wrong, array_not_read, number_wrong, conditions_of_file, conditions_of_arrays, gifti_refusals, gifti_refusal}
 use Rattle.gifti.proofs.Laws.Held.{good_root, said_in_form, good_table, good_arrays}
@@ -22,7 +20,7 @@ use Rattle.gifti_opening.specs.Opening.{OpensGifti}
 use Rattle.gifti_opening.specs.Passed.{FileHere}
 use Rattle.gifti_opening.specs.declared.GiftiOpening.{GiftiOpening}
 
-same_child : (m n : ℕ) → Child m ≡ Child n → m ≡ n
+same_child : (m n : ℕ) → Some m ≡ Some n → m ≡ n
 same_child m n h = cc
 
 -- ---- Behind the opening.
@@ -34,8 +32,8 @@ module _ {text : List ℕ} {r : GiftiOpening} (o : OpensGifti text r) (z : r.num
 
   here_by : (d : Option Element) → parse text ≡ d → NoneApplies (conditions_of_file (length text) d) → FileHere text r.root
   unfolding conditions_of_file no_document text_too_long is_some there
-  here_by Option.none p h = both_ways refl (row_fails (rows_past 1 h))
-  here_by (some e) p h =
+  here_by None p h = both_ways refl (row_fails (rows_past 1 h))
+  here_by (Some e) p h =
       let w = root_law text e p in
       let q : w.place ≡ r.root = same_child w.place r.root (sym w.found ∙ o.placed z) in
       let here : the text r.root ≡ e = subst (λ (n : ℕ). the text n ≡ e) q w.is in
@@ -48,7 +46,7 @@ module _ {text : List ℕ} {r : GiftiOpening} (o : OpensGifti text r) (z : r.num
           small = ltb-false 16777216 (length text) (row_fails h);
           good = good_arrays good (ap array_not_read here ∙ row_fails (rows_past 4 h));
         };
-        parsed = p ∙ ap some (sym here);
+        parsed = p ∙ ap Some (sym here);
         none_before = sym o.number_is ∙ z;
         arrays_said_lem = said_in_form good;
         table = t.table;
@@ -70,7 +68,7 @@ module _ {text : List ℕ} (i room : ℕ) where
       (sym o.number_is))
 
   pub number_here : {root : ℕ} → FileHere text root
-      → gifti_refusal (length text) i room (parse text) ≡ first (conditions_of_arrays i room (some (the text root)))
+      → gifti_refusal (length text) i room (parse text) ≡ first (conditions_of_arrays i room (Some (the text root)))
   unfolding gifti_refusal gifti_refusals conditions_of_file positive
   number_here {root} f =
       first_none (given_none (conditions_of_file (length text) (parse text)) refl f.none_before) (conditions_of_arrays i room (parse text))

@@ -1,9 +1,7 @@
 -- What is promised of the keys of an array: refused, the list is as it was; accepted, it begins with the keys.
-use Rattle.std.specs.Prelude.{◌≡◌, Bool, true, List, [], ◌∷◌, ◌++◌, ℕ, zero, suc, ◌≤◌, ◌<◌, ltb, ℤ, get_or}
+use Rattle.std.specs.Prelude.{◌≡◌, Bool, true, List, [], ◌∷◌, ◌++◌, ℕ, zero, suc, ◌≤◌, ◌<◌, ltb, ℤ, get_or, Option, Some, None}
 use Rattle.std.proofs.Math.Path.{refl, sym, ap}
 use Rattle.std.proofs.Common.{◌∙◌, subst, rules, lt-ltb, le-ltb, ltb-true}
-use Rattle.std.proofs.Math.Option.{Option, some}
-use Rattle.std.proofs.Math.Option
 use native.Mathlib.Omega.{arith}
 use Rattle.std.proofs.Math.Decide.{dec_lt}
 use Rattle.std.proofs.Math.ListN.{length, drop}
@@ -16,8 +14,6 @@ use Rattle.grammar.specs.Bytes.{ascii}
 use Rattle.grammar.specs.Document.{Element}
 use Rattle.grammar.specs.Parser.{parse}
 use Rattle.nodes.specs.Places.{the}
-use Rattle.nodes.specs.declared.Found.{Found}
-use Rattle.nodes.specs.declared.Found.TheVariants.{At, Nothing}
 use Rattle.inside.specs.Way.{nth}
 use Rattle.inside.proofs.Laws.Walked.{Agrees}
 use Rattle.inside.specs.Treads.{child_named}
@@ -85,7 +81,7 @@ refused_kept {text} {i} {keys} r k =
 -- ---- The array asked for.
 
 pub record Nth (i : ℕ) (l : List Element) (a : Element) : Type 0 where
-  pub is_nth : nth i l ≡ some a
+  pub is_nth : nth i l ≡ Some a
   pub keys_are : get_or (each array_keys l) i [] ≡ array_keys a
   pub good : GoodArray a
   pub full : fills_dim0 a ≡ true
@@ -110,14 +106,14 @@ module _ {text : List ℕ} {root i : ℕ} (h : ArraysPassed text root i) where
       nth_of i (arrays_of (the text root)) (ltb-true i _ (not-false _ (row_fails (rows_past 2 none_of)))) h.file.arrays.good
       (not-false _ (row_fails (rows_past 3 none_of)))
 
-  module _ {f : Found} (e : f ≡ child_named (ascii "DataArray") i text root) where
-    reached : Agrees text f (some there_is.0)
+  module _ {f : Option ℕ} (e : f ≡ child_named (ascii "DataArray") i text root) where
+    reached : Agrees text f (Some there_is.0)
     unfolding arrays_of
     reached =
         rw e (subst (λ (o : Option Element). Agrees text (child_named (ascii "DataArray") i text root) o) there_is.1.is_nth
         (named_agrees "DataArray" i h.file.arrays.stands))
 
-    pub array_full : {k : ℕ} → f ≡ At k → ArrayFull text k
+    pub array_full : {k : ℕ} → f ≡ Some k → ArrayFull text k
     array_full q =
         let (st, is) = found_there reached q in
         let n = there_is.1 in
@@ -127,7 +123,7 @@ module _ {text : List ℕ} {root i : ℕ} (h : ArraysPassed text root i) where
         }
 
     module _ (keys : List ℤ) where
-      pub keys_nowhere : f ≡ Nothing → KeysOf text i keys 18 0 keys
+      pub keys_nowhere : f ≡ None → KeysOf text i keys 18 0 keys
       keys_nowhere q = found_nowhere reached q
 
       -- the last row
@@ -137,7 +133,7 @@ module _ {text : List ℕ} {root i : ℕ} (h : ArraysPassed text root i) where
       number_so q =
           number_here i (length keys) h.file ∙ first_none none_of (17 when room_short i (length keys) (the text root) ∷ []) ∙ rw q refl
 
-      module _ {k : ℕ} (q : f ≡ At k) where
+      module _ {k : ℕ} (q : f ≡ Some k) where
         keys_so : get_or (each array_keys (arrays_of (the text root))) i [] ≡ array_keys (the text k)
         keys_so = there_is.1.keys_are ∙ ap array_keys (sym (found_there reached q).1)
 

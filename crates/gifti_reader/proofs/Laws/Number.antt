@@ -1,10 +1,8 @@
 -- The order of 9, 24, 18, 30 and 31; and every key has a Label exactly where as many are found as there are.
-use Rattle.std.specs.Prelude.{◌≡◌, refl, Bool, false, List, [], ◌∷◌, ℕ, ◌≤◌, ◌<◌, ℤ, length, take}
+use Rattle.std.specs.Prelude.{◌≡◌, refl, Bool, false, List, [], ◌∷◌, ℕ, ◌≤◌, ◌<◌, ℤ, length, take, Option, Some, None}
 use Rattle.std.proofs.Math.Path.{sym, ap}
 use Rattle.std.proofs.Common.{◌∙◌, subst, append-nil, arith, rules, eq-eqb, ne_eqb, lt-ltb, le-ltb}
 use Rattle.std.proofs.Math.Bool.{true, not}
-use Rattle.std.proofs.Math.Option.{Option, some}
-use Rattle.std.proofs.Math.Option
 use Rattle.lists.specs.Lists.{all, any, each, each_in, count}
 use Rattle.lists.proofs.Laws.Lists.{all_append, length_each}
 use Rattle.lists.proofs.Laws.Booleans.{and_left, and_right, or_false, refute}
@@ -14,8 +12,6 @@ use Rattle.grammar.specs.Bytes.{ascii}
 use Rattle.grammar.specs.Document.{Element}
 use Rattle.grammar.specs.Look.{is, attr}
 use Rattle.nodes.specs.Places.{Stands, the}
-use Rattle.nodes.specs.declared.Found.{Found}
-use Rattle.nodes.specs.declared.Found.TheVariants.{At, Nothing}
 use Rattle.numbers.specs.Numbers.{in_keys}
 use Rattle.inside.specs.Way.{nth}
 use Rattle.inside.proofs.Laws.Walked.{Agrees}
@@ -45,13 +41,13 @@ use Rattle.gifti_arrays.specs.declared.arrays.Told.{Told}
 -- ---- The table.
 
 module _ {text : List ℕ} {root : ℕ} (h : FileHere text root) where
-  module _ {f : Found} (e : f ≡ child_named (ascii "LabelTable") 0 text root) where
-    reached : Agrees text f (some h.table)
+  module _ {f : Option ℕ} (e : f ≡ child_named (ascii "LabelTable") 0 text root) where
+    reached : Agrees text f (Some h.table)
     unfolding label_tables nth
     reached = rw e (subst (λ (o : Option Element). Agrees text (child_named (ascii "LabelTable") 0 text root) o)
         (ap (nth 0) h.one_table) (named_agrees "LabelTable" 0 h.arrays.stands))
 
-    pub table_found : {k : ℕ} → f ≡ At k → TableAt text (the text root) k
+    pub table_found : {k : ℕ} → f ≡ Some k → TableAt text (the text root) k
     unfolding known_keys each_in label_twice any
     table_found {k} q =
         let (st, is) = found_there reached q in
@@ -63,7 +59,7 @@ module _ {text : List ℕ} {root : ℕ} (h : FileHere text root) where
               ∙ sym (ap (any key_twice_in) h.one_table);
         }
 
-    pub table_nowhere : f ≡ Nothing → TableAt text (the text root) 0
+    pub table_nowhere : f ≡ None → TableAt text (the text root) 0
     table_nowhere q = found_nowhere reached q
 
 pub ruleset tabling = (table_found, table_nowhere, rules)

@@ -1,7 +1,6 @@
 -- Completeness, elements and documents: what the grammar writes, the parser reads.
-use Rattle.std.specs.Prelude.{◌≡◌, refl, List, [], ◌∷◌, ◌++◌, ℕ, suc, ◌≤◌, ◌<◌, Bool, true, false, ◌&&◌, not, eqb, length}
+use Rattle.std.specs.Prelude.{◌≡◌, refl, List, [], ◌∷◌, ◌++◌, ℕ, suc, ◌≤◌, ◌<◌, Bool, true, false, ◌&&◌, not, eqb, length, Some}
 use Rattle.std.proofs.Common.{append_assoc, append-nil, length-append, arith, ne_eqb}
-use Rattle.std.proofs.Math.Option.{some}
 use Rattle.std.proofs.lemmas.Bool.{not-true}
 use Rattle.lists.proofs.Laws.Booleans.{or_left, not_so}
 use Rattle.grammar.specs.Bytes.{◌⊹◌, ascii, blank, name_start, name_byte, letter, quote, special, Each, no_byte, a_byte, Sequence}
@@ -382,6 +381,6 @@ document_complete (Grammar.document {p} {u} {w} {v} {e = e} h₁ h₂ h₃ h₄)
       last,
     )
 
-pub parse_complete : {e : Element} {s : List ℕ} → Writes e s → parse s ≡ some e
+pub parse_complete : {e : Element} {s : List ℕ} → Writes e s → parse s ≡ Some e
 unfolding parse answer
 parse_complete {e} {s} h = rw (document_complete h (length s) (omega arith))

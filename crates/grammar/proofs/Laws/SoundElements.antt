@@ -1,7 +1,6 @@
 -- What the parser finds, the text writes.
-use Rattle.std.specs.Prelude.{◌≡◌, refl, List, [], ◌∷◌, ◌++◌, ℕ, zero, suc, not, length}
+use Rattle.std.specs.Prelude.{◌≡◌, refl, List, [], ◌∷◌, ◌++◌, ℕ, zero, suc, not, length, Some}
 use Rattle.std.proofs.Common.{append_assoc, append-nil}
-use Rattle.std.proofs.Math.Option.{some}
 use Rattle.std.proofs.lemmas.Bool.{not-true}
 use Rattle.lists.proofs.Laws.Booleans.{clash}
 use Rattle.grammar.specs.Bytes.{◌⊹◌, ascii, blank, begins}
@@ -81,11 +80,11 @@ document_sound n s =
     let whole : s ≡ h₁.0 ⊹ h₂.0 ⊹ h₃.0 ⊹ h₄.0 = cc (append-nil h₄.0) in
     good (rw whole (Grammar.document h₁.2 h₂.2 h₃.2 h₄.2))
 
-answer_sound : {s : List ℕ} {m : Read Element} {e : Element} → Ok (λ e r. Writes e s) m → answer m ≡ some e → Writes e s
+answer_sound : {s : List ℕ} {m : Read Element} {e : Element} → Ok (λ e r. Writes e s) m → answer m ≡ Some e → Writes e s
 unfolding answer
 answer_sound failed q = clash (cc)
 answer_sound {s} {e = e} (good {a} h) q = let one : a ≡ e = cc in rw one at h
 
-pub parse_sound : (s : List ℕ) (e : Element) → parse s ≡ some e → Writes e s
+pub parse_sound : (s : List ℕ) (e : Element) → parse s ≡ Some e → Writes e s
 unfolding parse
 parse_sound s e q = answer_sound (document_sound (length s) s) q

@@ -1,6 +1,5 @@
 -- CDATA and DOCTYPE, each line computed.
-use Rattle.std.specs.Prelude.{◌≡◌, refl, [], ◌∷◌, true}
-use Rattle.std.proofs.Math.Option.{some}
+use Rattle.std.specs.Prelude.{◌≡◌, refl, [], ◌∷◌, true, Some}
 use Rattle.lists.specs.Lists.{all}
 use Rattle.grammar.specs.Bytes.{ascii}
 use Rattle.grammar.specs.Erased.{node, none, inner, document_of, erasing}
@@ -33,7 +32,7 @@ unfolding erasing computing
 brackets_parted = refl
 
 -- without any characters it writes nothing, and no empty run
-empty : document_of (ascii "<a><![CDATA[]]><b/><![CDATA[]]></a>") ≡ some (node (ascii "a") [] (inner (node (ascii "b") [] none) none))
+empty : document_of (ascii "<a><![CDATA[]]><b/><![CDATA[]]></a>") ≡ Some (node (ascii "a") [] (inner (node (ascii "b") [] none) none))
 unfolding erasing computing
 empty = refl
 

@@ -1,6 +1,5 @@
 -- The grammar at work, each line computed: the paper's examples, and what stands round the root.
-use Rattle.std.specs.Prelude.{◌≡◌, refl, List, [], ◌∷◌, ◌++◌, ℕ, zero, suc, Bool, true, false, not}
-use Rattle.std.proofs.Math.Option.{Option, some}
+use Rattle.std.specs.Prelude.{◌≡◌, refl, List, [], ◌∷◌, ◌++◌, ℕ, zero, suc, Bool, true, false, not, Option, Some, None}
 use Rattle.lists.specs.Lists.{all}
 use Rattle.grammar.specs.Bytes.{ascii}
 use Rattle.grammar.specs.Document.{Element}
@@ -9,8 +8,8 @@ use Rattle.grammar.specs.Parser.{parse, computing}
 
 -- some document writes the text
 unfoldable pub some_document : Option Element → Bool
-some_document Option.none = false
-some_document (some e) = true
+some_document None = false
+some_document (Some e) = true
 
 unfoldable pub legal : List ℕ → Bool
 legal s = some_document (parse s)
@@ -29,17 +28,17 @@ unfolding some_document legal illegal all
 cases = tt
 
 -- P3: empty text
-P3 : document_of [] ≡ Option.none
+P3 : document_of [] ≡ None
 unfolding erasing computing
 P3 = refl
 
 -- P4: no name twice in a tag
-P4 : document_of (ascii "<a b=\"1\" b=\"2\"/>") ≡ Option.none
+P4 : document_of (ascii "<a b=\"1\" b=\"2\"/>") ≡ None
 unfolding erasing computing
 P4 = refl
 
 -- P5: a reference is decoded once
-P5 : document_of (ascii "<a>&amp;lt;</a>") ≡ some (node (ascii "a") [] (characters (ascii "&lt;") none))
+P5 : document_of (ascii "<a>&amp;lt;</a>") ≡ Some (node (ascii "a") [] (characters (ascii "&lt;") none))
 unfolding erasing computing
 P5 = refl
 

@@ -1,6 +1,5 @@
 -- Ends of lines, each line computed.
-use Rattle.std.specs.Prelude.{◌≡◌, refl, List, [], ◌∷◌, ◌++◌, true, ℕ}
-use Rattle.std.proofs.Math.Option.{some}
+use Rattle.std.specs.Prelude.{◌≡◌, refl, List, [], ◌∷◌, ◌++◌, true, ℕ, Some}
 use Rattle.lists.specs.Lists.{all}
 use Rattle.grammar.specs.Bytes.{ascii}
 use Rattle.grammar.specs.Document.{attribute}
@@ -12,7 +11,7 @@ use Rattle.grammar.proofs.Tests.Documents.{legal, cases}
 abbrev text_and_value : List ℕ → List ℕ → List ℕ → Type 0
 text_and_value s w v =
     document_of (ascii "<a b='" ++ (s ++ (ascii "'>" ++ (s ++ ascii "</a>"))))
-    ≡ some (node (ascii "a") (attribute (ascii "b") v ∷ []) (characters w none))
+    ≡ Some (node (ascii "a") (attribute (ascii "b") v ∷ []) (characters w none))
 
 pair : text_and_value (ascii "x\r\ny") (ascii "x\ny") (ascii "x y")
 unfolding erasing computing
@@ -39,12 +38,12 @@ unfolding erasing computing
 reference_between = refl
 
 -- a comment between the two: nothing is removed from the text before its line ends are read
-comment_between : document_of (ascii "<a>\r<!---->\n</a>") ≡ some (node (ascii "a") [] (characters (ascii "\n\n") none))
+comment_between : document_of (ascii "<a>\r<!---->\n</a>") ≡ Some (node (ascii "a") [] (characters (ascii "\n\n") none))
 unfolding erasing computing
 comment_between = refl
 
 child_between : document_of (ascii "<a>\r<c/>\n</a>")
-    ≡ some (node (ascii "a") [] (characters (ascii "\n") (inner (node (ascii "c") [] none) (characters (ascii "\n") none))))
+    ≡ Some (node (ascii "a") [] (characters (ascii "\n") (inner (node (ascii "c") [] none) (characters (ascii "\n") none))))
 unfolding erasing computing
 child_between = refl
 

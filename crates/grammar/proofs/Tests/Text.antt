@@ -1,6 +1,5 @@
 -- Text, values and comments, each line computed.
-use Rattle.std.specs.Prelude.{◌≡◌, refl, List, [], ◌∷◌, ◌++◌, ℕ, true}
-use Rattle.std.proofs.Math.Option.{some}
+use Rattle.std.specs.Prelude.{◌≡◌, refl, List, [], ◌∷◌, ◌++◌, ℕ, true, Some}
 use Rattle.lists.specs.Lists.{all}
 use Rattle.grammar.specs.Bytes.{ascii}
 use Rattle.grammar.specs.Document.{attribute}
@@ -10,10 +9,10 @@ use Rattle.grammar.proofs.Tests.Documents.{legal, illegal, cases}
 
 -- the contents of an element are the one run `w`; the value of its attribute is `w`
 abbrev pub holds : List ℕ → List ℕ → Type 0
-holds s w = document_of (ascii "<a>" ++ (s ++ ascii "</a>")) ≡ some (node (ascii "a") [] (characters w none))
+holds s w = document_of (ascii "<a>" ++ (s ++ ascii "</a>")) ≡ Some (node (ascii "a") [] (characters w none))
 
 abbrev has : List ℕ → List ℕ → Type 0
-has s w = document_of (ascii "<a b=" ++ (s ++ ascii "/>")) ≡ some (node (ascii "a") (attribute (ascii "b") w ∷ []) none)
+has s w = document_of (ascii "<a b=" ++ (s ++ ascii "/>")) ≡ Some (node (ascii "a") (attribute (ascii "b") w ∷ []) none)
 
 -- five references, and no other `&`
 references : holds (ascii "&amp;&lt;&gt;&quot;&apos;") (ascii "&<>\"'")
@@ -46,7 +45,7 @@ comment_alone = refl
 
 -- a child does part two runs
 runs : document_of (ascii "<a>x<c/>y<!---->z</a>")
-    ≡ some (node (ascii "a") [] (characters (ascii "x") (inner (node (ascii "c") [] none) (characters (ascii "yz") none))))
+    ≡ Some (node (ascii "a") [] (characters (ascii "x") (inner (node (ascii "c") [] none) (characters (ascii "yz") none))))
 unfolding erasing computing
 runs = refl
 

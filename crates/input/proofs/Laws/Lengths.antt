@@ -1,8 +1,7 @@
 -- What the answer says of the lengths; and that a line of more than 24 bytes writes more than three lengths, or none.
-use Rattle.std.specs.Prelude.{◌≡◌, List, [], ◌∷◌, Bool, cond, ℕ, ◌+◌, ◌*◌, ◌-◌, ◌≤◌, ◌<◌, eqb, get_or, take}
+use Rattle.std.specs.Prelude.{◌≡◌, List, [], ◌∷◌, Bool, cond, ℕ, ◌+◌, ◌*◌, ◌-◌, ◌≤◌, ◌<◌, eqb, get_or, take, Option, Some, None}
 use Rattle.std.proofs.Math.Path.{refl, ap}
 use Rattle.std.proofs.Common.{sym, ◌∙◌, arith}
-use Rattle.std.proofs.Math.Option.{Option, some}
 use Rattle.std.proofs.Math.Bool.{true, false}
 use Rattle.std.proofs.Math.ListN.{length}
 use Rattle.std.proofs.Math.Seq.{length-take-le}
@@ -19,23 +18,23 @@ use Rattle.input.specs.declared.lengths.FirstLine.TheVariants.{Two, Three}
 
 -- ---- Two lengths and three are told as they are.
 
-pub two_of_lem : (o : Option (List ℕ)) {x y : ℕ} → Two x y ≡ first_by o → o ≡ some (x ∷ y ∷ [])
+pub two_of_lem : (o : Option (List ℕ)) {x y : ℕ} → Two x y ≡ first_by o → o ≡ Some (x ∷ y ∷ [])
 unfolding first_by
-two_of_lem Option.none e = clash (cc)
-two_of_lem (some []) e = clash (cc)
-two_of_lem (some (a ∷ [])) e = clash (cc)
-two_of_lem (some (a ∷ b ∷ [])) {x} {y} e = let p : a ≡ x = cc in let q : b ≡ y = cc in rw (p, q) refl
-two_of_lem (some (a ∷ b ∷ c ∷ [])) e = clash (cc)
-two_of_lem (some (a ∷ b ∷ c ∷ d ∷ l)) e = clash (cc)
+two_of_lem None e = clash (cc)
+two_of_lem (Some []) e = clash (cc)
+two_of_lem (Some (a ∷ [])) e = clash (cc)
+two_of_lem (Some (a ∷ b ∷ [])) {x} {y} e = let p : a ≡ x = cc in let q : b ≡ y = cc in rw (p, q) refl
+two_of_lem (Some (a ∷ b ∷ c ∷ [])) e = clash (cc)
+two_of_lem (Some (a ∷ b ∷ c ∷ d ∷ l)) e = clash (cc)
 
-pub three_of : (o : Option (List ℕ)) {x y z : ℕ} → Three x y z ≡ first_by o → o ≡ some (x ∷ y ∷ z ∷ [])
+pub three_of : (o : Option (List ℕ)) {x y z : ℕ} → Three x y z ≡ first_by o → o ≡ Some (x ∷ y ∷ z ∷ [])
 unfolding first_by
-three_of Option.none e = clash (cc)
-three_of (some []) e = clash (cc)
-three_of (some (a ∷ [])) e = clash (cc)
-three_of (some (a ∷ b ∷ [])) e = clash (cc)
-three_of (some (a ∷ b ∷ c ∷ [])) {x} {y} {z} e = let p : a ≡ x = cc in let q : b ≡ y = cc in let r : c ≡ z = cc in rw (p, q, r) refl
-three_of (some (a ∷ b ∷ c ∷ d ∷ l)) e = clash (cc)
+three_of None e = clash (cc)
+three_of (Some []) e = clash (cc)
+three_of (Some (a ∷ [])) e = clash (cc)
+three_of (Some (a ∷ b ∷ [])) e = clash (cc)
+three_of (Some (a ∷ b ∷ c ∷ [])) {x} {y} {z} e = let p : a ≡ x = cc in let q : b ≡ y = cc in let r : c ≡ z = cc in rw (p, q, r) refl
+three_of (Some (a ∷ b ∷ c ∷ d ∷ l)) e = clash (cc)
 
 -- ---- A long line.
 
@@ -70,13 +69,13 @@ module _ (line : List ℕ) where
       omega (arith, parts_length body, seven_most (parts comma body) q)
 
   told : Bool → Bool → Option (List ℕ)
-  told b c = cond b (cond c (some (each value (parts comma body))) Option.none) Option.none
+  told b c = cond b (cond c (Some (each value (parts comma body))) None) None
 
-  pub many_lengths : {lengths : List ℕ} → 24 < length line → lengths_in line ≡ some lengths → 3 < length lengths
+  pub many_lengths : {lengths : List ℕ} → 24 < length line → lengths_in line ≡ Some lengths → 3 < length lengths
   unfolding lengths_in wholes_of body told
   many_lengths {lengths} h e = go (eqb (get_or line (length line - 1) 0) 10) (all (digits 1 7) (parts comma body)) refl e
     where
-      go : (b c : Bool) → all (digits 1 7) (parts comma body) ≡ c → told b c ≡ some lengths → 3 < length lengths
+      go : (b c : Bool) → all (digits 1 7) (parts comma body) ≡ c → told b c ≡ Some lengths → 3 < length lengths
       go true true q p =
           let is : each value (parts comma body) ≡ lengths = cc in
           let same : length lengths ≡ length (parts comma body) = ap length (sym is) ∙ length_each value (parts comma body) in

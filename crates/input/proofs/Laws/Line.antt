@@ -1,9 +1,8 @@
 -- Two or three lengths, from the numbers that are found; the line feed at the end.
-use Rattle.std.specs.Prelude.{◌≡◌, Bool, true, false, cond, ℕ, ◌-◌, get_or, take, drop}
+use Rattle.std.specs.Prelude.{◌≡◌, Bool, true, false, cond, ℕ, ◌-◌, get_or, take, drop, Some, None}
 use Rattle.std.proofs.Math.Path.{refl, sym, ap}
 use Rattle.std.proofs.Common.{◌∙◌, arith, rules, eq-eqb, ne_eqb, length-take-le}
 use mathlib.Core.List.{List, [], ◌∷◌}
-use Rattle.std.proofs.Math.Option.{Option, some}
 use Rattle.std.proofs.Math.Bool.{and-false}
 use Rattle.std.proofs.Math.ListN.{length}
 use Rattle.lists.specs.Lists.{all, each}
@@ -62,7 +61,7 @@ module _ {w : Word} {at : ℕ} where
 first : List Word → FirstLine
 first l = first_by (wholes_of l)
 
-either : (b : Bool) (l : List ℕ) → first_by (some l) ≡ Other → first_by (cond b (some l) Option.none) ≡ Other
+either : (b : Bool) (l : List ℕ) → first_by (Some l) ≡ Other → first_by (cond b (Some l) None) ≡ Other
 unfolding first_by
 either true l h = h
 either false l h = refl

@@ -1,5 +1,5 @@
 -- WHERE THE GRAMMAR PUTS AN ELEMENT, THE WALK FINDS IT: so a way has one place in a text.
-use Rattle.std.specs.Prelude.{◌≡◌, List, ◌∷◌, ◌++◌, Bool, true, false, cond, drop}
+use Rattle.std.specs.Prelude.{◌≡◌, List, ◌∷◌, ◌++◌, Bool, true, false, cond, drop, Option, Some, ℕ}
 use Rattle.std.proofs.Math.Path.{refl}
 use Rattle.std.proofs.Common.{ap, sym, ◌∙◌, append_assoc, arith}
 use Prim.Native.Nat.{ℕ, zero, suc, ◌+◌, ◌-◌, ◌≤◌, ◌<◌}
@@ -22,9 +22,6 @@ use Rattle.nodes.proofs.Laws.ScanEnds.{to_tag_free, text_free, tag_name, tag_bla
 use Rattle.nodes.proofs.Laws.Skipping.{no_text_comment, no_text_data, no_text_element, tag_bare, tag_filled}
 use Rattle.nodes.specs.Children.{kid_then, kid_by, kid_at, first_by, first_child, next}
 use Rattle.nodes.proofs.Laws.Children.{kid_step, kid_look, next_read, elements_joined}
-use Rattle.nodes.specs.declared.Kid.{Kid}
-use Rattle.nodes.specs.declared.Kid.TheVariants.{Child}
-use Rattle.nodes.specs.declared.Found.TheVariants.{At}
 use Rattle.inside.specs.Way.{WayStep, step, StartTag, start_tag, OnlyTag, only_tag, Leads, here, down}
 use Rattle.inside.proofs.Laws.Written.{element_reads, element_opens}
 use Rattle.inside.specs.Walked.{places_within, places_from, nth_place, child_at, thence, walked}
@@ -42,7 +39,7 @@ over_data n {b} {w} k r = kid_look n (w ++ r) at_data (data_looks k r) (no_text_
 over_text : (n : ℕ) {b w : List ℕ} → TextCharacter b w → (r : List ℕ) → kid_at n (w ++ r) ≡ kid_at n r
 over_text n {b} {w} k r = kid_step n (w ++ r) ∙ rw (to_tag_free (text_free k) r) (sym (kid_step n r))
 
-at_child_lem : (n : ℕ) {d : ℕ} {e : Element} {w : List ℕ} → WritesElement d e w → (r : List ℕ) → kid_at n (w ++ r) ≡ Child (n - length (w ++ r))
+at_child_lem : (n : ℕ) {d : ℕ} {e : Element} {w : List ℕ} → WritesElement d e w → (r : List ℕ) → kid_at n (w ++ r) ≡ Some (n - length (w ++ r))
 unfolding kid_by
 at_child_lem n {w = w} h r = kid_look n (w ++ r) at_element (opening_looks (element_opens h) r) (no_text_element refl)
 
@@ -53,22 +50,22 @@ unfolding nth_place
 nth_past n k l = let e : 1 + n ≡ suc n = omega arith in ap (λ i. nth_place i (k ∷ l)) e
 
 module _ (text : List ℕ) (p : Element → Bool) where
-  abbrev rest_of : ℕ → Kid → List ℕ
+  abbrev rest_of : ℕ → Option ℕ → List ℕ
   rest_of m kid = those (λ k. p (the text k)) (places_within m text kid)
 
   record Passes (d : ℕ) (c : Contents) (a : List ℕ) : Type 0 where
     finds : d ≤ 16 → (m : ℕ) (r : List ℕ) → length (a ++ r) < m → Tail text (a ++ r)
-        → kid_at (length text) r ≡ Child (length text - length r) → p (the text (length text - length r)) ≡ true
-        → nth_place (count p (elements c)) (rest_of m (kid_at (length text) (a ++ r))) ≡ At (length text - length r)
+        → kid_at (length text) r ≡ Some (length text - length r) → p (the text (length text - length r)) ≡ true
+        → nth_place (count p (elements c)) (rest_of m (kid_at (length text) (a ++ r))) ≡ Some (length text - length r)
 
   -- the first turn at a child
-  turn : (m k : ℕ) → rest_of (suc m) (Child k) ≡ cond (p (the text k)) (k ∷ rest_of m (next text k)) (rest_of m (next text k))
+  turn : (m k : ℕ) → rest_of (suc m) (Some k) ≡ cond (p (the text k)) (k ∷ rest_of m (next text k)) (rest_of m (next text k))
   unfolding those places_within
   turn m k = refl
 
-  none_finds : (m : ℕ) (r : List ℕ) → length r < m → kid_at (length text) r ≡ Child (length text - length r)
+  none_finds : (m : ℕ) (r : List ℕ) → length r < m → kid_at (length text) r ≡ Some (length text - length r)
       → p (the text (length text - length r)) ≡ true
-      → nth_place (count p (elements nothing)) (rest_of m (kid_at (length text) r)) ≡ At (length text - length r)
+      → nth_place (count p (elements nothing)) (rest_of m (kid_at (length text) r)) ≡ Some (length text - length r)
   unfolding count elements nth_place
   none_finds zero r h q t = absurd (omega arith)
   none_finds (suc m) r h q t = rw (q, turn m (length text - length r), t)
@@ -98,8 +95,8 @@ module _ (text : List ℕ) (p : Element → Bool) where
 
   inner_finds : {d : ℕ} {e : Element} {c : Contents} {w s : List ℕ} → WritesElement d e w → Passes d c s → d ≤ 16 → (m : ℕ) (r : List ℕ)
       → length (w ++ (s ++ r)) < m → Tail text (w ++ (s ++ r))
-      → kid_at (length text) r ≡ Child (length text - length r) → p (the text (length text - length r)) ≡ true
-      → nth_place (count p (elements (child e c))) (rest_of m (kid_at (length text) (w ++ (s ++ r)))) ≡ At (length text - length r)
+      → kid_at (length text) r ≡ Some (length text - length r) → p (the text (length text - length r)) ≡ true
+      → nth_place (count p (elements (child e c))) (rest_of m (kid_at (length text) (w ++ (s ++ r)))) ≡ Some (length text - length r)
   unfolding count elements
   inner_finds h ih deep zero r f t q y = absurd (omega arith)
   inner_finds {e = e} {c} {w} {s} h ih deep (suc m) r f t q y =
@@ -151,14 +148,14 @@ pub record Ends (way : List WayStep) (text : List ℕ) (at : ℕ) (before s : Li
   pub rest : List ℕ
   pub tail : Tail text (s ++ rest)
   pub reads : element₁₆ (s ++ rest) ≡ got x rest
-  pub finds : walked way text at ≡ At (length text - length (s ++ rest))
+  pub finds : walked way text at ≡ Some (length text - length (s ++ rest))
   pub far : length text - length (s ++ rest) ≡ at + length before
 
 first_at : (text : List ℕ) (at : ℕ) (tag r : List ℕ) → StartTag tag → drop at text ≡ tag ++ r → first_child text at ≡ kid_at (length text) r
 unfolding first_child first_by
 first_at text at tag r tg e = rw (e, start_read tg r)
 
-step_down : (text : List ℕ) (p : Element → Bool) (n : ℕ) (way : List WayStep) (at k : ℕ) → child_at (λ j. p (the text j)) n text at ≡ At k
+step_down : (text : List ℕ) (p : Element → Bool) (n : ℕ) (way : List WayStep) (at k : ℕ) → child_at (λ j. p (the text j)) n text at ≡ Some k
     → walked (step p n ∷ way) text at ≡ walked way text k
 unfolding walked thence
 step_down text p n way at k e = rw e
@@ -166,7 +163,7 @@ step_down text p n way at k e = rw e
 child_found : (text : List ℕ) (p : Element → Bool) {d : ℕ} {c : Contents} {y : Element} {tag a v : List ℕ} (r : List ℕ) (at : ℕ) → d ≤ 16
     → StartTag tag → WritesContents d c a → p y ≡ true → WritesElement d y v
     → drop at text ≡ tag ++ (a ++ (v ++ r)) → Tail text (a ++ (v ++ r))
-    → child_at (λ j. p (the text j)) (count p (elements c)) text at ≡ At (length text - length (v ++ r))
+    → child_at (λ j. p (the text j)) (count p (elements c)) text at ≡ Some (length text - length (v ++ r))
 unfolding child_at places_from
 child_found text p {d} {c} {y} {tag} {a} {v} r at deep tg wc ok wy e t =
     let t₁ : Tail text (v ++ r) = tail_more a (v ++ r) refl t in

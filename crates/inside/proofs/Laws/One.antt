@@ -1,7 +1,6 @@
 -- What is proved of One.
-use Rattle.std.specs.Prelude.{◌≡◌, refl, List, [], ◌++◌, ℕ, ◌+◌, ◌-◌, length, drop}
+use Rattle.std.specs.Prelude.{◌≡◌, refl, List, [], ◌++◌, ℕ, ◌+◌, ◌-◌, length, drop, Option, Some}
 use Rattle.std.proofs.Common.{ap, sym, ◌∙◌, subst, append_assoc, append-nil, arith, length-append}
-use Rattle.std.proofs.Math.Option.{Option, some}
 use Rattle.std.proofs.Math.Seq.{drop-append_seam, take-append_seam}
 use Rattle.lists.proofs.Laws.Booleans.{clash}
 use Rattle.grammar.specs.Document.{Element}
@@ -17,8 +16,6 @@ use Rattle.nodes.proofs.Laws.Root.{whole_tail}
 use Rattle.nodes.specs.Inside.{between_tags}
 use Rattle.nodes.proofs.Laws.Inside.{within_law}
 use Rattle.nodes.proofs.Laws.ReadSteps.{eats_child}
-use Rattle.nodes.specs.declared.Found.{Found}
-use Rattle.nodes.specs.declared.Found.TheVariants.{At}
 use Rattle.inside.specs.Way.{WayStep, reached, Leads, here, down, Tagged, between, nothing_between, WayPlace, place}
 use Rattle.inside.proofs.Laws.Written.{element_opens, before_reads}
 use Rattle.inside.specs.Walked.{walked, walked_from, way_at}
@@ -109,11 +106,11 @@ place_cut {part = part} (place {p} {u} {w} {v} {before} {tag} {s} h k l z q g) =
 
 -- THE WALK FINDS THE PLACE: what the way reaches in the document of a text has its place behind the tag of the element that the walk
 -- finds
-pub place_found : (way : List WayStep) {text : List ℕ} {e : Element} {k : ℕ} → parse text ≡ some e → way_at way text ≡ At k
+pub place_found : (way : List WayStep) {text : List ℕ} {e : Element} {k : ℕ} → parse text ≡ Some e → way_at way text ≡ Some k
     → WayPlace way (between_tags text k) text (tag_end text k)
 place_found way {text} {e} {k} h f = by (way_agrees way text h) refl refl
   where
-    at_place : {x : Element} → reached way e ≡ some x → WayPlace way (between_tags text k) text (tag_end text k)
+    at_place : {x : Element} → reached way e ≡ Some x → WayPlace way (between_tags text k) text (tag_end text k)
     at_place q =
         let (start, pl) = there way h q in
         let m = place_met pl in
@@ -122,7 +119,7 @@ place_found way {text} {e} {k} h f = by (way_agrees way text h) refl refl
         subst (λ (n : ℕ). WayPlace way (between_tags text k) text n) (m.starts ∙ ap (tag_end text) z)
         (subst (λ (l : List ℕ). WayPlace way l text start) (m.within_is ∙ ap (between_tags text) z) pl)
 
-    by : {r : Found} {o : Option Element} → Agrees text r o → way_at way text ≡ r → reached way e ≡ o
+    by : {r : Option ℕ} {o : Option Element} → Agrees text r o → way_at way text ≡ r → reached way e ≡ o
         → WayPlace way (between_tags text k) text (tag_end text k)
     by not_there p q = clash (cc)
     by (stands_there st) p q = at_place q

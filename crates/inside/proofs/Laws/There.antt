@@ -1,9 +1,8 @@
 -- WHAT A WAY REACHES HAS A PLACE IN THE TEXT.
-use Rattle.std.specs.Prelude.{◌≡◌, Bool, length}
+use Rattle.std.specs.Prelude.{◌≡◌, Bool, length, Option, Some, None}
 use Rattle.std.proofs.Math.Path.{refl, ap, sym, subst}
 use Rattle.std.proofs.Common.{◌∙◌, arith}
 use mathlib.Core.List.{List, [], ◌∷◌, ◌++◌, append_assoc}
-use Rattle.std.proofs.Math.Option.{Option, some}
 use Rattle.std.proofs.Math.Bool.{true, false, cond}
 use Prim.Native.Nat.{ℕ, zero, suc, ◌+◌}
 use Rattle.lists.specs.Lists.{those, count}
@@ -34,10 +33,10 @@ record Splits (d : ℕ) (p : Element → Bool) (n : ℕ) (x : Element) (k : List
   writes : WritesElement d x here
 
 record Split (p : Element → Bool) (d : ℕ) (c : Contents) (k : List ℕ) : Type 0 where
-  splits : (n : ℕ) (x : Element) → nth n (those p (elements c)) ≡ some x → Splits d p n x k
+  splits : (n : ℕ) (x : Element) → nth n (those p (elements c)) ≡ Some x → Splits d p n x k
 
 module _ (p : Element → Bool) where
-  no_child : (n : ℕ) (x : Element) → nth n (those p (elements nothing)) ≡ some x → (P : Type 0) → P
+  no_child : (n : ℕ) (x : Element) → nth n (those p (elements nothing)) ≡ Some x → (P : Type 0) → P
   unfolding elements those nth
   no_child zero x e P = never_some e
   no_child (suc n) x e P = never_some e
@@ -116,7 +115,7 @@ module _ (p : Element → Bool) where
 
   child_splits : {d : ℕ} {e : Element} {c : Contents} {w s : List ℕ} → WritesElement d e w → Split p d c s → (b : Bool) → p e ≡ b
       → (n : ℕ) (x : Element)
-      → nth n (cond b (e ∷ those p (elements c)) (those p (elements c))) ≡ some x → Splits d p n x (w ⊹ s)
+      → nth n (cond b (e ∷ those p (elements c)) (those p (elements c))) ≡ Some x → Splits d p n x (w ⊹ s)
   unfolding nth count elements
   child_splits {d} {e} {c} {w} {s} h ih true t zero x q =
       let z : e ≡ x = cc in
@@ -192,7 +191,7 @@ module _ {p : Element → Bool} {way : List WayStep} {y x : Element} where
         tagged = b.tagged;
       })
 
-  led_step : {d : ℕ} {e : Element} {w : List ℕ} (n : ℕ) → WritesElement d e w → nth n (those p (elements (contents_of e))) ≡ some y
+  led_step : {d : ℕ} {e : Element} {w : List ℕ} (n : ℕ) → WritesElement d e w → nth n (those p (elements (contents_of e))) ≡ Some y
       → ((j : ℕ) (v : List ℕ) → WritesElement j y v → Led way j y v x) → Led (step p n ∷ way) d e w x
   unfolding contents_of
   led_step m (Grammar.full {d} {n} {t} {u} {k} {v} {l} {c} nm at hu wc hv) q below =
@@ -203,16 +202,16 @@ module _ {p : Element → Bool} {way : List WayStep} {y x : Element} where
       (subst (λ (w : List ℕ). WritesElement (suc d) (element n l c k) w) (sym same) (Grammar.full nm at hu wc hv)) (below d))
   led_step m (Grammar.empty nm at hu) q below = no_child p m y q _
 
-reached_step : (way : List WayStep) (o : Option Element) {x : Element} → onward (reached way) o ≡ some x
-    → (y : Element) × (o ≡ some y) × (reached way y ≡ some x)
+reached_step : (way : List WayStep) (o : Option Element) {x : Element} → onward (reached way) o ≡ Some x
+    → (y : Element) × (o ≡ Some y) × (reached way y ≡ Some x)
 unfolding onward
-reached_step way Option.none h = never_some h
-reached_step way (some y) h = (y, refl, h)
+reached_step way None h = never_some h
+reached_step way (Some y) h = (y, refl, h)
 
 same_led : {d : ℕ} {e x : Element} {w : List ℕ} → e ≡ x → Led [] d e w e → Led [] d e w x
 same_led {d} {e} {x} {w} z l = subst (λ (y : Element). Led [] d e w y) z l
 
-led : (way : List WayStep) {d : ℕ} {e x : Element} {w : List ℕ} → WritesElement d e w → reached way e ≡ some x → Led way d e w x
+led : (way : List WayStep) {d : ℕ} {e x : Element} {w : List ℕ} → WritesElement d e w → reached way e ≡ Some x → Led way d e w x
 unfolding reached
 led [] {e = e} {x} h q = let z : e ≡ x = cc in same_led z (led_here h)
 led (step p n ∷ way) {e = e} h q =
@@ -220,7 +219,7 @@ led (step p n ∷ way) {e = e} h q =
     led_step n h a (λ j v k. led way k b)
 
 -- THE LAW: what a way reaches in the document of a text has a place in the text
-pub there : (way : List WayStep) {text : List ℕ} {e x : Element} → parse text ≡ some e → reached way e ≡ some x
+pub there : (way : List WayStep) {text : List ℕ} {e x : Element} → parse text ≡ Some e → reached way e ≡ Some x
     → (start : ℕ) × WayPlace way (within_of x) text start
 there way {text} {e} {x} h q = by (parse_sound text e h)
   where

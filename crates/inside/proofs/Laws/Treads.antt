@@ -1,8 +1,7 @@
 -- What is proved of Treads.
-use Rattle.std.specs.Prelude.{◌≡◌, refl, List, [], ◌∷◌, Bool, true, false, cond, ◌&&◌, eqb, length, drop}
+use Rattle.std.specs.Prelude.{◌≡◌, refl, List, [], ◌∷◌, Bool, true, false, cond, ◌&&◌, eqb, length, drop, Option, Some, None, ℕ}
 use Rattle.std.proofs.Math.Path.{ap, sym}
 use Rattle.std.proofs.Common.{◌∙◌, length-drop, rules, eqb-true, eq-eqb}
-use Rattle.std.proofs.Math.Option.{Option, some}
 use Prim.Native.Nat.{ℕ, zero, suc, ◌-◌, ◌≤◌, ◌<◌}
 use Prim.Native.String.{String}
 use native.Mathlib.Omega.{arith}
@@ -25,10 +24,6 @@ use Rattle.nodes.specs.Names.{named}
 use Rattle.nodes.proofs.Laws.Names.{name_is_law}
 use Rattle.nodes.specs.Root.{root}
 use Rattle.nodes.proofs.Laws.Root.{Rooted, root_law}
-use Rattle.nodes.specs.declared.Kid.{Kid}
-use Rattle.nodes.specs.declared.Kid.TheVariants.{Child, Done}
-use Rattle.nodes.specs.declared.Found.{Found}
-use Rattle.nodes.specs.declared.Found.TheVariants.{At, Nothing}
 use Rattle.nodes.specs.declared.scan.Tag.{Tag}
 use Rattle.nodes.specs.declared.scan.Tag.TheVariants.{Open, Bare, No}
 use Rattle.inside.specs.Way.{WayStep, step}
@@ -41,17 +36,17 @@ use Rattle.inside.specs.Treads.{called, child_named, Tread, tread, trod, trod_fr
 -- ---- From a child to the next, on any bytes.
 
 -- how much is left of a row, and that it is not over
-unfoldable pub ahead : List ℕ → Kid → ℕ
-ahead text Done = 0
-ahead text (Child k) = suc (length text - k)
+unfoldable pub ahead : List ℕ → Option ℕ → ℕ
+ahead text None = 0
+ahead text (Some k) = suc (length text - k)
 
-ahead_left : (text : List ℕ) (kid : Kid) (n : ℕ) → left text kid ≤ n → ahead text kid ≤ suc n
+ahead_left : (text : List ℕ) (kid : Option ℕ) (n : ℕ) → left text kid ≤ n → ahead text kid ≤ suc n
 unfolding ahead left
-ahead_left text Done n h = omega arith
-ahead_left text (Child k) n h = omega arith
+ahead_left text None n h = omega arith
+ahead_left text (Some k) n h = omega arith
 
 then_falls : (text : List ℕ) (at : ℕ) (m : Read (Unit {0})) → Ok (Less (drop at text)) m
-    → ahead text (kid_then m (kid_at (length text))) < ahead text (Child at)
+    → ahead text (kid_then m (kid_at (length text))) < ahead text (Some at)
 unfolding kid_then ahead
 then_falls text at fail h = omega arith
 then_falls text at (got u r) (good h) =
@@ -64,47 +59,47 @@ then_falls text at (got u r) (good h) =
         → x < suc (length text - at)
     by x a s n = omega arith
 
-pub next_ahead : (text : List ℕ) (at : ℕ) → ahead text (next text at) < ahead text (Child at)
+pub next_ahead : (text : List ℕ) (at : ℕ) → ahead text (next text at) < ahead text (Some at)
 unfolding next
 next_ahead text at = then_falls text at (skip_at (drop at text)) (skip_less (drop at text))
 
-within_done : (m : ℕ) (text : List ℕ) → places_within m text Done ≡ []
+within_done : (m : ℕ) (text : List ℕ) → places_within m text None ≡ []
 unfolding places_within
 within_done zero text = refl
 within_done (suc m) text = refl
 
-within_child : (m : ℕ) (text : List ℕ) (k : ℕ) → places_within (suc m) text (Child k) ≡ k ∷ places_within m text (next text k)
+within_child : (m : ℕ) (text : List ℕ) (k : ℕ) → places_within (suc m) text (Some k) ≡ k ∷ places_within m text (next text k)
 unfolding places_within
 within_child m text k = refl
 
-child_ahead : (text : List ℕ) (k : ℕ) → ahead text (Child k) ≡ suc (length text - k)
+child_ahead : (text : List ℕ) (k : ℕ) → ahead text (Some k) ≡ suc (length text - k)
 unfolding ahead
 child_ahead text k = refl
 
 -- fuel changes nothing
-none_ahead : (text : List ℕ) (kid : Kid) → ahead text kid ≤ 0 → kid ≡ Done
-none_ahead text Done h = refl
-none_ahead text (Child k) h = let a = child_ahead text k in absurd (omega arith)
+none_ahead : (text : List ℕ) (kid : Option ℕ) → ahead text kid ≤ 0 → kid ≡ None
+none_ahead text None h = refl
+none_ahead text (Some k) h = let a = child_ahead text k in absurd (omega arith)
 
-turn_same : (m n : ℕ) (text : List ℕ) (kid : Kid) → ahead text kid ≤ suc m → ahead text kid ≤ suc n
+turn_same : (m n : ℕ) (text : List ℕ) (kid : Option ℕ) → ahead text kid ≤ suc m → ahead text kid ≤ suc n
     → ((k : ℕ) → ahead text (next text k) ≤ m → ahead text (next text k) ≤ n
     → places_within m text (next text k) ≡ places_within n text (next text k))
     → places_within (suc m) text kid ≡ places_within (suc n) text kid
-turn_same m n text Done h j f = within_done (suc m) text ∙ sym (within_done (suc n) text)
-turn_same m n text (Child k) h j f =
+turn_same m n text None h j f = within_done (suc m) text ∙ sym (within_done (suc n) text)
+turn_same m n text (Some k) h j f =
     let a = next_ahead text k in
     rw (within_child m text k, within_child n text k, f k (omega arith) (omega arith))
 
-enough : (m n : ℕ) (text : List ℕ) (kid : Kid) → ahead text kid ≤ m → ahead text kid ≤ n → places_within m text kid ≡ places_within n text kid
+enough : (m n : ℕ) (text : List ℕ) (kid : Option ℕ) → ahead text kid ≤ m → ahead text kid ≤ n → places_within m text kid ≡ places_within n text kid
 enough zero n text kid h j = rw (none_ahead text kid h) (within_done zero text ∙ sym (within_done n text))
 enough (suc m) zero text kid h j = rw (none_ahead text kid j) (within_done (suc m) text ∙ sym (within_done zero text))
 enough (suc m) (suc n) text kid h j = turn_same m n text kid h j (λ k a b. enough m n text (next text k) a b)
 
-pub places_done : (text : List ℕ) → places_from text Done ≡ []
+pub places_done : (text : List ℕ) → places_from text None ≡ []
 unfolding places_from
 places_done text = within_done (suc (length text)) text
 
-pub places_child : (text : List ℕ) (k : ℕ) → places_from text (Child k) ≡ k ∷ places_from text (next text k)
+pub places_child : (text : List ℕ) (k : ℕ) → places_from text (Some k) ≡ k ∷ places_from text (next text k)
 unfolding places_from
 places_child text k =
     let f = next_ahead text k in
@@ -114,26 +109,26 @@ places_child text k =
 
 -- ---- A loop that counts the children that pass.
 
-pub record Seeking (test : ℕ → Bool) (n : ℕ) (text : List ℕ) (at more : ℕ) (kid : Kid) : Type 0 where
+pub record Seeking (test : ℕ → Bool) (n : ℕ) (text : List ℕ) (at more : ℕ) (kid : Option ℕ) : Type 0 where
   pub so_far : child_at test n text at ≡ nth_place more (those test (places_from text kid))
 
-pub seeking_start : (test : ℕ → Bool) (n : ℕ) {text : List ℕ} {at : ℕ} {kid : Kid} → kid ≡ first_child text at → Seeking test n text at n kid
+pub seeking_start : (test : ℕ → Bool) (n : ℕ) {text : List ℕ} {at : ℕ} {kid : Option ℕ} → kid ≡ first_child text at → Seeking test n text at n kid
 unfolding child_at
 seeking_start test n {text} e = record { so_far = ap (λ x. nth_place n (those test (places_from text x))) (sym e) }
 
-nth_none : (n : ℕ) → Nothing ≡ nth_place n []
+nth_none : (n : ℕ) → None ≡ nth_place n []
 unfolding nth_place
 nth_none zero = refl
 nth_none (suc n) = refl
 
-module _ {test : ℕ → Bool} {n : ℕ} {text : List ℕ} {at more : ℕ} {kid : Kid} (go : Seeking test n text at more kid) where
-  pub seeking_done : kid ≡ Done → Nothing ≡ child_at test n text at
+module _ {test : ℕ → Bool} {n : ℕ} {text : List ℕ} {at more : ℕ} {kid : Option ℕ} (go : Seeking test n text at more kid) where
+  pub seeking_done : kid ≡ None → None ≡ child_at test n text at
   unfolding those
   seeking_done e =
       sym (go.so_far ∙ ap (λ l. nth_place more (those test l)) (ap (places_from text) e ∙ places_done text) ∙ sym (nth_none more))
 
-  module _ {k : ℕ} (is_child : kid ≡ Child k) where
-    pub seeking_less : {kid₁ : Kid} → kid₁ ≡ next text k → ahead text kid₁ < ahead text kid
+  module _ {k : ℕ} (is_child : kid ≡ Some k) where
+    pub seeking_less : {kid₁ : Option ℕ} → kid₁ ≡ next text k → ahead text kid₁ < ahead text kid
     seeking_less e = rw (e, is_child) (next_ahead text k)
 
     abbrev behind_it : List ℕ
@@ -146,22 +141,22 @@ module _ {test : ℕ → Bool} {n : ℕ} {text : List ℕ} {at more : ℕ} {kid 
           go.so_far ∙ ap (λ l. nth_place more (those test l)) (ap (places_from text) is_child ∙ places_child text k)
           ∙ ap (λ t. nth_place more (cond t (k ∷ behind_it) behind_it)) (sym q)
 
-      pub seeking_off : b ≡ false → {kid₁ : Kid} → kid₁ ≡ next text k → Seeking test n text at more kid₁
+      pub seeking_off : b ≡ false → {kid₁ : Option ℕ} → kid₁ ≡ next text k → Seeking test n text at more kid₁
       seeking_off f e = record { so_far = splits ∙ rw (f, e) }
 
       module _ (t : b ≡ true) where
-        pub seeking_found : more ≡ 0 → At k ≡ child_at test n text at
+        pub seeking_found : more ≡ 0 → Some k ≡ child_at test n text at
         unfolding nth_place
         seeking_found z = sym (splits ∙ rw (t, z))
 
-        pub seeking_more : (more ≡ 0 → ⊥) → {kid₁ : Kid} → kid₁ ≡ next text k → Seeking test n text at (more - 1) kid₁
+        pub seeking_more : (more ≡ 0 → ⊥) → {kid₁ : Option ℕ} → kid₁ ≡ next text k → Seeking test n text at (more - 1) kid₁
         unfolding nth_place
         seeking_more z e =
             let s : more ≡ suc (more - 1) = omega arith in
             record { so_far = splits ∙ rw (t, e) (ap (λ i. nth_place i (k ∷ those test (places_from text (next text k)))) s) }
 
       -- both tests at once
-      pub seeking_here : (b && eqb more 0) ≡ true → At k ≡ child_at test n text at
+      pub seeking_here : (b && eqb more 0) ≡ true → Some k ≡ child_at test n text at
       seeking_here h = seeking_found (and_left b (eqb more 0) h) (eqb-true more 0 (and_right b (eqb more 0) h))
 
       module _ (h : (b && eqb more 0) ≡ false) (t : b ≡ true) where
@@ -172,14 +167,14 @@ module _ {test : ℕ → Bool} {n : ℕ} {text : List ℕ} {at more : ℕ} {kid 
             by (yes z) = both_ways (and_both t (eq-eqb more 0 z)) h
             by (no z) = omega arith
 
-        pub seeking_on : {kid₁ : Kid} → kid₁ ≡ next text k → Seeking test n text at (more - 1) kid₁
+        pub seeking_on : {kid₁ : Option ℕ} → kid₁ ≡ next text k → Seeking test n text at (more - 1) kid₁
         seeking_on e = let u = seeking_left in seeking_more t (λ z. omega arith) e
 
 pub called_is : (text word : List ℕ) (k : ℕ) {b : Bool} → b ≡ named text k word → b ≡ called text word k
 unfolding called
 called_is text word k h = h
 
-pub named_found : (word : List ℕ) (n : ℕ) (text : List ℕ) (at : ℕ) {r : Found} → r ≡ child_at (called text word) n text at
+pub named_found : (word : List ℕ) (n : ℕ) (text : List ℕ) (at : ℕ) {r : Option ℕ} → r ≡ child_at (called text word) n text at
     → r ≡ child_named word n text at
 unfolding child_named
 named_found word n text at h = h
@@ -212,7 +207,7 @@ module _ (text : List ℕ) (at : ℕ) {t : Tag} (e : t ≡ tag_told (length text
   unfolding tag_end behind_tag
   behind_none h = sym (ap behind_tag (sym e ∙ h))
 
-pub ruleset tag-ending = (behind_open, behind_bare, behind_none, rules)
+pub ruleset tag_ending = (behind_open, behind_bare, behind_none, rules)
 
 -- each test says of what stands at a place what the way's test says of the element
 pub data Alike (text : List ℕ) : List Tread → List WayStep → Type 0 where
@@ -225,7 +220,7 @@ pub called_alike : (text : List ℕ) (s : String) (k : ℕ) → Stands text k �
 unfolding called
 called_alike text s k st = name_is_law s st
 
-thence_same : {text : List ℕ} {f g : ℕ → Found} {r : Found} {o : Option Element} → Agrees text r o → ((k : ℕ) → Stands text k → f k ≡ g k)
+thence_same : {text : List ℕ} {f g : ℕ → Option ℕ} {r : Option ℕ} {o : Option Element} → Agrees text r o → ((k : ℕ) → Stands text k → f k ≡ g k)
     → thence f r ≡ thence g r
 unfolding thence
 thence_same not_there h = refl
@@ -244,6 +239,6 @@ unfolding trod_from way_at walked_from
 trod_root a r = rw r.found (trod_walked a r.stands)
 
 -- THE LAW: in the text of a document, the treads lead where the way leads
-pub trod_way : {text : List ℕ} {l : List Tread} {way : List WayStep} → Alike text l way → {e : Element} → parse text ≡ some e
+pub trod_way : {text : List ℕ} {l : List Tread} {way : List WayStep} → Alike text l way → {e : Element} → parse text ≡ Some e
     → trod_from l text (root text) ≡ way_at way text
 trod_way {text} a {e} h = trod_root a (root_law text e h)

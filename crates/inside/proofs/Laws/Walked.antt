@@ -1,7 +1,6 @@
 -- What is proved of Walked.
-use Rattle.std.specs.Prelude.{◌≡◌, refl, List, [], ◌∷◌, Bool, true, false, cond, ℕ, zero, suc, ◌<◌, length}
+use Rattle.std.specs.Prelude.{◌≡◌, refl, List, [], ◌∷◌, Bool, true, false, cond, ℕ, zero, suc, ◌<◌, length, Option, Some, None}
 use Rattle.std.proofs.Common.{ap, arith}
-use Rattle.std.proofs.Math.Option.{Option, some}
 use Rattle.lists.specs.Lists.{those}
 use Rattle.grammar.specs.Document.{Element}
 use Rattle.grammar.specs.Look.{contents_of, elements}
@@ -11,9 +10,6 @@ use Rattle.nodes.specs.Children.{first_child}
 use Rattle.nodes.proofs.Laws.Children.{left, Siblings, no_more, one_more, children}
 use Rattle.nodes.proofs.Laws.Walk.{left_fits}
 use Rattle.nodes.proofs.Laws.Root.{Rooted, root_law}
-use Rattle.nodes.specs.declared.Kid.{Kid}
-use Rattle.nodes.specs.declared.Found.{Found}
-use Rattle.nodes.specs.declared.Found.TheVariants.{At, Nothing}
 use Rattle.inside.specs.Way.{WayStep, step, nth, onward, reached}
 use Rattle.inside.specs.Walked.{places_within, places_from, nth_place, child_at, thence, walked, walked_from, way_at}
 
@@ -23,7 +19,7 @@ pub data Stood (text : List ℕ) : List ℕ → List Element → Type 0 where
   none : Stood text [] []
   one : {k : ℕ} {ks : List ℕ} {es : List Element} → Stands text k → Stood text ks es → Stood text (k ∷ ks) (the text k ∷ es)
 
-row_stood : (m : ℕ) {text : List ℕ} {kid : Kid} {l : List Element} → left text kid < m → Siblings text kid l
+row_stood : (m : ℕ) {text : List ℕ} {kid : Option ℕ} {l : List Element} → left text kid < m → Siblings text kid l
     → Stood text (places_within m text kid) l
 unfolding places_within
 row_stood zero h no_more = none
@@ -62,9 +58,9 @@ child_same {t} {u} n st h = ap (nth_place n) (those_same {t = t} {u = u} h (chil
 
 -- ---- What is found is what is reached.
 
-pub data Agrees (text : List ℕ) : Found → Option Element → Type 0 where
-  not_there : Agrees text Nothing Option.none
-  stands_there : {k : ℕ} → Stands text k → Agrees text (At k) (some (the text k))
+pub data Agrees (text : List ℕ) : Option ℕ → Option Element → Type 0 where
+  not_there : Agrees text None None
+  stands_there : {k : ℕ} → Stands text k → Agrees text (Some k) (Some (the text k))
 
 nth_agrees : (n : ℕ) {text ks : List ℕ} {es : List Element} → Stood text ks es → Agrees text (nth_place n ks) (nth n es)
 unfolding nth_place nth
@@ -73,9 +69,9 @@ nth_agrees (suc n) none = not_there
 nth_agrees zero (one st s) = stands_there st
 nth_agrees (suc n) (one st s) = nth_agrees n s
 
-thence_agrees : {text : List ℕ} (f : ℕ → Found) (g : Element → Option Element)
+thence_agrees : {text : List ℕ} (f : ℕ → Option ℕ) (g : Element → Option Element)
     → ((k : ℕ) → Stands text k → Agrees text (f k) (g (the text k)))
-    → {r : Found} {o : Option Element} → Agrees text r o → Agrees text (thence f r) (onward g o)
+    → {r : Option ℕ} {o : Option Element} → Agrees text r o → Agrees text (thence f r) (onward g o)
 unfolding thence onward
 thence_agrees f g h not_there = not_there
 thence_agrees f g h (stands_there {k} st) = h k st
@@ -96,5 +92,5 @@ unfolding way_at walked_from
 rooted_agrees way r = rw (r.found, ← r.is) (walked_agrees way r.stands)
 
 -- THE LAW: from the root, a walk by places finds what the way reaches in the document
-pub way_agrees : (way : List WayStep) (text : List ℕ) {e : Element} → parse text ≡ some e → Agrees text (way_at way text) (reached way e)
+pub way_agrees : (way : List WayStep) (text : List ℕ) {e : Element} → parse text ≡ Some e → Agrees text (way_at way text) (reached way e)
 way_agrees way text {e} p = rooted_agrees way (root_law text e p)

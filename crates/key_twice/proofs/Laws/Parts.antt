@@ -1,5 +1,5 @@
 -- Numbers in order are twice there where two neighbours are equal; a table is told part by part.
-use Rattle.std.specs.Prelude.{◌≡◌, List, [], ◌∷◌, ◌++◌, Bool, ◌&&◌, ◌||◌, ℕ, ◌+◌, ◌^◌, ◌≤◌, ◌<◌, leb, get_or, take}
+use Rattle.std.specs.Prelude.{◌≡◌, List, [], ◌∷◌, ◌++◌, Bool, ◌&&◌, ◌||◌, ℕ, ◌+◌, ◌^◌, ◌≤◌, ◌<◌, leb, get_or, take, Option, Some, None}
 use Rattle.std.proofs.Math.Path.{refl, sym, ap}
 use Rattle.std.proofs.Common.{◌∙◌, add-one, drop-cons, rules}
 use Rattle.std.proofs.Math.Bool.{true, false}
@@ -16,8 +16,6 @@ use Rattle.lists.proofs.Laws.Permuted.{two_permuted, append_turned}
 use Rattle.lists.proofs.Laws.Numbers.{eqb_turned}
 use Rattle.lists.proofs.Laws.Reordered.{two_kept}
 use Rattle.lists.specs.Reordered.{Reordered}
-use Rattle.nodes.specs.declared.Kid.{Kid}
-use Rattle.nodes.specs.declared.Kid.TheVariants.{Child, Done}
 use Rattle.lists.specs.Reordered.{member}
 use Rattle.label_table.specs.Labels.{twice_at, first_label, next_label}
 use Rattle.label_table.specs.Codes.{code_here}
@@ -97,22 +95,22 @@ pub ruleset looking = (looking_none, looking_start, looking_done, looking_alike,
 
 -- ---- The Labels behind a part.
 
-pub record Meeting (text keys words : List ℕ) (from kid : Kid) : Type 0 where
+pub record Meeting (text keys words : List ℕ) (from kid : Option ℕ) : Type 0 where
   pub sifting : Sifting keys words
   pub so_far : some_in keys (to_come text from) ≡ some_in keys (to_come text kid)
 
-pub meeting_start : (text : List ℕ) {keys words : List ℕ} (from : Kid) → Sifting keys words → Meeting text keys words from from
+pub meeting_start : (text : List ℕ) {keys words : List ℕ} (from : Option ℕ) → Sifting keys words → Meeting text keys words from from
 meeting_start text from s = record { sifting = s; so_far = refl }
 
-module _ {text keys words : List ℕ} {from kid : Kid} (go : Meeting text keys words from kid) where
+module _ {text keys words : List ℕ} {from kid : Option ℕ} (go : Meeting text keys words from kid) where
   pub meeting_ordered : in_order keys ≡ true
   meeting_ordered = go.sifting.in_order_so
 
-  pub meeting_done : kid ≡ Done → false ≡ some_in keys (to_come text from)
+  pub meeting_done : kid ≡ None → false ≡ some_in keys (to_come text from)
   unfolding some_in any
   meeting_done e = sym (go.so_far ∙ ap (some_in keys) (come_done text e))
 
-  module _ {k : ℕ} (is_child : kid ≡ Child k) {kid₁ : Kid} (e : kid₁ ≡ next_label text k) {c : ℕ}
+  module _ {k : ℕ} (is_child : kid ≡ Some k) {kid₁ : Option ℕ} (e : kid₁ ≡ next_label text k) {c : ℕ}
       (q : (c ≡ code_here text k) × (c < 2 ^ 32)) where
     splits : some_in keys (to_come text from) ≡ (member c keys || some_in keys (to_come text kid₁))
     unfolding some_in any
@@ -138,7 +136,7 @@ pub ruleset meeting = (meeting_start, meeting_ordered, meeting_done, walk_less, 
 pub with_sieve : {keys words : List ℕ} → in_order keys ≡ true → Sieve keys words → Sifting keys words
 with_sieve o s = record { in_order_so = o; passes = s }
 
-pub none_later : (text keys : List ℕ) {from : Kid} → from ≡ Done → false ≡ some_in keys (to_come text from)
+pub none_later : (text keys : List ℕ) {from : Option ℕ} → from ≡ None → false ≡ some_in keys (to_come text from)
 unfolding some_in any
 none_later text keys e = sym (ap (some_in keys) (come_done text e))
 
@@ -177,12 +175,12 @@ module _ {codes part : List ℕ} (r : Reordered codes part) (same : (c : ℕ) �
       round false false true = refl
       round false false false = refl
 
-pub record Searching (text : List ℕ) (at : ℕ) (work₀ work : List ℕ) (kid : Kid) : Type 0 where
+pub record Searching (text : List ℕ) (at : ℕ) (work₀ work : List ℕ) (kid : Option ℕ) : Type 0 where
   pub same_answer : twice_at text at ≡ two_of eqb (to_come text kid)
   pub some : 0 < length work
   pub long : length work ≡ length work₀
 
-pub searching_start : (text : List ℕ) (at : ℕ) {work : List ℕ} → 0 < length work → {kid : Kid} → kid ≡ first_label text at
+pub searching_start : (text : List ℕ) (at : ℕ) {work : List ℕ} → 0 < length work → {kid : Option ℕ} → kid ≡ first_label text at
     → Searching text at work work kid
 searching_start text at h e = record {
   same_answer = twice_codes text at ∙ ap (two_of eqb) (sym (come_first text at e));
@@ -190,12 +188,12 @@ searching_start text at h e = record {
   long = refl;
 }
 
-module _ {text : List ℕ} {at : ℕ} {work₀ work : List ℕ} {kid : Kid} (go : Searching text at work₀ work kid) where
-  pub searching_none : kid ≡ Done → false ≡ twice_at text at
+module _ {text : List ℕ} {at : ℕ} {work₀ work : List ℕ} {kid : Option ℕ} (go : Searching text at work₀ work kid) where
+  pub searching_none : kid ≡ None → false ≡ twice_at text at
   unfolding two_of
   searching_none e = sym (go.same_answer ∙ ap (two_of eqb) (come_done text e))
 
-  module _ {work₁ : List ℕ} {n : ℕ} {next : Kid} (t : Taken text kid work₁ n next) where
+  module _ {work₁ : List ℕ} {n : ℕ} {next : Option ℕ} (t : Taken text kid work₁ n next) where
     pub searching_within : n ≤ length work₁
     searching_within = t.inside
 
@@ -203,7 +201,7 @@ module _ {text : List ℕ} {at : ℕ} {work₀ work : List ℕ} {kid : Kid} (go 
     searching_ordered = t.ordered
 
     module _ (l : length work₁ ≡ length work) where
-      pub searching_less : {k : ℕ} → kid ≡ Child k → length (to_come text next) < length (to_come text kid)
+      pub searching_less : {k : ℕ} → kid ≡ Some k → length (to_come text next) < length (to_come text kid)
       searching_less e = let s = go.some in taken_less t e (omega arith)
 
       module _ {b : Bool} (q : b ≡ part_twice (take n work₁) (to_come text next)) where

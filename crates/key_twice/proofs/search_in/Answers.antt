@@ -20,5 +20,5 @@ loop-kid-preserved c =
     searching_on c.loop-kid.invariant c.taken-turn.ensures c.taken-turn.auto.work
     c.part_twice.ensures c.if-part_twice.false
 
-pub returns-in-Done : goal.returns-in-Done
-returns-in-Done c = search searching
+pub returns-in-None : goal.returns-in-None
+returns-in-None c = search searching

@@ -1,5 +1,5 @@
 -- The turns of the test of a colour.
-use Rattle.std.specs.Prelude.{◌≡◌, List, [], ◌∷◌, Bool, ◌&&◌, ◌||◌, ℕ, ◌+◌, ◌-◌, ◌≤◌, eqb, ltb, length, get_or}
+use Rattle.std.specs.Prelude.{◌≡◌, List, [], ◌∷◌, Bool, ◌&&◌, ◌||◌, ℕ, ◌+◌, ◌-◌, ◌≤◌, eqb, ltb, length, get_or, Option, Some, None}
 use Rattle.std.proofs.Math.Path.{refl, sym}
 use Rattle.std.proofs.Common.{ap, ◌∙◌, arith, SFits, to_z, of_z, rules, eqb-true, ltb-true}
 use Rattle.std.proofs.Math.Bool.{true, false}
@@ -18,31 +18,29 @@ use Rattle.numbers.proofs.Laws.Stream.{char_end}
 use Rattle.numbers.proofs.Laws.Values.{there}
 use Rattle.number_values.proofs.Laws.Dimensions.{plain}
 use Rattle.numbers.specs.declared.Decimal.{Decimal}
-use Rattle.numbers.specs.declared.Decimals.{Decimals}
-use Rattle.numbers.specs.declared.Decimals.TheVariants as decimals
 use Rattle.numbers.specs.declared.Source.TheVariants.{Value}
 use Rattle.keys.specs.Colours.{AtSight}
 
-module _ (w : Word) {r : Decimals} (e : r ≡ decimal_in w) where
-  pub colour_none : r ≡ decimals.No → false ≡ colour w
+module _ (w : Word) {r : Option Decimal} (e : r ≡ decimal_in w) where
+  pub colour_none : r ≡ None → false ≡ colour w
   unfolding decimal_in
   colour_none f = go (decimal w) refl
     where
       go : (b : Bool) → decimal w ≡ b → false ≡ colour w
-      go true h = let q : decimals.Is (decimal_value w) ≡ decimals.No = sym (rw h refl) ∙ sym e ∙ f in clash (cc)
+      go true h = let q : Some (decimal_value w) ≡ None = sym (rw h refl) ∙ sym e ∙ f in clash (cc)
       go false h = sym (colour_is w ∙ rw h refl)
 
-  pub colour_some : {d : Decimal} → r ≡ decimals.Is d → SFits w64 d.amount → SFits w64 d.power → {t : Bool}
+  pub colour_some : {d : Decimal} → r ≡ Some d → SFits w64 d.amount → SFits w64 d.power → {t : Bool}
       → t ≡ shade (to_z w64 (of_z w64 d.amount)) (to_z w64 (of_z w64 d.power)) → t ≡ colour w
   unfolding decimal_in
   colour_some {d} f u v {t} k = go (decimal w) refl
     where
       go : (b : Bool) → decimal w ≡ b → t ≡ colour w
       go true h =
-          let q : decimals.Is (decimal_value w) ≡ decimals.Is d = sym (rw h refl) ∙ sym e ∙ f in
+          let q : Some (decimal_value w) ≡ Some d = sym (rw h refl) ∙ sym e ∙ f in
           let s : decimal_value w ≡ d = cc in
           k ∙ rw (to_z-of_z w64 d.amount u, to_z-of_z w64 d.power v, ← s) (sym (colour_is w ∙ rw h refl))
-      go false h = let q : decimals.No ≡ decimals.Is d = sym (rw h refl) ∙ sym e ∙ f in clash (cc)
+      go false h = let q : None ≡ Some d = sym (rw h refl) ∙ sym e ∙ f in clash (cc)
 
 pub ruleset colouring = (colour_none, colour_some, rules)
 

@@ -1,5 +1,5 @@
 -- The next key of a list, and whether a text lists keys: one lemma for each way of the code.
-use Rattle.std.specs.Prelude.{◌≡◌, Bool, not, cond, ℕ, suc, ◌+◌, ◌/◌, ◌%◌, ◌^◌, ◌<◌, ◌≤◌, ℤ, pos, leb}
+use Rattle.std.specs.Prelude.{◌≡◌, Bool, not, cond, ℕ, suc, ◌+◌, ◌/◌, ◌%◌, ◌^◌, ◌<◌, ◌≤◌, ℤ, pos, leb, Option, Some, None}
 use Rattle.std.proofs.Math.Path.{refl, sym, ap}
 use Rattle.std.proofs.Common.{◌∙◌, SFits, to_z, of_z, rules}
 use mathlib.Core.List.{List, [], ◌∷◌, ◌++◌, append-nil}
@@ -15,10 +15,6 @@ use Rattle.grammar.specs.Bytes.{blank}
 use Rattle.grammar.specs.Look.{Word}
 use Rattle.nodes.specs.Texts.{says_at, left, inside, text_of_lem}
 use Rattle.nodes.proofs.Laws.TextSteps.{text_none, text_some}
-use Rattle.nodes.specs.declared.Char.{Char}
-use Rattle.nodes.specs.declared.Char.TheVariants as chars
-use Rattle.nodes.specs.declared.Found.{Found}
-use Rattle.nodes.specs.declared.Found.TheVariants.{At, Nothing}
 use Rattle.numbers.specs.Numbers.{digit, digits, value, words, parts, filled, with_sign, unsigned, key, key_value, key_list}
 use Rattle.numbers.specs.Answers.{sign_if, key_limit}
 use Rattle.numbers.specs.Stream.{char_at, letter_at, stream, left_in, behind, leading, word_ends, digits_at}
@@ -223,7 +219,7 @@ module _ {text : List ℕ} {at : ℕ} {t : Bool} (sign : SignRead text at t) {ru
             less = less;
           })
 
-pub ruleset key-digits = (from_none, from_unended, from_great, from_small, from_fits, from_key, rules)
+pub ruleset key_digits = (from_none, from_unended, from_great, from_small, from_fits, from_key, rules)
 
 -- THE SIGN, behind the blanks
 leading_few : (w : Word) → leading blank w ≤ length w
@@ -267,16 +263,16 @@ module _ (text : List ℕ) (at : ℕ) {i : ℕ} (ei : i ≡ behind Contents text
       let z : left text (behind Contents text (leading blank (stream Contents text at)) at) ≤ left text at = omega (arith, b.ahead) in
       rw ei z
 
-  module _ {c : Char} (ec : c ≡ letter_at text i) where
+  module _ {c : Option (ℕ × ℕ)} (ec : c ≡ letter_at text i) where
     from : c ≡ char_at Contents text i
     unfolding char_at
     from = ec
 
-    pub sign_end : c ≡ chars.End → ListedKeyTold text at End
+    pub sign_end : c ≡ None → ListedKeyTold text at End
     unfolding stream
     sign_end e = told_end (same_words ∙ ap words (char_end Contents text i from e) ∙ words_none)
 
-    module _ {b j : ℕ} (e : c ≡ chars.Byte b j) where
+    module _ {b j : ℕ} (e : c ≡ Some (b, j)) where
       begins : says_at text i ≡ b ∷ says_at text j
       unfolding stream
       begins = (char_byte Contents text i from e).splits
@@ -297,7 +293,7 @@ module _ (text : List ℕ) (at : ℕ) {i : ℕ} (ei : i ≡ behind Contents text
     unfolding spelled
     sign_none_told t = retold t same_words further
 
-pub ruleset key-signs = (minus_read, sign_end, sign_none, sign_minus_told, sign_none_told, rules)
+pub ruleset key_signs = (minus_read, sign_end, sign_none, sign_minus_told, sign_none_told, rules)
 
 -- PLAIN NUMBERS
 plain_key : (w : Word) (n : ℕ) → digits 1 7 w ≡ true → value w ≡ n → n < 10 ^ 7 → (key w ≡ true) × (pos n ≡ key_value w)
@@ -337,7 +333,7 @@ module _ {text : List ℕ} {at q : ℕ} (h : Quick text at q) (n : q ≡ 0 → �
       let e = to_z_pos w32 (q / 16) quick_small in
       told_key (record { word = g.word; in_form_lem = k.0; valued = e ∙ k.1; splits = g.splits; less = g.ahead })
 
-pub ruleset key-quick = (quick_place, quick_small, quick_key, rules)
+pub ruleset key_quick = (quick_place, quick_small, quick_key, rules)
 
 -- A LIST OF KEYS
 pub record Listing (text : List ℕ) (at i : ℕ) : Type 0 where
@@ -363,15 +359,15 @@ module _ {text : List ℕ} {at i : ℕ} (go : Listing text at i) {r : ListedKey}
     unfolding key_list all
     listing_on = let f = t.on_key e in record { same_list = go.same_list ∙ rw (f.splits, f.in_form_lem) }
 
-pub ruleset key-listing = (listing_start, listing_end, listing_bad, listing_less, listing_on, rules)
+pub ruleset key_listing = (listing_start, listing_end, listing_bad, listing_less, listing_on, rules)
 
 -- THE TEXT OF AN ELEMENT
-module _ (text : List ℕ) (at : ℕ) {f : Found} (e : f ≡ inside text at) where
-  pub keys_there : {i : ℕ} → f ≡ At i → {r : Bool} → r ≡ key_list (says_at text i) → r ≡ key_list (text_of_lem text at)
+module _ (text : List ℕ) (at : ℕ) {f : Option ℕ} (e : f ≡ inside text at) where
+  pub keys_there : {i : ℕ} → f ≡ Some i → {r : Bool} → r ≡ key_list (says_at text i) → r ≡ key_list (text_of_lem text at)
   keys_there h k = k ∙ ap key_list (sym (text_some text at (sym e ∙ h)))
 
-  pub keys_missing : f ≡ Nothing → true ≡ key_list (text_of_lem text at)
+  pub keys_missing : f ≡ None → true ≡ key_list (text_of_lem text at)
   unfolding key_list words parts those filled all
   keys_missing h = ap key_list (sym (text_none text at (sym e ∙ h)))
 
-pub ruleset key-texts = (keys_there, keys_missing, rules)
+pub ruleset key_texts = (keys_there, keys_missing, rules)

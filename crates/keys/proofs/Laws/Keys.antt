@@ -1,5 +1,5 @@
 -- The digits of a key, with the limit of its sign as the program has it, and its value by its bits.
-use Rattle.std.specs.Prelude.{◌≡◌, List, Bool, ℕ, zero, suc, ◌^◌, ◌≤◌, ◌<◌, ℤ}
+use Rattle.std.specs.Prelude.{◌≡◌, List, Bool, ℕ, zero, suc, ◌^◌, ◌≤◌, ◌<◌, ℤ, Option, Some, None}
 use Rattle.std.proofs.Math.Path.{refl, sym}
 use Rattle.std.proofs.Common.{ap, ◌∙◌, SFits, to_z, of_z, rules}
 use Rattle.std.proofs.Math.Bool.{true, false}
@@ -16,8 +16,6 @@ use Rattle.numbers.proofs.Laws.Keys.{key_is, key_comma, key_no, key_small, key_s
 use Rattle.numbers.specs.declared.Source.{Source}
 use Rattle.numbers.specs.declared.Part.{Part}
 use Rattle.numbers.specs.declared.Part.TheVariants.{Comma, Last, No}
-use Rattle.numbers.specs.declared.Key.{Key}
-use Rattle.numbers.specs.declared.Key.TheVariants as keys
 
 wide_fits : (s : Sign) (n : ℕ) → n ≤ key_limit s → SFits w64 (with_sign s n)
 unfolding with_sign key_limit
@@ -53,10 +51,10 @@ module _ {source : Source} {text : List ℕ} {at : ℕ} (t : Bool) {h : ℕ} (l 
   pub from_small : {n : ℕ} → r ≡ Last n → n < 10 ^ 15
   from_small e = key_small (sign_if t) limited e
 
-  pub from_comma : {n j : ℕ} → r ≡ Comma n j → keys.No ≡ key_from (sign_if t) (stream source text at)
+  pub from_comma : {n j : ℕ} → r ≡ Comma n j → None ≡ key_from (sign_if t) (stream source text at)
   from_comma e = key_comma (sign_if t) limited e
 
-  pub from_no : r ≡ No → keys.No ≡ key_from (sign_if t) (stream source text at)
+  pub from_no : r ≡ No → None ≡ key_from (sign_if t) (stream source text at)
   from_no e = key_no (sign_if t) limited e
 
   module _ {n : ℕ} {v : ℤ} (e : r ≡ Last n) (q : v ≡ with_sign (sign_if t) n) where
@@ -66,30 +64,30 @@ module _ {source : Source} {text : List ℕ} {at : ℕ} (t : Bool) {h : ℕ} (l 
     pub from_fits : SFits w32 (to_z w64 (of_z w64 v))
     from_fits = signed_fits t size q
 
-    pub from_is : keys.Is (to_z w32 (of_z w32 (to_z w64 (of_z w64 v)))) ≡ key_from (sign_if t) (stream source text at)
-    from_is = ap keys.Is (signed_back t size q) ∙ key_is (sign_if t) limited e q
+    pub from_is : Some (to_z w32 (of_z w32 (to_z w64 (of_z w64 v)))) ≡ key_from (sign_if t) (stream source text at)
+    from_is = ap Some (signed_back t size q) ∙ key_is (sign_if t) limited e q
 
-pub ruleset key-digits = (from_small, from_comma, from_no, from_fits, from_is, rules)
+pub ruleset key_digits = (from_small, from_comma, from_no, from_fits, from_is, rules)
 
 -- a key, told from none
-module _ (w : Word) {r : Key} (e : r ≡ key_in w) where
-  pub told_key : {k : ℤ} → r ≡ keys.Is k → (key w ≡ true) × (k ≡ key_value w)
+module _ (w : Word) {r : Option ℤ} (e : r ≡ key_in w) where
+  pub told_key : {k : ℤ} → r ≡ Some k → (key w ≡ true) × (k ≡ key_value w)
   unfolding key_in
   told_key {k} f = go (key w) refl
     where
       go : (b : Bool) → key w ≡ b → (key w ≡ true) × (k ≡ key_value w)
-      go true h = let q : keys.Is (key_value w) ≡ keys.Is k = sym (rw h refl) ∙ sym e ∙ f in (h, cc)
-      go false h = let q : keys.No ≡ keys.Is k = sym (rw h refl) ∙ sym e ∙ f in clash (cc)
+      go true h = let q : Some (key_value w) ≡ Some k = sym (rw h refl) ∙ sym e ∙ f in (h, cc)
+      go false h = let q : None ≡ Some k = sym (rw h refl) ∙ sym e ∙ f in clash (cc)
 
-  pub key_yes : {k : ℤ} → r ≡ keys.Is k → true ≡ key w
+  pub key_yes : {k : ℤ} → r ≡ Some k → true ≡ key w
   key_yes f = sym (told_key f).0
 
-  pub key_none : r ≡ keys.No → false ≡ key w
+  pub key_none : r ≡ None → false ≡ key w
   unfolding key_in
   key_none f = go (key w) refl
     where
       go : (b : Bool) → key w ≡ b → false ≡ key w
-      go true h = let q : keys.Is (key_value w) ≡ keys.No = sym (rw h refl) ∙ sym e ∙ f in clash (cc)
+      go true h = let q : Some (key_value w) ≡ None = sym (rw h refl) ∙ sym e ∙ f in clash (cc)
       go false h = sym h
 
-pub ruleset key-telling = (key_yes, key_none, rules)
+pub ruleset key_telling = (key_yes, key_none, rules)

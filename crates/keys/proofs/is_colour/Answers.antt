@@ -1,11 +1,11 @@
 use Rattle.keys.proofs.Laws.Colours.{colouring, colour_seen}
 use Rattle.keys.proofs.is_colour.Goals as goal
 
-pub returns-in-Is : goal.returns-in-Is
-returns-in-Is c = search colouring
+pub returns-in-Some : goal.returns-in-Some
+returns-in-Some c = search colouring
 
-pub returns-in-No : goal.returns-in-No
-returns-in-No c = search colouring
+pub returns-in-None : goal.returns-in-None
+returns-in-None c = search colouring
 
 pub is_zero_or_one-requires : goal.is_zero_or_one-requires
 is_zero_or_one-requires c = search colouring

@@ -1,5 +1,5 @@
 -- The keys of a table, so many at a time; those of a list that stand in it, counted over the turns.
-use Rattle.std.specs.Prelude.{◌≡◌, Bool, true, false, ◌||◌, cond, leb, ℤ, length, set, drop}
+use Rattle.std.specs.Prelude.{◌≡◌, Bool, true, false, ◌||◌, cond, leb, ℤ, length, set, drop, Option, Some, None, ℕ}
 use Rattle.std.proofs.Math.Path.{refl, ap}
 use Rattle.std.proofs.Common.{sym, ◌∙◌, length-set, length-append, length-take-le, take-suc-set, take_at, rules, le-leb}
 use mathlib.Core.List.{List, [], ◌∷◌, ◌++◌, append_assoc}
@@ -14,8 +14,6 @@ use Rattle.lists.proofs.Laws.Booleans.{and_left, and_both, or_right, clash}
 use Rattle.lists.proofs.Laws.Numbers.{eqb_turned}
 use Rattle.lists.proofs.Laws.Reordered.{once}
 use Rattle.grammar.specs.Bytes.{between}
-use Rattle.nodes.specs.declared.Kid.{Kid}
-use Rattle.nodes.specs.declared.Kid.TheVariants.{Child, Done}
 use Rattle.numbers.specs.Numbers.{in_keys, same_key}
 use Rattle.lists.specs.Reordered.{member}
 use Rattle.label_table.specs.Labels.{labels, key_here, table_keys_at, next_label}
@@ -30,21 +28,21 @@ use Rattle.known_keys.proofs.Laws.Order.{all_within, member_kept}
 
 -- ---- Gathering.
 
-ends : Kid → ℕ
-ends Done = 0
-ends (Child k) = 1
+ends : Option ℕ → ℕ
+ends None = 0
+ends (Some k) = 1
 
-pub record Gathering (text : List ℕ) (from : Kid) (work₀ work : List ℕ) (n : ℕ) (kid : Kid) : Type 0 where
+pub record Gathering (text : List ℕ) (from : Option ℕ) (work₀ work : List ℕ) (n : ℕ) (kid : Option ℕ) : Type 0 where
   pub so_far : take n work ++ to_come text kid ≡ to_come text from
   pub inside : n ≤ length work
   pub long : length work ≡ length work₀
   pub begun : n ≡ 0 → kid ≡ from
 
-pub gathering_start : (text : List ℕ) (from : Kid) (work : List ℕ) → Gathering text from work work 0 from
+pub gathering_start : (text : List ℕ) (from : Option ℕ) (work : List ℕ) → Gathering text from work work 0 from
 gathering_start text from work = record { so_far = refl; inside = omega arith; long = refl; begun = λ e. refl }
 
-module _ {text : List ℕ} {from : Kid} {work₀ work : List ℕ} {n : ℕ} {kid : Kid} (go : Gathering text from work₀ work n kid) where
-  pub gathering_done : kid ≡ Done → KeysGathered text from work n Done
+module _ {text : List ℕ} {from : Option ℕ} {work₀ work : List ℕ} {n : ℕ} {kid : Option ℕ} (go : Gathering text from work₀ work n kid) where
+  pub gathering_done : kid ≡ None → KeysGathered text from work n None
   unfolding ends
   gathering_done e = record {
     inside = go.inside;
@@ -52,7 +50,7 @@ module _ {text : List ℕ} {from : Kid} {work₀ work : List ℕ} {n : ℕ} {kid
     moves = λ f h. some n go f;
   }
     where
-      some : (m : ℕ) → Gathering text from work₀ work m kid → {k : ℕ} → from ≡ Child k → 0 < m
+      some : (m : ℕ) → Gathering text from work₀ work m kid → {k : ℕ} → from ≡ Some k → 0 < m
       some zero g f = clash (ap ends (sym e ∙ g.begun refl ∙ f))
       some (suc m) g f = omega arith
 
@@ -62,7 +60,7 @@ module _ {text : List ℕ} {from : Kid} {work₀ work : List ℕ} {n : ℕ} {kid
   pub gathering_long : length work ≡ length work₀
   gathering_long = go.long
 
-  module _ {k : ℕ} (is_child : kid ≡ Child k) {kid₁ : Kid} (e : kid₁ ≡ next_label text k) {c : ℕ}
+  module _ {k : ℕ} (is_child : kid ≡ Some k) {kid₁ : Option ℕ} (e : kid₁ ≡ next_label text k) {c : ℕ}
       (q : (c ≡ code_here text k) × (c < 2 ^ 32)) (h : n < length work) where
     pub gathering_more : Gathering text from work₀ (set work n c) (n + 1) kid₁
     gathering_more =
@@ -89,7 +87,7 @@ small_codes text (k ∷ l) =
     let s = code_small text k in
     and_both (and_both (le-leb 0 (code_here text k) (omega arith)) (le-leb (code_here text k) 4294967295 (omega arith))) (small_codes text l)
 
-module _ {text : List ℕ} {from : Kid} {work : List ℕ} {n : ℕ} {next : Kid} (g : KeysGathered text from work n next) where
+module _ {text : List ℕ} {from : Option ℕ} {work : List ℕ} {n : ℕ} {next : Option ℕ} (g : KeysGathered text from work n next) where
   pub codes_small : Bounded 0 4294967295 (take n work)
   codes_small =
       all_within 0 4294967295 (take n work)
@@ -115,8 +113,8 @@ module _ {text : List ℕ} {from : Kid} {work : List ℕ} {n : ℕ} {next : Kid}
       }
 
 -- a turn brings the walk on
-pub taken_less : {text : List ℕ} {from : Kid} {work : List ℕ} {n : ℕ} {next : Kid} → Taken text from work n next
-    → {k : ℕ} → from ≡ Child k → 0 < length work → length (to_come text next) < length (to_come text from)
+pub taken_less : {text : List ℕ} {from : Option ℕ} {work : List ℕ} {n : ℕ} {next : Option ℕ} → Taken text from work n next
+    → {k : ℕ} → from ≡ Some k → 0 < length work → length (to_come text next) < length (to_come text from)
 taken_less {text} {from} {work} {n} {next} t e u =
     let m = t.moves e u in
     let a = t.as_many in

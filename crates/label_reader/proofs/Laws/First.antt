@@ -1,7 +1,6 @@
 -- THE ORDER: of keys and of label names the number given is that of a row that applies, and no row before it does; or none applies.
-use Rattle.std.proofs.Common.{sym, subst}
+use Rattle.std.proofs.Common.{sym, subst, Option}
 use Rattle.std.specs.Prelude.{List, [], ◌∷◌, ◌++◌, ℕ, ℤ, length}
-use Rattle.std.proofs.Math.Option.{Option}
 use Rattle.lists.specs.Refusals.{Refusal, ◌when◌, first, FirstOf}
 use Rattle.lists.proofs.Laws.Refusals.{refusal_first}
 use Rattle.grammar.specs.Document.{Element}

@@ -1,9 +1,7 @@
 -- THE WAY REACHES THE TABLE OF THE DOCUMENT, where 6, 7 and 8 do not apply: nothing exactly where 18 applies, and else the LabelTable whose
 -- keys and names are asked for.
-use Rattle.std.specs.Prelude.{◌≡◌, refl, List, [], ◌∷◌, ◌++◌, Bool, true, false, cond, ℕ, zero, suc, ◌≤◌, eqb, ℤ, get_or}
+use Rattle.std.specs.Prelude.{◌≡◌, refl, List, [], ◌∷◌, ◌++◌, Bool, true, false, cond, ℕ, zero, suc, ◌≤◌, eqb, ℤ, get_or, Option, Some, None}
 use Rattle.std.proofs.Common.{sym, ap, ◌∙◌, subst}
-use Rattle.std.proofs.Math.Option.{Option, some}
-use Rattle.std.proofs.Math.Option
 use Rattle.lists.specs.Lists.{all, any, count, those, each, each_in}
 use Rattle.lists.proofs.Laws.Booleans.{and_left, and_right, never_some}
 use Rattle.grammar.specs.Document.{Element}
@@ -48,13 +46,13 @@ labels_tabled : OneRow "LabelTable" labelled_map
 labels_tabled = record { met = λ g. sym (same_times _) ∙ one_table g }
 
 abbrev table_on : (index : ℕ) → Element → Option Element → Type 0
-table_on i e o = OnMap "LabelTable" some Option.none holds_table i e o
+table_on i e o = OnMap "LabelTable" Some None holds_table i e o
 
 on_labels : (i : ℕ) {e : Element} → GoodMap e → is_labels (kind_of_map e) ≡ true → table_on i e (reached (in_map "LabelTable" i) e)
 unfolding children holds_table map_of
 on_labels i {e} g h =
     let k : kind_of_map e ≡ Labels = same_kind (kind_of_map e) Labels h in
-    on_map "LabelTable" some Option.none holds_table i
+    on_map "LabelTable" Some None holds_table i
     (all_named "LabelTable" labels_tabled (elements (contents_of e)) (labels_children (good_labels g h)))
     (rw k refl)
 
@@ -64,11 +62,11 @@ data Without : List Element → Type 0 where
   without_none : Without []
   without_one : {e : Element} {l : List Element} → children "LabelTable" e ≡ [] → Without l → Without (e ∷ l)
 
-no_table_there : (e : Element) → children "LabelTable" e ≡ [] → reached (step (of_name "LabelTable") 0 ∷ []) e ≡ Option.none
+no_table_there : (e : Element) → children "LabelTable" e ≡ [] → reached (step (of_name "LabelTable") 0 ∷ []) e ≡ None
 unfolding reached onward nth children of_name
 no_table_there e h = rw h refl
 
-none_reached : (i : ℕ) {l : List Element} → Without l → onward (reached (step (of_name "LabelTable") 0 ∷ [])) (nth i l) ≡ Option.none
+none_reached : (i : ℕ) {l : List Element} → Without l → onward (reached (step (of_name "LabelTable") 0 ∷ [])) (nth i l) ≡ None
 unfolding onward nth
 none_reached zero without_none = refl
 none_reached (suc i) without_none = refl
@@ -117,7 +115,7 @@ on_any i e g = by (is_labels (kind_of_map e)) refl
 -- ---- From the table to its keys and names.
 
 -- an entry of a list, and what is made of it
-nth_told : {A : Type 0} (f : Element → A) (z : A) (l : List Element) (i : ℕ) {x : Element} → get_or (each some l) i Option.none ≡ some x
+nth_told : {A : Type 0} (f : Element → A) (z : A) (l : List Element) (i : ℕ) {x : Element} → get_or (each Some l) i None ≡ Some x
     → get_or (each f l) i z ≡ f x
 unfolding each
 nth_told f z [] i h = never_some h
@@ -160,7 +158,7 @@ good_append : {k : ElementKind} {a b : List Element} → EachGood k a → EachGo
 good_append no_good h = h
 good_append (also_good g m) h = also_good g (good_append m h)
 
-nth_good : {k : ElementKind} {l : List Element} → EachGood k l → (i : ℕ) {x : Element} → get_or (each some l) i Option.none ≡ some x
+nth_good : {k : ElementKind} {l : List Element} → EachGood k l → (i : ℕ) {x : Element} → get_or (each Some l) i None ≡ Some x
     → Good k x
 unfolding each
 nth_good no_good i h = never_some h
@@ -202,18 +200,18 @@ tables_on_lem d {e} g = let o = root_child g in rw (maps_in_lem e o) (all_tables
 -- ---- THE LAW: what the paper says of the table, and what the way reaches.
 
 pub data TableOf (d i : ℕ) (e : Element) : Option Element → Type 0 where
-  no_table_lem : no_table d i (maps_of e) ≡ true → TableOf d i e Option.none
+  no_table_lem : no_table d i (maps_of e) ≡ true → TableOf d i e None
   a_table : {t : Element} → no_table d i (maps_of e) ≡ false → keys_on d i (maps_of e) ≡ table_keys t
-      → ((k : ℤ) → labels_on d i k e ≡ names_with k t) → Good label_table t → TableOf d i e (some t)
+      → ((k : ℤ) → labels_on d i k e ≡ names_with k t) → Good label_table t → TableOf d i e (Some t)
 
-table_by : (d i : ℕ) {e : Element} → Good cifti e → {o : Option Element} → FoundIn "LabelTable" some Option.none holds_table d i e o
+table_by : (d i : ℕ) {e : Element} → Good cifti e → {o : Option Element} → FoundIn "LabelTable" Some None holds_table d i e o
     → TableOf d i e o
 unfolding no_table keys_on tables_on labels_on maps_of told_of told_in tables_in
 table_by d i g (none_held h) = no_table_lem (rw h refl)
 table_by d i {e} g (one_held {x} h q) =
-    let p = each_in_lem some tables_in (those (lists_it d) (map_elements e)) in
-    let there : get_or (each some (each_in tables_in (those (lists_it d) (map_elements e)))) i Option.none ≡ some x =
-    sym (ap (λ l. get_or l i Option.none) p) ∙ q in
+    let p = each_in_lem Some tables_in (those (lists_it d) (map_elements e)) in
+    let there : get_or (each Some (each_in tables_in (those (lists_it d) (map_elements e)))) i None ≡ Some x =
+    sym (ap (λ l. get_or l i None) p) ∙ q in
     a_table {t = x} (rw h refl)
     (ap (λ l. get_or l i []) (keys_in d (map_elements e) ∙ each_in_lem table_keys tables_in (those (lists_it d) (map_elements e)))
     ∙ nth_told table_keys [] _ i there)
@@ -222,4 +220,4 @@ table_by d i {e} g (one_held {x} h q) =
 pub table_of : (d i : ℕ) {e : Element} → Good cifti e → count (eqb d) (listed_dimensions (maps_of e)) ≤ 1
     → TableOf d i e (reached (table_way d i) e)
 unfolding table_way
-table_of d i g u = table_by d i g (found_in "LabelTable" some Option.none holds_table d i (on_any i) g u)
+table_of d i g u = table_by d i g (found_in "LabelTable" Some None holds_table d i (on_any i) g u)

@@ -1,10 +1,8 @@
 -- What is proved of Keys.
-use Rattle.std.specs.Prelude.{◌≡◌, Bool, ltb, ℤ, length}
+use Rattle.std.specs.Prelude.{◌≡◌, Bool, ltb, ℤ, length, Option, Some, None, ℕ}
 use Rattle.std.proofs.Math.Path.{refl, sym, ap}
 use Rattle.std.proofs.Common.{◌∙◌, subst, arith, rules, lt-ltb, le-ltb}
 use mathlib.Core.List.{List, [], ◌∷◌, ◌++◌}
-use Rattle.std.proofs.Math.Option.{Option, some}
-use Rattle.std.proofs.Math.Option
 use Prim.Native.Nat.{ℕ, zero, suc, ◌≤◌, ◌<◌}
 use Rattle.std.proofs.Math.ListN.{drop}
 use Rattle.std.proofs.Math.Decide.{dec_lt}
@@ -13,8 +11,6 @@ use Rattle.lists.specs.Refusals.{◌when◌, first}
 use Rattle.grammar.specs.Bytes.{ascii}
 use Rattle.grammar.specs.Document.{Element}
 use Rattle.grammar.specs.Parser.{parse}
-use Rattle.nodes.specs.declared.Found.{Found}
-use Rattle.nodes.specs.declared.Found.TheVariants.{At, Nothing}
 use Rattle.label_table.specs.Labels.{table_keys_at, keys_written}
 use Rattle.label_table.proofs.Laws.Told.{keys_told_lem, filled_told}
 use Rattle.cifti.specs.Maps.{maps_of}
@@ -57,7 +53,7 @@ module _ (text lengths : List ℕ) (d i : ℕ) (keys : List ℤ) where
       keys_by_lem text lengths d i keys n 0 keys (sym h) (rw none refl) (rw none refl)
 
   -- number 0: the keys of the document's table
-  given_zero : {x : Element} → parse text ≡ some x → number_of ≡ 0 → keys_on d i (maps_of x) ≡ keys_told text lengths d i (length keys)
+  given_zero : {x : Element} → parse text ≡ Some x → number_of ≡ 0 → keys_on d i (maps_of x) ≡ keys_told text lengths d i (length keys)
   unfolding keys_told keys_given keys_by maps_in
   given_zero p m = sym (rw (m, p) refl)
 
@@ -71,19 +67,19 @@ module _ (text lengths : List ℕ) (d i : ℕ) (keys : List ℤ) where
   unfolding keys_refusal
   keys_refused h k = refused_so k (kept_before text lengths d i k h _)
 
-  module _ {n : ℕ} (h : n ≡ number_before text lengths) (z : n ≡ 0) {f : Found} (e : f ≡ named_at text (ascii "LabelTable") d i) where
+  module _ {n : ℕ} (h : n ≡ number_before text lengths) (z : n ≡ 0) {f : Option ℕ} (e : f ≡ named_at text (ascii "LabelTable") d i) where
     there_is : Tabled text lengths d i f
     there_is = table_at text lengths d i (sym z ∙ h) e
 
-    missing_so : Tabled text lengths d i Nothing → Keys text lengths d i keys 18 0 keys
+    missing_so : Tabled text lengths d i None → Keys text lengths d i keys 18 0 keys
     unfolding keys_refusal
     missing_so (untabled r) = refused_so (λ y. omega arith) (r _)
 
-    pub keys_missing : f ≡ Nothing → Keys text lengths d i keys 18 0 keys
-    keys_missing q = missing_so (subst (λ (x : Found). Tabled text lengths d i x) q there_is)
+    pub keys_missing : f ≡ None → Keys text lengths d i keys 18 0 keys
+    keys_missing q = missing_so (subst (λ (x : Option ℕ). Tabled text lengths d i x) q there_is)
 
     module _ {t : ℕ} {number count : ℕ} {after : List ℤ} (w : WrittenTo text t keys number count after) where
-      found_so : Tabled text lengths d i (At t) → Keys text lengths d i keys number count after
+      found_so : Tabled text lengths d i (Some t) → Keys text lengths d i keys number count after
       unfolding keys_refusal keys_short of_maps there first keys_number_of labels_refusals
       found_so (tabled {t} {e = x} p st g r s l way) = by (dec_lt (length keys) (length (table_keys_at text t)))
         where
@@ -111,7 +107,7 @@ module _ (text lengths : List ℕ) (d i : ℕ) (keys : List ℤ) where
                   → keys_written (table_keys_at text t) keys ≡ keys_after_of text lengths d i keys
               written v m = filled_told (table_keys_at text t) keys v ∙ after_zero (given m)
 
-      pub keys_found : f ≡ At t → Keys text lengths d i keys number count after
-      keys_found q = found_so (subst (λ (x : Found). Tabled text lengths d i x) q there_is)
+      pub keys_found : f ≡ Some t → Keys text lengths d i keys number count after
+      keys_found q = found_so (subst (λ (x : Option ℕ). Tabled text lengths d i x) q there_is)
 
 pub ruleset keying = (keys_refused, keys_missing, keys_found, rules)

@@ -1,10 +1,8 @@
 -- THE LABEL OF A KEY in a table: no Label is found exactly where no key is the one, and the way of steps leads where the walk finds it.
-use Rattle.std.specs.Prelude.{◌≡◌, Bool, true, false, cond, ◌&&◌, ◌||◌, ℤ, get_or}
+use Rattle.std.specs.Prelude.{◌≡◌, Bool, true, false, cond, ◌&&◌, ◌||◌, ℤ, get_or, Option, Some, None, ℕ}
 use Rattle.std.proofs.Math.Path.{refl, sym, ap}
 use Rattle.std.proofs.Common.{◌∙◌}
 use mathlib.Core.List.{List, [], ◌∷◌, ◌++◌}
-use Rattle.std.proofs.Math.Option.{Option, some}
-use Rattle.std.proofs.Math.Option
 use Prim.Native.Nat.{ℕ}
 use Rattle.lists.specs.Lists.{all, any, those, each}
 use Rattle.lists.proofs.Laws.Lists.{any_each}
@@ -16,10 +14,6 @@ use Rattle.nodes.specs.Places.{Stands, the}
 use Rattle.nodes.proofs.Laws.Found.{attr_law}
 use Rattle.nodes.specs.Children.{first_child}
 use Rattle.nodes.specs.Root.{root}
-use Rattle.nodes.specs.declared.Kid.{Kid}
-use Rattle.nodes.specs.declared.Kid.TheVariants.{Child, Done}
-use Rattle.nodes.specs.declared.Found.{Found}
-use Rattle.nodes.specs.declared.Found.TheVariants.{At, Nothing}
 use Rattle.numbers.specs.Numbers as numbers
 use Rattle.numbers.specs.Numbers.{same_key}
 use Rattle.numbers.specs.Answers.{key_in}
@@ -36,27 +30,27 @@ use Rattle.label_reader.specs.Way.{table_way, label_of, to_label, label_way}
 
 -- ---- What a found Label says of the keys.
 
-none_pass : {A : Type 0} (p : A → Bool) (l : List A) → nth 0 (those p l) ≡ Option.none → any p l ≡ false
+none_pass : {A : Type 0} (p : A → Bool) (l : List A) → nth 0 (those p l) ≡ None → any p l ≡ false
 unfolding those any nth
 none_pass p [] h = refl
 none_pass p (a ∷ l) h = go (p a) h (none_pass p l)
   where
-    go : (b : Bool) → nth 0 (cond b (a ∷ those p l) (those p l)) ≡ Option.none → (nth 0 (those p l) ≡ Option.none → any p l ≡ false)
+    go : (b : Bool) → nth 0 (cond b (a ∷ those p l) (those p l)) ≡ None → (nth 0 (those p l) ≡ None → any p l ≡ false)
         → (b || any p l) ≡ false
     go true h ih = never_some (sym h)
     go false h ih = ih h
 
-one_passes : {A : Type 0} (p : A → Bool) (l : List A) {x : A} → nth 0 (those p l) ≡ some x → any p l ≡ true
+one_passes : {A : Type 0} (p : A → Bool) (l : List A) {x : A} → nth 0 (those p l) ≡ Some x → any p l ≡ true
 unfolding those any nth
 one_passes p [] h = never_some h
 one_passes p (a ∷ l) {x} h = go (p a) h (one_passes p l)
   where
-    go : (b : Bool) → nth 0 (cond b (a ∷ those p l) (those p l)) ≡ some x → (nth 0 (those p l) ≡ some x → any p l ≡ true)
+    go : (b : Bool) → nth 0 (cond b (a ∷ those p l) (those p l)) ≡ Some x → (nth 0 (those p l) ≡ Some x → any p l ≡ true)
         → (b || any p l) ≡ true
     go true h ih = refl
     go false h ih = ih h
 
-first_name : (l : List Element) {x : Element} → nth 0 l ≡ some x → get_or (each within_of l) 0 [] ≡ within_of x
+first_name : (l : List Element) {x : Element} → nth 0 l ≡ Some x → get_or (each within_of l) 0 [] ≡ within_of x
 unfolding nth each
 first_name [] h = never_some h
 first_name (a ∷ l) {x} h = let q : a ≡ x = cc in ap within_of q
@@ -66,21 +60,21 @@ module _ (key : ℤ) (e : Element) where
   unfolding table_keys
   among = any_each label_key (same_key key) (labels_of e)
 
-  agrees_none : {text : List ℕ} {f : Found} {o : Option Element} → Agrees text f o → f ≡ Nothing → o ≡ Option.none
+  agrees_none : {text : List ℕ} {f : Option ℕ} {o : Option Element} → Agrees text f o → f ≡ None → o ≡ None
   agrees_none not_there q = refl
   agrees_none (stands_there st) q = clash (cc)
 
-  agrees_some : {text : List ℕ} {f : Found} {o : Option Element} → Agrees text f o → {k : ℕ} → f ≡ At k
-      → (o ≡ some (the text k)) × Stands text k
+  agrees_some : {text : List ℕ} {f : Option ℕ} {o : Option Element} → Agrees text f o → {k : ℕ} → f ≡ Some k
+      → (o ≡ Some (the text k)) × Stands text k
   agrees_some not_there q = clash (cc)
-  agrees_some {text} (stands_there {k = j} st) {k} q = let s : j ≡ k = cc in (ap (λ n. some (the text n)) s, rw (← s) st)
+  agrees_some {text} (stands_there {k = j} st) {k} q = let s : j ≡ k = cc in (ap (λ n. Some (the text n)) s, rw (← s) st)
 
-  pub key_missing : {text : List ℕ} → Agrees text Nothing (nth 0 (labels_with key e)) → any (same_key key) (table_keys e) ≡ false
+  pub key_missing : {text : List ℕ} → Agrees text None (nth 0 (labels_with key e)) → any (same_key key) (table_keys e) ≡ false
   unfolding labels_with
   key_missing a = among ∙ none_pass (λ l. same_key key (label_key l)) (labels_of e) (agrees_none a refl)
 
   -- the name that is written, that the key is there, and that the Label stands
-  pub key_there : {text : List ℕ} {k : ℕ} → Agrees text (At k) (nth 0 (labels_with key e))
+  pub key_there : {text : List ℕ} {k : ℕ} → Agrees text (Some k) (nth 0 (labels_with key e))
       → (get_or (names_with key e) 0 [] ≡ within_of (the text k)) × (any (same_key key) (table_keys e) ≡ true) × Stands text k
   unfolding labels_with names_with
   key_there a =
@@ -97,18 +91,18 @@ unfolding walked thence
 walked_on [] v text at = refl
 walked_on (step p n ∷ w) v text at = go (child_at (λ k. p (the text k)) n text at) (λ k. walked_on w v text k)
   where
-    go : (r : Found) → ((k : ℕ) → walked (w ++ v) text k ≡ thence (walked v text) (walked w text k))
+    go : (r : Option ℕ) → ((k : ℕ) → walked (w ++ v) text k ≡ thence (walked v text) (walked w text k))
         → thence (walked (w ++ v) text) r ≡ thence (walked v text) (thence (walked w text) r)
-    go Nothing ih = refl
-    go (At k) ih = ih k
+    go None ih = refl
+    go (Some k) ih = ih k
 
-way_on : (w v : List WayStep) (text : List ℕ) {t : ℕ} → way_at w text ≡ At t → way_at (w ++ v) text ≡ walked v text t
+way_on : (w v : List WayStep) (text : List ℕ) {t : ℕ} → way_at w text ≡ Some t → way_at (w ++ v) text ≡ walked v text t
 unfolding way_at walked_from walked thence
 way_on w v text {t} h = go (root text) h
   where
-    go : (kid : Kid) → walked_from w text kid ≡ At t → walked_from (w ++ v) text kid ≡ walked v text t
-    go Done h = clash (cc)
-    go (Child r) h = walked_on w v text r ∙ ap (thence (walked v text)) h
+    go : (kid : Option ℕ) → walked_from w text kid ≡ Some t → walked_from (w ++ v) text kid ≡ walked v text t
+    go None h = clash (cc)
+    go (Some r) h = walked_on w v text r ∙ ap (thence (walked v text)) h
 
 -- where keys are in form, the Labels with the key are the children that the step asks for
 key_here_lem : {text : List ℕ} {k : ℕ} → Stands text k → numbers.key (attr "Key" (the text k)) ≡ true → key_here text k ≡ label_key (the text k)
@@ -150,6 +144,6 @@ module _ (key : ℤ) (text : List ℕ) where
       ∙ sym (thence_at (nth_place 0 (wanted (places_from text (first_child text t)))))
 
 pub label_way_lem : (text : List ℕ) (d i : ℕ) (key : ℤ) {t : ℕ} → Stands text t → keys_right (the text t) ≡ true
-    → way_at (table_way d i) text ≡ At t → {k : ℕ} → label_with key text t ≡ At k → way_at (label_way d i key) text ≡ At k
+    → way_at (table_way d i) text ≡ Some t → {k : ℕ} → label_with key text t ≡ Some k → way_at (label_way d i key) text ≡ Some k
 unfolding label_way
 label_way_lem text d i key {t} st f w q = way_on (table_way d i) (to_label key) text w ∙ sym (label_places key text st f) ∙ q

@@ -1,9 +1,7 @@
 -- What is proved of Names.
-use Rattle.std.specs.Prelude.{◌≡◌, List, [], ℤ, length, get_or, take, drop}
+use Rattle.std.specs.Prelude.{◌≡◌, List, [], ℤ, length, get_or, take, drop, Option, Some, None, ℕ}
 use Rattle.std.proofs.Math.Path.{refl, ap}
 use Rattle.std.proofs.Common.{sym, ◌∙◌, subst, arith, rules}
-use Rattle.std.proofs.Math.Option.{some}
-use Rattle.std.proofs.Math.Option
 use Prim.Native.Nat.{ℕ, zero, suc, ◌+◌, ◌-◌, ◌≤◌}
 use Rattle.lists.specs.Lists.{there}
 use Rattle.lists.specs.Refusals.{first}
@@ -15,8 +13,6 @@ use Rattle.steps.specs.Noted.{part}
 use Rattle.nodes.specs.Places.{the}
 use Rattle.nodes.specs.Inside.{between_tags}
 use Rattle.nodes.proofs.Laws.Inside.{within_law}
-use Rattle.nodes.specs.declared.Found.{Found}
-use Rattle.nodes.specs.declared.Found.TheVariants.{At, Nothing}
 use Rattle.cifti.specs.LabelTable.{labels_with}
 use Rattle.label_table.specs.Labels.{label_with}
 use Rattle.label_table.proofs.Laws.Told.{label_told}
@@ -40,18 +36,18 @@ use Rattle.label_reader.proofs.Laws.Labelled.{label_way_lem, key_missing, key_th
 use Rattle.label_reader.specs.Names.{LabelPlaced, InTable}
 
 -- (the key that a call is given is the key, as a number of 32 bits)
-module _ (text : List ℕ) (at : ℕ) (key : ℤ) (r : NamePlace) {given : ℤ} {f : Found} (call : f ≡ label_with given text at)
+module _ (text : List ℕ) (at : ℕ) (key : ℤ) (r : NamePlace) {given : ℤ} {f : Option ℕ} (call : f ≡ label_with given text at)
     (same_key_lem : given ≡ key) where
   q : f ≡ label_with key text at
   q = call ∙ ap (λ k. label_with k text at) same_key_lem
 
-  pub in_missing : f ≡ Nothing → r.number ≡ 19 → r.start ≡ 0 → r.length ≡ 0 → InTable text at key r
+  pub in_missing : f ≡ None → r.number ≡ 19 → r.start ≡ 0 → r.length ≡ 0 → InTable text at key r
   in_missing h a b c = record {
     missing = λ _. record { number_is = a; start_is = b; length_is = c };
     found = λ k e. (let o = q in clash (cc));
   }
 
-  pub in_found : {k : ℕ} → f ≡ At k → {l : List ℕ} → l ≡ between_tags text k → {s : ℕ} → s ≡ tag_end text k → r.number ≡ 0
+  pub in_found : {k : ℕ} → f ≡ Some k → {l : List ℕ} → l ≡ between_tags text k → {s : ℕ} → s ≡ tag_end text k → r.number ≡ 0
       → r.start ≡ s → r.length ≡ length l → InTable text at key r
   in_found {k} h w t a b c = record {
     missing = λ e. (let o = q in clash (cc));
@@ -84,11 +80,11 @@ module _ (text lengths : List ℕ) (d i : ℕ) (key : ℤ) where
   refused_so : (n : ℕ) → (n ≡ 0 → ⊥) → number_of ≡ n → {r : NamePlace} → Is r n 0 0 → LabelPlaced text lengths d i key r
   refused_so n k h = refused_by_lem k (numbered_by h) (part_by_lem n h (no_part n k))
 
-  part_zero : {e : Element} → parse text ≡ some e → get_or (labels_on d i key e) 0 [] ≡ label_by 0 d i key (parse text)
+  part_zero : {e : Element} → parse text ≡ Some e → get_or (labels_on d i key e) 0 [] ≡ label_by 0 d i key (parse text)
   unfolding label_by
   part_zero p = rw p
 
-  placed_so : {e : Element} {k : ℕ} → parse text ≡ some e → number_of ≡ 0 → way_at (label_way d i key) text ≡ At k
+  placed_so : {e : Element} {k : ℕ} → parse text ≡ Some e → number_of ≡ 0 → way_at (label_way d i key) text ≡ Some k
       → get_or (labels_on d i key e) 0 [] ≡ between_tags text k → {r : NamePlace} → Is r 0 (tag_end text k) (length (between_tags text k))
       → LabelPlaced text lengths d i key r
   placed_so p h f q = placed_by p f (numbered_by h) (part_by_lem 0 h (sym q ∙ part_zero p))
@@ -100,40 +96,40 @@ module _ (text lengths : List ℕ) (d i : ℕ) (key : ℤ) where
     label_refused k a b c =
         refused_so n k (kept_before text lengths d i k h _) (record { number_is = a; start_is = b; length_is = c })
 
-    module _ (z : n ≡ 0) {f : Found} (e : f ≡ named_at text (ascii "LabelTable") d i) where
+    module _ (z : n ≡ 0) {f : Option ℕ} (e : f ≡ named_at text (ascii "LabelTable") d i) where
       there_is : Tabled text lengths d i f
       there_is = table_at text lengths d i (sym z ∙ h) e
 
-      missing_so : {r : NamePlace} → Tabled text lengths d i Nothing → Is r 18 0 0 → LabelPlaced text lengths d i key r
+      missing_so : {r : NamePlace} → Tabled text lengths d i None → Is r 18 0 0 → LabelPlaced text lengths d i key r
       unfolding label_refusal
       missing_so (untabled t) s = refused_so 18 (λ y. omega arith) (t _) s
 
-      pub label_missing : f ≡ Nothing → {r : NamePlace} → r.number ≡ 18 → r.start ≡ 0 → r.length ≡ 0 → LabelPlaced text lengths d i key r
-      label_missing q a b c = missing_so (subst (λ (x : Found). Tabled text lengths d i x) q there_is)
+      pub label_missing : f ≡ None → {r : NamePlace} → r.number ≡ 18 → r.start ≡ 0 → r.length ≡ 0 → LabelPlaced text lengths d i key r
+      label_missing q a b c = missing_so (subst (λ (x : Option ℕ). Tabled text lengths d i x) q there_is)
           (record { number_is = a; start_is = b; length_is = c })
 
       module _ {t : ℕ} {r : NamePlace} (w : InTable text t key r) where
-        found_so : Tabled text lengths d i (At t) → LabelPlaced text lengths d i key r
+        found_so : Tabled text lengths d i (Some t) → LabelPlaced text lengths d i key r
         unfolding label_refusal no_key of_maps there first labels_refusals
         found_so (tabled {t} {e = x} p st g o s l way) = by (label_with key text t) refl (label_told key st (keys_in_form g))
           where
-            by : (j : Found) → label_with key text t ≡ j → Agrees text j (nth 0 (labels_with key (the text t)))
+            by : (j : Option ℕ) → label_with key text t ≡ j → Agrees text j (nth 0 (labels_with key (the text t)))
                 → LabelPlaced text lengths d i key r
-            by Nothing q a =
+            by None q a =
                 refused_so 19 (λ y. omega arith) (o _ ∙ rw (p, s, key_missing key (the text t) a) refl) (w.missing q)
-            by (At k) q a =
+            by (Some k) q a =
                 let (v, y, u) = key_there key (the text t) a in
                 placed_so p (o _ ∙ rw (p, s, y) refl) (label_way_lem text d i key st (keys_in_form g) way q)
                 (rw (l key, v) (sym (within_law u))) (w.found k q)
 
-        found_at : f ≡ At t → LabelPlaced text lengths d i key r
-        found_at q = found_so (subst (λ (x : Found). Tabled text lengths d i x) q there_is)
+        found_at : f ≡ Some t → LabelPlaced text lengths d i key r
+        found_at q = found_so (subst (λ (x : Option ℕ). Tabled text lengths d i x) q there_is)
 
-      pub label_found : {t : ℕ} {r : NamePlace} {given : ℤ} → InTable text t given r → given ≡ key → f ≡ At t
+      pub label_found : {t : ℕ} {r : NamePlace} {given : ℤ} → InTable text t given r → given ≡ key → f ≡ Some t
           → LabelPlaced text lengths d i key r
       label_found {t} {r} w same q = found_at (subst (λ (k : ℤ). InTable text t k r) same w) q
 
-pub ruleset naming-label = (label_refused, label_missing, label_found, rules)
+pub ruleset naming_label = (label_refused, label_missing, label_found, rules)
 
 -- ---- The doors that take their answer from the place.
 
@@ -154,7 +150,7 @@ module _ {text lengths : List ℕ} {d i : ℕ} {key : ℤ} {r : NamePlace} {give
       let n : r.length ≡ (r.start + r.length) - r.start = omega arith in
       subst (λ (m : ℕ). LabelPart text lengths d i key (take m (drop r.start text))) n p.named
 
-pub ruleset taking-label = (placed_number, placed_inside, placed_part, rules)
+pub ruleset taking_label = (placed_number, placed_inside, placed_part, rules)
 
 -- ---- ONE PLACE for every input.
 

@@ -1,11 +1,9 @@
 -- BEHIND 1 TO 9, 24 AND 25: what the walk to the table finds. Nothing: 18 is given, whatever rows follow; a place: none of those rows
 -- applies, and the table that stands there is the one whose keys and names are asked for.
-use Rattle.std.specs.Prelude.{◌≡◌, ℕ, ℤ, length}
+use Rattle.std.specs.Prelude.{◌≡◌, ℕ, ℤ, length, Option, Some, None}
 use Rattle.std.proofs.Math.Path.{refl, sym, ap}
 use Rattle.std.proofs.Common.{◌∙◌}
 use mathlib.Core.List.{List, [], ◌∷◌, ◌++◌, append_assoc}
-use Rattle.std.proofs.Math.Option.{Option, some}
-use Rattle.std.proofs.Math.Option
 use Rattle.lists.specs.Lists.{there}
 use Rattle.lists.specs.Refusals.{Refusal, ◌when◌, first, positive, NoneApplies}
 use Rattle.lists.proofs.Laws.Refusals.{first_kept, first_none, given_none, none_front}
@@ -13,8 +11,6 @@ use Rattle.grammar.specs.Bytes.{ascii}
 use Rattle.grammar.specs.Document.{Element}
 use Rattle.grammar.specs.Parser.{parse}
 use Rattle.nodes.specs.Places.{Stands, the}
-use Rattle.nodes.specs.declared.Found.{Found}
-use Rattle.nodes.specs.declared.Found.TheVariants.{At, Nothing}
 use Rattle.cifti.specs.LabelTable.{table_keys, names_with}
 use Rattle.cifti.specs.Rows.{label_table}
 use Rattle.cifti.specs.Maps.{maps_of}
@@ -51,11 +47,11 @@ module _ (text lengths : List ℕ) (d i : ℕ) where
   unfolding number_before
   kept_before {n} k h x = ap first (grouped x) ∙ first_kept (rows_before text lengths) (eighteen ++ x) n k (sym h)
 
-  pub data Tabled : Found → Type 0 where
-    untabled : ((x : List Refusal) → first (rows ++ x) ≡ 18) → Tabled Nothing
-    tabled : {t : ℕ} {e : Element} → parse text ≡ some e → Stands text t → Good label_table (the text t)
+  pub data Tabled : Option ℕ → Type 0 where
+    untabled : ((x : List Refusal) → first (rows ++ x) ≡ 18) → Tabled None
+    tabled : {t : ℕ} {e : Element} → parse text ≡ Some e → Stands text t → Good label_table (the text t)
         → ((x : List Refusal) → first (rows ++ x) ≡ first x) → keys_on d i (maps_of e) ≡ table_keys (the text t)
-        → ((k : ℤ) → labels_on d i k e ≡ names_with k (the text t)) → way_at (table_way d i) text ≡ At t → Tabled (At t)
+        → ((k : ℤ) → labels_on d i k e ≡ names_with k (the text t)) → way_at (table_way d i) text ≡ Some t → Tabled (Some t)
 
   module _ (h : 0 ≡ number_before text lengths) where
     none_before : NoneApplies (rows_before text lengths)
@@ -69,7 +65,7 @@ module _ (text lengths : List ℕ) (d i : ℕ) where
     document = fine lengths (length text) (parse text)
         (none_front (conditions_of_header lengths (length text) (parse text)) (conditions_of_labels (parse text)) none_before)
 
-    by_way : {f : Found} {o : Option Element} → way_at (table_way d i) text ≡ f → Agrees text f o → TableOf d i document.document o
+    by_way : {f : Option ℕ} {o : Option Element} → way_at (table_way d i) text ≡ f → Agrees text f o → TableOf d i document.document o
         → Tabled f
     unfolding of_maps there first
     by_way w not_there (no_table_lem q) = untabled (λ x. behind x ∙ rw (document.is, q) refl)
@@ -77,7 +73,7 @@ module _ (text lengths : List ℕ) (d i : ℕ) where
         tabled {t = k} {e = document.document} document.is st g (λ x. behind x ∙ rw (document.is, q) refl) s l w
 
     -- THE LAW
-    pub table_at : {f : Found} → f ≡ named_at text (ascii "LabelTable") d i → Tabled f
+    pub table_at : {f : Option ℕ} → f ≡ named_at text (ascii "LabelTable") d i → Tabled f
     unfolding table_way
     table_at {f} e =
         let so = e ∙ way_in_map_lem text "LabelTable" d i document.is in

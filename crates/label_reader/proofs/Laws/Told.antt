@@ -1,10 +1,8 @@
 -- THE KEYS, AND THE NAME OF A KEY, of every answer that the promises allow with number 0.
-use Rattle.std.specs.Prelude.{◌≡◌, true, false, ℕ, ◌<◌, ◌≤◌, eqb, ℤ, pos}
+use Rattle.std.specs.Prelude.{◌≡◌, true, false, ℕ, ◌<◌, ◌≤◌, eqb, ℤ, pos, Option, Some}
 use Rattle.std.proofs.Math.Path.{refl, ap}
 use Rattle.std.proofs.Common.{sym, ◌∙◌, subst, arith}
 use mathlib.Core.List.{List, [], ◌∷◌, ◌++◌}
-use Rattle.std.proofs.Math.Option.{Option, some}
-use Rattle.std.proofs.Math.Option
 use borrow.Author.Tests.{not-false}
 use Rattle.std.proofs.Math.ListN.{length, get_or, drop, get_or-append}
 use Rattle.lists.specs.Lists.{any, count, two_of, each, there}
@@ -40,24 +38,24 @@ none_back (n when b ∷ l) k (passed h) = none_back l k h
 
 -- number 0, of rows that begin with 1 to 9, 24, 25 and 18: the table is there, and no key stands twice in it
 data Tells (d i : ℕ) (e : Element) : Type 0 where
-  tells : {t : Element} → reached (table_way d i) e ≡ some t → keys_on d i (maps_of e) ≡ table_keys t
+  tells : {t : Element} → reached (table_way d i) e ≡ Some t → keys_on d i (maps_of e) ≡ table_keys t
       → ((k : ℤ) → labels_on d i k e ≡ names_with k t) → two_of same_key (table_keys t) ≡ false → Tells d i e
 
-module _ (lengths : List ℕ) (size d i : ℕ) (e : Element) (none : NoneApplies (labels_refusals lengths size d i (some e))) where
+module _ (lengths : List ℕ) (size d i : ℕ) (e : Element) (none : NoneApplies (labels_refusals lengths size d i (Some e))) where
   abbrev last : List Refusal
-  last = 18 when of_maps (no_table d i) (some e) ∷ []
+  last = 18 when of_maps (no_table d i) (Some e) ∷ []
 
-  header : NoneApplies (conditions_of_header lengths size (some e))
+  header : NoneApplies (conditions_of_header lengths size (Some e))
   unfolding labels_refusals
-  header = none_front (conditions_of_header lengths size (some e)) (conditions_of_labels (some e) ++ last) none
+  header = none_front (conditions_of_header lengths size (Some e)) (conditions_of_labels (Some e) ++ last) none
 
-  behind : NoneApplies (conditions_of_labels (some e) ++ last)
+  behind : NoneApplies (conditions_of_labels (Some e) ++ last)
   unfolding labels_refusals
-  behind = none_back (conditions_of_header lengths size (some e)) (conditions_of_labels (some e) ++ last) none
+  behind = none_back (conditions_of_header lengths size (Some e)) (conditions_of_labels (Some e) ++ last) none
 
   there_one : no_table d i (maps_of e) ≡ false
   unfolding of_maps there
-  there_one = row_fails (none_back (conditions_of_labels (some e)) last behind)
+  there_one = row_fails (none_back (conditions_of_labels (Some e)) last behind)
 
   not_twice : key_twice (maps_of e) ≡ false
   unfolding conditions_of_labels of_maps there
@@ -70,7 +68,7 @@ module _ (lengths : List ℕ) (size d i : ℕ) (e : Element) (none : NoneApplies
 
   told : Tells d i e
   told =
-      let f = fine lengths size (some e) header in
+      let f = fine lengths size (Some e) header in
       let p = f.is in
       let q : f.document ≡ e = cc in
       let u = listed_once lengths (maps_of e) (subst (λ (x : Element). dimensions_wrong lengths (maps_of x) ≡ false) q f.once) d in
@@ -80,17 +78,17 @@ module _ (lengths : List ℕ) (size d i : ℕ) (e : Element) (none : NoneApplies
 
 module _ {text lengths : List ℕ} {d i : ℕ} {keys : List ℤ} {count : ℕ} {after : List ℤ} (r : Keys text lengths d i keys 0 count after)
     {e : Element} (w : Writes e text) where
-  number : keys_refusal lengths (length text) d i (length keys) (some e) ≡ 0
+  number : keys_refusal lengths (length text) d i (length keys) (Some e) ≡ 0
   number = sym (answers_of r.numbered w)
 
-  keys_none : NoneApplies (labels_refusals lengths (length text) d i (some e))
+  keys_none : NoneApplies (labels_refusals lengths (length text) d i (Some e))
   unfolding keys_refusal labels_refusals conditions_of_header conditions_of_labels positive
   keys_none =
-      let short = 17 when of_maps (keys_short d i (length keys)) (some e) ∷ [] in
-      let before = labels_refusals lengths (length text) d i (some e) in
+      let short = 17 when of_maps (keys_short d i (length keys)) (Some e) ∷ [] in
+      let before = labels_refusals lengths (length text) d i (Some e) in
       none_front before short (given_none (before ++ short) refl number)
 
-  given : keys_given lengths (length text) d i (length keys) (some e) ≡ keys_on d i (maps_of e)
+  given : keys_given lengths (length text) d i (length keys) (Some e) ≡ keys_on d i (maps_of e)
   unfolding keys_given keys_by maps_in
   given = rw number refl
 
@@ -121,14 +119,14 @@ module _ {text lengths : List ℕ} {d i : ℕ} {keys : List ℤ} {count : ℕ} {
 
 module _ {text lengths : List ℕ} {d i : ℕ} {key : ℤ} {part : List ℕ} (n : LabelNumber text lengths d i key 0)
     (r : LabelPart text lengths d i key part) {e : Element} (w : Writes e text) where
-  label_number : label_refusal lengths (length text) d i key (some e) ≡ 0
+  label_number : label_refusal lengths (length text) d i key (Some e) ≡ 0
   label_number = sym (answers_of n.asked w)
 
   abbrev before : List Refusal
-  before = labels_refusals lengths (length text) d i (some e)
+  before = labels_refusals lengths (length text) d i (Some e)
 
   abbrev absent : List Refusal
-  absent = 19 when of_maps (no_key d i key) (some e) ∷ []
+  absent = 19 when of_maps (no_key d i key) (Some e) ∷ []
 
   all_none : NoneApplies (before ++ absent)
   unfolding label_refusal labels_refusals conditions_of_header conditions_of_labels positive

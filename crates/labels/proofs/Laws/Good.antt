@@ -1,7 +1,6 @@
 -- WHAT A GOOD LABELS MAP HOLDS: its NamedMaps are good, their LabelTables are, and so every Label has a key in form.
-use Rattle.std.specs.Prelude.{◌≡◌, refl, List, [], ◌∷◌, true, false}
+use Rattle.std.specs.Prelude.{◌≡◌, refl, List, [], ◌∷◌, true, false, Some}
 use Rattle.std.proofs.Common.{subst}
-use Rattle.std.proofs.Math.Option.{some}
 use Rattle.grammar.specs.Bytes.{ascii}
 use Rattle.grammar.specs.Document.{Element}
 use Rattle.grammar.specs.Look.{is, name_of, contents_of, elements, children}
@@ -41,7 +40,7 @@ name_table = refl
 table_kind : (e : Element) → GoodAs labelled_rows e → is "LabelTable" (name_of e) ≡ true → Good label_table e
 unfolding kind_of kind_by
 table_kind e (good_as {k} q g) n =
-    let at : some label_table ≡ some k = rw (not_both "LabelTable" "MapName" (name_of e) n name_table, n) at q in
+    let at : Some label_table ≡ Some k = rw (not_both "LabelTable" "MapName" (name_of e) n name_table, n) at q in
     let z : k ≡ label_table = cc in
     subst (λ (j : ElementKind). Good j e) z g
 

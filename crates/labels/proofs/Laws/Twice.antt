@@ -1,5 +1,5 @@
 -- What is proved of Twice.
-use Rattle.std.specs.Prelude.{◌≡◌, List, ◌∷◌, Bool, false, cond, ◌||◌, ◌&&◌, ℕ, ◌+◌, ◌≤◌, ◌<◌}
+use Rattle.std.specs.Prelude.{◌≡◌, List, ◌∷◌, Bool, false, cond, ◌||◌, ◌&&◌, ℕ, ◌+◌, ◌≤◌, ◌<◌, Option, Some, None}
 use Rattle.std.proofs.Math.Path.{refl, sym, ap}
 use Rattle.std.proofs.Common.{◌∙◌, rules}
 use Rattle.std.proofs.Math.Bool.{true}
@@ -13,8 +13,6 @@ use Rattle.numbers.specs.Numbers.{same_key}
 use Rattle.nodes.specs.Places.{Stands, the}
 use Rattle.nodes.specs.Children.{first_child, next}
 use Rattle.nodes.specs.Names.{named}
-use Rattle.nodes.specs.declared.Kid.{Kid}
-use Rattle.nodes.specs.declared.Kid.TheVariants.{Child, Done}
 use Rattle.inside.specs.Walked.{places_from}
 use Rattle.inside.proofs.Laws.Walked.{Stood, none, one, children_stood}
 use Rattle.inside.specs.Treads.{called}
@@ -38,20 +36,20 @@ use Rattle.labels.proofs.Laws.Good.{EachGood, no_good, also_good, good_named, go
 use Rattle.labels.specs.Twice.{children_from, some_child, named_twice, tables_twice, map_twice}
 
 -- a loop that is left at the first that passes
-pub record Asking (text word : List ℕ) (p : ℕ → Bool) (at : ℕ) (kid : Kid) : Type 0 where
+pub record Asking (text word : List ℕ) (p : ℕ → Bool) (at : ℕ) (kid : Option ℕ) : Type 0 where
   pub so_far : some_child text word p at ≡ any p (children_from text word kid)
 
-pub asking_start : (text word : List ℕ) (p : ℕ → Bool) (at : ℕ) {kid : Kid} → kid ≡ first_child text at → Asking text word p at kid
+pub asking_start : (text word : List ℕ) (p : ℕ → Bool) (at : ℕ) {kid : Option ℕ} → kid ≡ first_child text at → Asking text word p at kid
 unfolding some_child
 asking_start text w p at e = record { so_far = ap (λ k. any p (children_from text w k)) (sym e) }
 
-module _ {text word : List ℕ} {p : ℕ → Bool} {at : ℕ} {kid : Kid} (go : Asking text word p at kid) where
-  pub asking_done : kid ≡ Done → false ≡ some_child text word p at
+module _ {text word : List ℕ} {p : ℕ → Bool} {at : ℕ} {kid : Option ℕ} (go : Asking text word p at kid) where
+  pub asking_done : kid ≡ None → false ≡ some_child text word p at
   unfolding children_from any those
   asking_done e = sym (go.so_far ∙ ap (λ k. any p (children_from text word k)) e ∙ rw (places_done text) refl)
 
-  module _ {k : ℕ} (is_child : kid ≡ Child k) where
-    pub asking_less : {kid₁ : Kid} → kid₁ ≡ next text k → ahead text kid₁ < ahead text kid
+  module _ {k : ℕ} (is_child : kid ≡ Some k) where
+    pub asking_less : {kid₁ : Option ℕ} → kid₁ ≡ next text k → ahead text kid₁ < ahead text kid
     asking_less e = rw (e, is_child) (next_ahead text k)
 
     module _ {b : Bool} (q : b ≡ named text k word) where
@@ -62,7 +60,7 @@ module _ {text word : List ℕ} {p : ℕ → Bool} {at : ℕ} {kid : Kid} (go : 
           ∙ ap (λ t. any p (cond t (k ∷ children_from text word (next text k)) (children_from text word (next text k))))
           (sym (called_is text word k q))
 
-      pub asking_other : b ≡ false → {kid₁ : Kid} → kid₁ ≡ next text k → Asking text word p at kid₁
+      pub asking_other : b ≡ false → {kid₁ : Option ℕ} → kid₁ ≡ next text k → Asking text word p at kid₁
       asking_other f e = record { so_far = splits ∙ rw (f, e) refl }
 
       module _ (t : b ≡ true) {c : Bool} (h : c ≡ p k) where
@@ -70,7 +68,7 @@ module _ {text word : List ℕ} {p : ℕ → Bool} {at : ℕ} {kid : Kid} (go : 
         unfolding any
         asking_found y = sym (splits ∙ rw (t, sym h ∙ y) refl)
 
-        pub asking_missed : c ≡ false → {kid₁ : Kid} → kid₁ ≡ next text k → Asking text word p at kid₁
+        pub asking_missed : c ≡ false → {kid₁ : Option ℕ} → kid₁ ≡ next text k → Asking text word p at kid₁
         unfolding any
         asking_missed n e = record { so_far = splits ∙ rw (t, sym h ∙ n, e) refl }
 

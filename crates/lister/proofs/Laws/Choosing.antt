@@ -1,8 +1,6 @@
 -- The decision, from what the reader answers.
-use Rattle.std.specs.Prelude.{◌≡◌, refl, List, [], ◌∷◌, Bool, true, false, ◌||◌, not, ℕ, suc, ◌≤◌, ◌<◌, length, take, replicate}
+use Rattle.std.specs.Prelude.{◌≡◌, refl, List, [], ◌∷◌, Bool, true, false, ◌||◌, not, ℕ, suc, ◌≤◌, ◌<◌, length, take, replicate, Option, Some, None}
 use Rattle.std.proofs.Common.{sym, ap, ◌∙◌, arith, rules, le-leb}
-use Rattle.std.proofs.Math.Option.{Option, some}
-use Rattle.std.proofs.Math.Option
 use Rattle.std.proofs.lemmas.Bool.{lt-leb}
 use Rattle.std.proofs.Math.Dec.{eqb, ltb}
 use Rattle.grammar.specs.Bytes.{between}
@@ -31,7 +29,7 @@ module _ {text lengths records work : List ℕ} {a : Answer} {s v : List ℕ} (r
   unfolding refusal condition_words answer_by records_by answer_to records_after
   wrong_refuses h = record { answered = r.answered.answered ∙ rw h refl; kept = r.filled.answered ∙ rw h refl; cleared = r.cleared }
 
-no_document_lem : parse [] ≡ Option.none
+no_document_lem : parse [] ≡ None
 unfolding computing
 no_document_lem = refl
 
@@ -93,12 +91,12 @@ module _ {line buffer : List ℕ} {came : ℕ} {records work : List ℕ} where
   other_of : (o : Option (List ℕ)) → lengths_in line ≡ o → Other ≡ first_by o
       → Decides line buffer came records work (refused_with 1) records (replicate (length work) 0)
   unfolding first_by lengths_wrong
-  other_of Option.none e h = bad_form e
-  other_of (some []) e h = good_form e (bad_lengths refl)
-  other_of (some (a ∷ [])) e h = good_form e (bad_lengths refl)
-  other_of (some (a ∷ b ∷ [])) e h = clash (cc)
-  other_of (some (a ∷ b ∷ c ∷ [])) e h = clash (cc)
-  other_of (some (a ∷ b ∷ c ∷ d ∷ l)) e h =
+  other_of None e h = bad_form e
+  other_of (Some []) e h = good_form e (bad_lengths refl)
+  other_of (Some (a ∷ [])) e h = good_form e (bad_lengths refl)
+  other_of (Some (a ∷ b ∷ [])) e h = clash (cc)
+  other_of (Some (a ∷ b ∷ c ∷ [])) e h = clash (cc)
+  other_of (Some (a ∷ b ∷ c ∷ d ∷ l)) e h =
       good_form e (bad_lengths (many (length l) (any (λ n. eqb n 0 || ltb 1048576 n) (a ∷ b ∷ c ∷ d ∷ l))))
 
   module _ {f : FirstLine} (told : f ≡ first_by (lengths_in line)) {a : Answer} {s v : List ℕ} where

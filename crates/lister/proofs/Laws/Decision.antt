@@ -1,8 +1,7 @@
 -- The decision leaves one answer, and one content of each slice lent. (Of `first_line`, whose promise is an equation, `one_answer` of
 -- numbers says it.) A first line of more than 24 bytes is refused with 1, whatever it says.
-use Rattle.std.specs.Prelude.{◌≡◌, refl, List, true, ℕ, ◌<◌, leb, length}
+use Rattle.std.specs.Prelude.{◌≡◌, refl, List, true, ℕ, ◌<◌, leb, length, Option, Some}
 use Rattle.std.proofs.Common.{sym, ◌∙◌, arith}
-use Rattle.std.proofs.Math.Option.{Option, some}
 use Rattle.std.proofs.lemmas.Bool.{lt-leb}
 use Rattle.lists.proofs.Laws.Booleans.{and_false, both_ways, never_some}
 use Rattle.cifti.specs.Conditions.{lengths_wrong}
@@ -26,7 +25,7 @@ module _ {lengths buffer : List ℕ} {came : ℕ} {records work : List ℕ} wher
   chooses_unique (as_read h n q) (too_long k m) = absurd (omega arith)
   chooses_unique (as_read h n q) (as_read k m r) = reads_unique q r
 
-one : {l k : List ℕ} {o : Option (List ℕ)} → o ≡ some l → o ≡ some k → l ≡ k
+one : {l k : List ℕ} {o : Option (List ℕ)} → o ≡ Some l → o ≡ Some k → l ≡ k
 one p q = cc
 
 module _ {line buffer : List ℕ} {came : ℕ} {records work : List ℕ} where
@@ -57,5 +56,5 @@ wrong_count : (l : List ℕ) → 3 < length l → lengths_wrong l ≡ true
 unfolding lengths_wrong
 wrong_count l h = rw (lt-leb (length l) 3 h, and_false (leb 2 (length l))) refl
 
-pub long_line : (line lengths : List ℕ) → 24 < length line → lengths_in line ≡ some lengths → lengths_wrong lengths ≡ true
+pub long_line : (line lengths : List ℕ) → 24 < length line → lengths_in line ≡ Some lengths → lengths_wrong lengths ≡ true
 long_line line lengths h e = wrong_count lengths (many_lengths line h e)

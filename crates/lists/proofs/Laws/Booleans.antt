@@ -1,7 +1,6 @@
 -- WHAT IS KNOWN OF `and` AND `or`, each fact once, under one name.
-use Rattle.std.specs.Prelude.{◌≡◌, refl, Bool, true, false, ◌&&◌, ◌||◌, not, ℕ}
+use Rattle.std.specs.Prelude.{◌≡◌, refl, Bool, true, false, ◌&&◌, ◌||◌, not, ℕ, Option, Some, None}
 use Rattle.std.proofs.Common.{sym, ◌∙◌, true≢false, arith}
-use Rattle.std.proofs.Math.Option.{Option, some}
 use Rattle.std.proofs.lemmas.Bool.{false≢true}
 
 -- ---- What follows from a test that holds.
@@ -112,5 +111,5 @@ pub clash : {A : Type 0} → ◌≡◌ {A = ℕ} 0 1 → A
 clash h = absurd (omega arith)
 
 -- nothing is something
-pub never_some : {A : Type 0} {a : A} {P : Type 0} → ◌≡◌ {A = Option A} Option.none (some a) → P
+pub never_some : {A : Type 0} {a : A} {P : Type 0} → ◌≡◌ {A = Option A} None (Some a) → P
 never_some h = absurd (let z : ◌≡◌ {A = ℕ} 0 1 = cc in omega arith)

@@ -1,7 +1,6 @@
 -- What is proved of Ranges.
-use Rattle.std.specs.Prelude.{◌≡◌, refl, List, [], ◌∷◌, Bool, true, false, cond, length, get_or}
+use Rattle.std.specs.Prelude.{◌≡◌, refl, List, [], ◌∷◌, Bool, true, false, cond, length, get_or, Some, None}
 use Rattle.std.proofs.Common.{sym, ap, ◌∙◌, subst, le_of_suc-le-suc, not-suc-le-zero, arith}
-use Rattle.std.proofs.Math.Option.{Option, some}
 use Prim.Native.Nat.{ℕ, zero, suc, ◌+◌, ◌-◌, ◌<◌, ◌≤◌}
 use Rattle.std.proofs.Math.Decide.{dec_lt}
 use Rattle.std.proofs.Math.Dec.{eqb}
@@ -42,12 +41,12 @@ record Begins (l : List Range) (c : ℕ) (r : Range) : Type 0 where
   stands : get_or l place nowhere ≡ r
   held : (i : ℕ) → c ≤ i → i < c + r.size → 1 ≤ count (in_range i) l
 
-begins : (l : List Range) (c : ℕ) (r : Range) → Counting (λ (x : Range). x.size) l → begins_at c l ≡ some r → Begins l c r
+begins : (l : List Range) (c : ℕ) (r : Range) → Counting (λ (x : Range). x.size) l → begins_at c l ≡ Some r → Begins l c r
 unfolding begins_at count
 begins [] c r n h = never_some h
 begins (x ∷ l) c r (one_counts one more) h = go (eqb x.offset c) refl h (begins l c r more)
   where
-    go : (b : Bool) → eqb x.offset c ≡ b → cond b (some x) (begins_at c l) ≡ some r → (begins_at c l ≡ some r → Begins l c r)
+    go : (b : Bool) → eqb x.offset c ≡ b → cond b (Some x) (begins_at c l) ≡ Some r → (begins_at c l ≡ Some r → Begins l c r)
         → Begins (x ∷ l) c r
     go true e k ih =
         let q : x ≡ r = cc in
@@ -73,14 +72,14 @@ begins (x ∷ l) c r (one_counts one more) h = go (eqb x.offset c) refl h (begin
           held = λ i u v. (let w = b.held i u v in omega arith);
         }
 
-none_begins : (l : List Range) (c : ℕ) → begins_at c l ≡ Option.none → (i : ℕ) → i < length l → (get_or l i nowhere).offset ≡ c → ⊥
+none_begins : (l : List Range) (c : ℕ) → begins_at c l ≡ None → (i : ℕ) → i < length l → (get_or l i nowhere).offset ≡ c → ⊥
 unfolding begins_at
 none_begins [] c h i u e = not-suc-le-zero u
 none_begins (x ∷ l) c h i u e = go (eqb x.offset c) refl h i u e (none_begins l c)
   where
-    go : (t : Bool) → eqb x.offset c ≡ t → cond t (some x) (begins_at c l) ≡ Option.none → (i : ℕ) → i < length (x ∷ l)
+    go : (t : Bool) → eqb x.offset c ≡ t → cond t (Some x) (begins_at c l) ≡ None → (i : ℕ) → i < length (x ∷ l)
         → (get_or (x ∷ l) i nowhere).offset ≡ c
-        → (begins_at c l ≡ Option.none → (i : ℕ) → i < length l → (get_or l i nowhere).offset ≡ c → ⊥) → ⊥
+        → (begins_at c l ≡ None → (i : ℕ) → i < length l → (get_or l i nowhere).offset ≡ c → ⊥) → ⊥
     go true q k i u e ih = never_some (sym k)
     go false q k zero u e ih = both_ways (eq-eqb x.offset c e) q
     go false q k (suc i) u e ih = ih k i (le_of_suc-le-suc u) e
@@ -111,10 +110,10 @@ module _ (l : List Range) (counting : Counting (λ (x : Range). x.size) l) where
       omega arith
 
   -- nor stop before it
-  goes_on : tiling l ≡ true → {c : ℕ} → Chain l c → c < total (λ x. x.size) l → begins_at c l ≡ Option.none → ⊥
+  goes_on : tiling l ≡ true → {c : ℕ} → Chain l c → c < total (λ x. x.size) l → begins_at c l ≡ None → ⊥
   goes_on t {c} k u none = go ((count_one_iff nowhere (in_range c) l).0 (once_of t c u)) k none u
     where
-      go : {c : ℕ} → OnePlace nowhere (in_range c) l → Chain l c → begins_at c l ≡ Option.none → c < total (λ x. x.size) l → ⊥
+      go : {c : ℕ} → OnePlace nowhere (in_range c) l → Chain l c → begins_at c l ≡ None → c < total (λ x. x.size) l → ⊥
       go {c} (i, p, q, w) start none u =
           let (x, y) = range_in 0 (get_or l i nowhere) q in
           none_begins l 0 none i p (omega arith)
@@ -147,6 +146,6 @@ module _ (l : List Range) (counting : Counting (λ (x : Range). x.size) l) where
   unfolding sum_of
   chain_past k h = refute (tiling l) (λ t. (let w = within_sum t k in omega arith))
 
-  pub chain_stops : {c : ℕ} → Chain l c → c < sum_of l → begins_at c l ≡ Option.none → tiling l ≡ false
+  pub chain_stops : {c : ℕ} → Chain l c → c < sum_of l → begins_at c l ≡ None → tiling l ≡ false
   unfolding sum_of
   chain_stops k h none = refute (tiling l) (λ t. goes_on t k h none)

@@ -1,7 +1,6 @@
 -- THE NAMES OF A GOOD MAP: one of scalars or labels holds as many as it has NamedMaps, each with one MapName; no other map has a NamedMap.
-use Rattle.std.specs.Prelude.{◌≡◌, refl, List, [], ◌∷◌, Bool, true, false, cond, ◌&&◌, ◌||◌, ℕ, ltb, length, replicate}
+use Rattle.std.specs.Prelude.{◌≡◌, refl, List, [], ◌∷◌, Bool, true, false, cond, ◌&&◌, ◌||◌, ℕ, ltb, length, replicate, Some, None}
 use Rattle.std.proofs.Common.{sym, ◌∙◌, subst, arith, eqb-true, le-ltb}
-use Rattle.std.proofs.Math.Option.{Option, some}
 use Prim.Native.String.{String}
 use Rattle.lists.specs.Lists.{all, count, each, those}
 use Rattle.lists.proofs.Laws.Booleans.{never_some, and_left}
@@ -54,7 +53,7 @@ pub named_kind : (k : ElementKind) (e : Element) → GoodAs (named_of k) e → (
 unfolding kind_of kind_by
 named_kind k e (good_as {k = j} q g) = go (is "NamedMap" (name_of e)) refl q
   where
-    go : (b : Bool) → is "NamedMap" (name_of e) ≡ b → cond b (some k) Option.none ≡ some j
+    go : (b : Bool) → is "NamedMap" (name_of e) ≡ b → cond b (Some k) None ≡ Some j
         → (is "NamedMap" (name_of e) ≡ true) × Good k e
     go true p r = let z : j ≡ k = cc in (p, subst (λ (i : ElementKind). Good i e) z g)
     go false p r = never_some r

@@ -1,8 +1,7 @@
 -- What is proved of Placed.
-use Rattle.std.specs.Prelude.{◌≡◌, List, [], ◌∷◌, Bool, false, length, get_or, take, drop}
+use Rattle.std.specs.Prelude.{◌≡◌, List, [], ◌∷◌, Bool, false, length, get_or, take, drop, Option, Some, ℕ, None}
 use Rattle.std.proofs.Math.Path.{refl, sym, ap}
 use Rattle.std.proofs.Common.{◌∙◌, subst, arith, length-drop, length-take-le}
-use Rattle.std.proofs.Math.Option.{Option, some}
 use Prim.Native.Nat.{ℕ, zero, suc, ◌+◌, ◌≤◌}
 use Rattle.std.proofs.Math.Decide.{ℕ_discrete}
 use Rattle.std.proofs.lemmas.Bool.{not-false}
@@ -14,8 +13,6 @@ use Rattle.grammar.specs.Document.{Element}
 use Rattle.grammar.specs.Parser.{parse}
 use Rattle.nodes.specs.Inside.{between_tags}
 use Rattle.nodes.proofs.Laws.Inside.{within_law}
-use Rattle.nodes.specs.declared.Found.{Found}
-use Rattle.nodes.specs.declared.Found.TheVariants.{At}
 use Rattle.cifti.specs.Conditions.{conditions_of_header, of_maps, shape_wrong, number_wrong, no_document, dimensions_wrong, length_wrong}
 use Rattle.cifti.specs.Maps.{maps_of}
 use Rattle.cifti.specs.Names.{no_name, name_refusal, names_on, part_by, name_part, NameNumber, NamePart}
@@ -40,15 +37,15 @@ use Rattle.map_names.specs.Placed.{PlacedBy, NamePlaced}
 
 pub record Fine (lengths : List ℕ) (o : Option Element) : Type 0 where
   pub document : Element
-  pub is : o ≡ some document
+  pub is : o ≡ Some document
   pub good : Good cifti document
   pub once : dimensions_wrong lengths (maps_of document) ≡ false
   pub agree : length_wrong lengths (maps_of document) ≡ false
 
 pub fine : (lengths : List ℕ) (size : ℕ) (o : Option Element) → NoneApplies (conditions_of_header lengths size o) → Fine lengths o
 unfolding conditions_of_header no_document is_some there shape_wrong number_wrong of_maps
-fine lengths size Option.none h = both_ways refl (row_fails (rows_behind (rows_behind h)))
-fine lengths size (some e) h =
+fine lengths size None h = both_ways refl (row_fails (rows_behind (rows_behind h)))
+fine lengths size (Some e) h =
     let six = rows_behind (rows_behind (rows_behind (rows_behind (rows_behind h)))) in
     let seven = rows_behind six in
     record {
@@ -75,7 +72,7 @@ module _ {Number : ℕ → Type 0} {Part : List ℕ → Type 0} {way : List WayS
         refused = λ _. (b, c);
       }
 
-  pub placed_by : {e : Element} {k : ℕ} → parse text ≡ some e → way_at way text ≡ At k → Number 0 → Part (between_tags text k)
+  pub placed_by : {e : Element} {k : ℕ} → parse text ≡ Some e → way_at way text ≡ Some k → Number 0 → Part (between_tags text k)
       → {r : NamePlace} → Is r 0 (tag_end text k) (length (between_tags text k)) → PlacedBy Number Part way text r
   placed_by {e} {k} p f m l {r} s =
       let here = place_found way p f in
@@ -134,25 +131,25 @@ module _ (text lengths : List ℕ) (d i : ℕ) where
       → NamePlaced text lengths d i r
   refused_so n k h = refused_by_lem k (numbered_by h) (part_by_lem n h (no_part n k))
 
-  part_zero : {e : Element} → parse text ≡ some e → get_or (names_on d e) i [] ≡ part_by 0 d i (parse text)
+  part_zero : {e : Element} → parse text ≡ Some e → get_or (names_on d e) i [] ≡ part_by 0 d i (parse text)
   unfolding part_by
   part_zero p = rw p
 
-  placed_so : {e : Element} {k : ℕ} → parse text ≡ some e → name_refusal lengths (length text) d i (parse text) ≡ 0
-      → way_at (name_way d i) text ≡ At k → get_or (names_on d e) i [] ≡ between_tags text k
+  placed_so : {e : Element} {k : ℕ} → parse text ≡ Some e → name_refusal lengths (length text) d i (parse text) ≡ 0
+      → way_at (name_way d i) text ≡ Some k → get_or (names_on d e) i [] ≡ between_tags text k
       → {r : NamePlace} → Is r 0 (tag_end text k) (length (between_tags text k)) → NamePlaced text lengths d i r
   placed_so p h f q = placed_by p f (numbered_by h) (part_by_lem 0 h (sym q ∙ part_zero p))
 
   -- 18, behind the conditions before it
-  eighteen : {e : Element} {b : Bool} → NoneApplies (conditions_of_header lengths (length text) (parse text)) → parse text ≡ some e
+  eighteen : {e : Element} {b : Bool} → NoneApplies (conditions_of_header lengths (length text) (parse text)) → parse text ≡ Some e
       → no_name d i (maps_of e) ≡ b
       → name_refusal lengths (length text) d i (parse text) ≡ first (18 when b ∷ [])
   unfolding name_refusal of_maps there
   eighteen h p q = first_none h (18 when of_maps (no_name d i) (parse text) ∷ []) ∙ rw (p, q)
 
-  by_way : {e : Element} {r : NamePlace} → NoneApplies (conditions_of_header lengths (length text) (parse text)) → parse text ≡ some e
+  by_way : {e : Element} {r : NamePlace} → NoneApplies (conditions_of_header lengths (length text) (parse text)) → parse text ≡ Some e
       → Answered text 0 d i r
-      → {f : Found} {o : Option Element} → way_at (name_way d i) text ≡ f → Agrees text f o → NameOf d i e o → NamePlaced text lengths d i r
+      → {f : Option ℕ} {o : Option Element} → way_at (name_way d i) text ≡ f → Agrees text f o → NameOf d i e o → NamePlaced text lengths d i r
   unfolding first
   by_way h p a w not_there (no_name_lem q) =
       refused_so 18 (λ z. omega arith) (eighteen h p q) (a.missing refl (name_way_lem text d i p ∙ w))

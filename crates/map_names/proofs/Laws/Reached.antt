@@ -1,10 +1,9 @@
 -- THE WAY REACHES THE NAME OF THE DOCUMENT, where 6, 7 and 8 do not apply: nothing exactly where 18 applies,
 -- and else the element that the name is written in. The same is said of any child that a NamedMap has once.
-use Rattle.std.specs.Prelude.{◌≡◌, Bool, cond, not, ◌&&◌, eqb, ltb}
+use Rattle.std.specs.Prelude.{◌≡◌, Bool, cond, not, ◌&&◌, eqb, ltb, Option, Some, None}
 use Rattle.std.proofs.Math.Path.{refl, ap}
 use Rattle.std.proofs.Common.{◌∙◌, arith}
 use mathlib.Core.List.{List, [], ◌∷◌, append-nil}
-use Rattle.std.proofs.Math.Option.{Option, some}
 use Rattle.std.proofs.Math.Bool.{true, false}
 use Prim.Native.Nat.{ℕ, zero, suc, ◌+◌, ◌≤◌, ◌<◌}
 use Prim.Native.String.{String}
@@ -89,14 +88,14 @@ module _ {A : Type 0} (s : String) (f : Element → A) (z : A) (held : ℕ → M
   told_of e = told_in (children "NamedMap" e)
 
   data InNamed (i : ℕ) (l : List Element) : Option Element → Type 0 where
-    past_all : length l ≤ i → InNamed i l Option.none
-    in_one : {x : Element} → i < length l → i < length (told_in l) → get_or (told_in l) i z ≡ f x → InNamed i l (some x)
+    past_all : length l ≤ i → InNamed i l None
+    in_one : {x : Element} → i < length l → i < length (told_in l) → get_or (told_in l) i z ≡ f x → InNamed i l (Some x)
 
   told_one : (e x : Element) (l : List Element) → children s e ≡ x ∷ [] → told_in (e ∷ l) ≡ f x ∷ told_in l
   unfolding told_in each_in each
   told_one e x l h = rw h refl
 
-  child_reached : (e x : Element) → children s e ≡ x ∷ [] → reached the_child e ≡ some x
+  child_reached : (e x : Element) → children s e ≡ x ∷ [] → reached the_child e ≡ Some x
   unfolding reached onward nth children of_name
   child_reached e x h = rw h refl
 
@@ -118,8 +117,8 @@ module _ {A : Type 0} (s : String) (f : Element → A) (z : A) (held : ℕ → M
           in_one (omega arith) (omega arith) (ap (λ w. get_or w (suc i) z) t ∙ q)
 
   pub data OnMap (i : ℕ) (e : Element) : Option Element → Type 0 where
-    not_held : held i (map_of e) ≡ false → OnMap i e Option.none
-    held_there : {x : Element} → held i (map_of e) ≡ true → i < length (told_of e) → get_or (told_of e) i z ≡ f x → OnMap i e (some x)
+    not_held : held i (map_of e) ≡ false → OnMap i e None
+    held_there : {x : Element} → held i (map_of e) ≡ true → i < length (told_of e) → get_or (told_of e) i z ≡ f x → OnMap i e (Some x)
 
   -- a map whose NamedMaps have one such child each, and which holds as many
   pub on_map : (i : ℕ) {e : Element} → Named s (children "NamedMap" e)
@@ -146,9 +145,9 @@ module _ {A : Type 0} (s : String) (f : Element → A) (z : A) (held : ℕ → M
       rw (a, b)
 
   data InMaps (d i : ℕ) (l : List Element) : Option Element → Type 0 where
-    in_none : held_on d i (each map_of l) ≡ false → InMaps d i l Option.none
+    in_none : held_on d i (each map_of l) ≡ false → InMaps d i l None
     in_some : {x : Element} → held_on d i (each map_of l) ≡ true → get_or (each_in told_of (those (lists_it d) l)) i z ≡ f x
-        → InMaps d i l (some x)
+        → InMaps d i l (Some x)
 
   module _ (d i : ℕ) where
     -- of the maps behind, none lists it
@@ -224,9 +223,9 @@ root_step s d i e o = rw (o.alone, o.name)
 -- THE LAW: what the maps of the document hold, and what the way reaches
 module _ {A : Type 0} (s : String) (f : Element → A) (z : A) (held : ℕ → Map → Bool) (d i : ℕ) where
   pub data FoundIn (e : Element) : Option Element → Type 0 where
-    none_held : held_on s f z held d i (maps_of e) ≡ false → FoundIn e Option.none
+    none_held : held_on s f z held d i (maps_of e) ≡ false → FoundIn e None
     one_held : {x : Element} → held_on s f z held d i (maps_of e) ≡ true
-        → get_or (each_in (told_of s f z held) (those (lists_it d) (map_elements e))) i z ≡ f x → FoundIn e (some x)
+        → get_or (each_in (told_of s f z held) (those (lists_it d) (map_elements e))) i z ≡ f x → FoundIn e (Some x)
 
   told : (e : Element) {l : List Element} → map_elements e ≡ l → {o : Option Element} → InMaps s f z held d i l o → FoundIn e o
   unfolding maps_of
@@ -245,8 +244,8 @@ module _ {A : Type 0} (s : String) (f : Element → A) (z : A) (held : ℕ → M
 
 -- what the paper says of the name, and what the way reaches
 pub data NameOf (d i : ℕ) (e : Element) : Option Element → Type 0 where
-  no_name_lem : no_name d i (maps_of e) ≡ true → NameOf d i e Option.none
-  a_name : {x : Element} → no_name d i (maps_of e) ≡ false → get_or (names_on d e) i [] ≡ within_of x → NameOf d i e (some x)
+  no_name_lem : no_name d i (maps_of e) ≡ true → NameOf d i e None
+  a_name : {x : Element} → no_name d i (maps_of e) ≡ false → get_or (names_on d e) i [] ≡ within_of x → NameOf d i e (Some x)
 
 name_by : (d i : ℕ) (e : Element) {o : Option Element} → FoundIn "MapName" within_of [] holds_name d i e o → NameOf d i e o
 unfolding no_name names_on told_of told_in

@@ -19,8 +19,8 @@ behind_tag-requires c = search answering
 pub enum_told-1 : goal.enum_told-1
 enum_told-1 c = search answering
 
-pub returns-in-At : goal.returns-in-At
-returns-in-At c = search answering
+pub returns-in-Some : goal.returns-in-Some
+returns-in-Some c = search answering
 
-pub returns-in-Nothing : goal.returns-in-Nothing
-returns-in-Nothing c = search answering
+pub returns-in-None : goal.returns-in-None
+returns-in-None c = search answering

@@ -1,5 +1,5 @@
 -- What is proved of Digits.
-use Rattle.std.specs.Prelude.{◌≡◌, List, [], ℕ, ◌+◌, min, eqb, replicate}
+use Rattle.std.specs.Prelude.{◌≡◌, List, [], ℕ, ◌+◌, min, eqb, replicate, Option, Some, None}
 use Rattle.std.proofs.Common.{sym, ap, ◌∙◌, rules}
 use Rattle.lists.specs.Lists.{count}
 use Rattle.grammar.specs.Bytes.{ascii}
@@ -8,8 +8,6 @@ use Rattle.grammar.specs.Look.{Word, attr}
 use Rattle.nodes.specs.Places.{the}
 use Rattle.nodes.specs.Attributes.{place}
 use Rattle.nodes.specs.Values.{value_there}
-use Rattle.nodes.specs.declared.Found.{Found}
-use Rattle.nodes.specs.declared.Found.TheVariants.{At, Nothing}
 use Rattle.cifti.specs.Maps.{dimensions_of}
 use Rattle.maps.proofs.Laws.MapKind.{map_dimensions}
 use Rattle.maps.specs.MapKind.{GoodMap}
@@ -35,14 +33,14 @@ tells_by e g w h l = record {
   tells = λ d u. (l.each_is d u ∙ ap (λ x. min 2 (count (eqb (d + 48)) x)) h ∙ ap (min 2) (sym (dimension_count e d g)));
 }
 
-module _ {text : List ℕ} {at : ℕ} (m : MapAt text at) {f : Found} (e : f ≡ place text at (ascii "AppliesToMatrixDimension")) where
-  pub dimensions_there : {v : ℕ} → f ≡ At v → {r : Dims} → CountsDigits (value_there text v) r
+module _ {text : List ℕ} {at : ℕ} (m : MapAt text at) {f : Option ℕ} (e : f ≡ place text at (ascii "AppliesToMatrixDimension")) where
+  pub dimensions_there : {v : ℕ} → f ≡ Some v → {r : Dims} → CountsDigits (value_there text v) r
       → CountsNumbers (dimensions_of (the text at)) r
   dimensions_there {v} h l = tells_by (the text at) m.good (value_there text v)
       (found_value (ascii "AppliesToMatrixDimension") m.stands e h) l
 
-  pub dimensions_missing : f ≡ Nothing → (r : Dims) → r.has ≡ replicate 10 0 → CountsNumbers (dimensions_of (the text at)) r
+  pub dimensions_missing : f ≡ None → (r : Dims) → r.has ≡ replicate 10 0 → CountsNumbers (dimensions_of (the text at)) r
   dimensions_missing h r z = tells_by (the text at) m.good [] (sym (found_none (ascii "AppliesToMatrixDimension") m.stands e h))
       (none_yet r z)
 
-pub ruleset digits-of-map = (dimensions_there, dimensions_missing, rules)
+pub ruleset digits_of_map = (dimensions_there, dimensions_missing, rules)

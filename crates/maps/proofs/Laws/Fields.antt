@@ -1,10 +1,8 @@
 -- What is proved of Fields.
-use Rattle.std.specs.Prelude.{◌≡◌, Bool, true, ℕ}
+use Rattle.std.specs.Prelude.{◌≡◌, Bool, true, ℕ, Option, Some, None}
 use Rattle.std.proofs.Math.Path.{refl, sym, ap}
 use Rattle.std.proofs.Common.{◌∙◌, rules}
 use mathlib.Core.List.{List, []}
-use Rattle.std.proofs.Math.Option.{Option, some}
-use Rattle.std.proofs.Math.Option
 use Prim.Native.String.{String}
 use Rattle.grammar.specs.Bytes.{ascii}
 use Rattle.grammar.specs.Document.{Element}
@@ -19,11 +17,7 @@ use Rattle.nodes.specs.Values.{value_there}
 use Rattle.nodes.proofs.Laws.NextBytes.{value_law}
 use Rattle.nodes.specs.Found.{value_at_name}
 use Rattle.nodes.proofs.Laws.Found.{found_law}
-use Rattle.nodes.specs.declared.Found.{Found}
-use Rattle.nodes.specs.declared.Found.TheVariants.{At, Nothing}
 use Rattle.numbers.specs.Answers.{whole_in}
-use Rattle.numbers.specs.declared.Whole.{Whole}
-use Rattle.numbers.specs.declared.Whole.TheVariants.{Is, No}
 use Rattle.maps.specs.Fields.{attribute_word, or_zero, number_seen}
 
 pub word_at : (s : String) (e : Element) → attribute_word (ascii s) e ≡ attr s e
@@ -36,35 +30,35 @@ unfolding number_seen whole_in or_zero
 number_seen_lem lo hi w h = rw h
 
 -- what stands where the attribute was found
-module _ {text : List ℕ} {at : ℕ} (w : List ℕ) (st : Stands text at) {f : Found} (e : f ≡ place text at w) where
-  pub found_value : {v : ℕ} → f ≡ At v → value_there text v ≡ attribute_word w (the text at)
+module _ {text : List ℕ} {at : ℕ} (w : List ℕ) (st : Stands text at) {f : Option ℕ} (e : f ≡ place text at w) where
+  pub found_value : {v : ℕ} → f ≡ Some v → value_there text v ≡ attribute_word w (the text at)
   unfolding attribute_word or_empty
   found_value {v} h = go (lookup w (attributes_of (the text at))) (rw (sym e ∙ h) at (attribute_law w st))
     where
-      go : (o : Option Word) → Held text (At v) o → value_there text v ≡ or_empty o
-      go Option.none x' = elim x' [ ]
-      go (some x) (held k) = value_law k
+      go : (o : Option Word) → Held text (Some v) o → value_there text v ≡ or_empty o
+      go None x' = elim x' [ ]
+      go (Some x) (held k) = value_law k
 
-  pub found_none : f ≡ Nothing → attribute_word w (the text at) ≡ []
+  pub found_none : f ≡ None → attribute_word w (the text at) ≡ []
   unfolding attribute_word or_empty
   found_none h = go (lookup w (attributes_of (the text at))) (rw (sym e ∙ h) at (attribute_law w st))
     where
-      go : (o : Option Word) → Held text Nothing o → or_empty o ≡ []
-      go (some _) x'' = elim x'' [ ]
-      go Option.none missing = refl
+      go : (o : Option Word) → Held text None o → or_empty o ≡ []
+      go (Some _) x'' = elim x'' [ ]
+      go None missing = refl
 
   -- the paths of `attribute_number`
-  pub seen_is : (lo hi : ℕ) {v n : ℕ} {a : Whole} → f ≡ At v → a ≡ whole_in lo hi (value_there text v) → a ≡ Is n
+  pub seen_is : (lo hi : ℕ) {v n : ℕ} {a : Option ℕ} → f ≡ Some v → a ≡ whole_in lo hi (value_there text v) → a ≡ Some n
       → n ≡ number_seen lo hi (attribute_word w (the text at))
   unfolding number_seen or_zero
   seen_is lo hi h p q = sym (ap (λ x. or_zero (whole_in lo hi x)) (sym (found_value h)) ∙ ap or_zero (sym p ∙ q))
 
-  pub seen_no : (lo hi : ℕ) {v : ℕ} {a : Whole} → f ≡ At v → a ≡ whole_in lo hi (value_there text v) → a ≡ No
+  pub seen_no : (lo hi : ℕ) {v : ℕ} {a : Option ℕ} → f ≡ Some v → a ≡ whole_in lo hi (value_there text v) → a ≡ None
       → 0 ≡ number_seen lo hi (attribute_word w (the text at))
   unfolding number_seen or_zero
   seen_no lo hi h p q = sym (ap (λ x. or_zero (whole_in lo hi x)) (sym (found_value h)) ∙ ap or_zero (sym p ∙ q))
 
-  pub seen_none : (lo hi : ℕ) → f ≡ Nothing → 0 ≡ number_seen lo hi (attribute_word w (the text at))
+  pub seen_none : (lo hi : ℕ) → f ≡ None → 0 ≡ number_seen lo hi (attribute_word w (the text at))
   unfolding number_seen or_zero whole_in whole digits all
   seen_none lo hi h = rw (found_none h)
 

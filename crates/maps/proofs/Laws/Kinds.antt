@@ -1,8 +1,6 @@
 -- WHAT A GOOD ELEMENT OF EACH KIND HOLDS: its numbers are in form, and its children are of the kinds that its row names.
-use Rattle.std.specs.Prelude.{◌≡◌, refl, List, [], ◌∷◌, ◌++◌, Bool, true, false, cond, ◌+◌, length}
+use Rattle.std.specs.Prelude.{◌≡◌, refl, List, [], ◌∷◌, ◌++◌, Bool, true, false, cond, ◌+◌, length, Option, Some, None}
 use Rattle.std.proofs.Common.{sym, ◌∙◌, subst, arith, eqb-true}
-use Rattle.std.proofs.Math.Option.{Option, some}
-use Rattle.std.proofs.Math.Option
 use Prim.Native.String.{String}
 use Rattle.lists.specs.Lists.{all, any, count}
 use Rattle.lists.proofs.Laws.Booleans.{never_some}
@@ -45,16 +43,16 @@ brain_rows =
 
 -- ---- The kind of a MatrixIndicesMap, of a BrainModel.
 
-pub has_value : (a s : String) (e : Element) (v : Word) → value_in a (attributes_of e) ≡ some v → has a s e ≡ is s v
+pub has_value : (a s : String) (e : Element) (v : Word) → value_in a (attributes_of e) ≡ Some v → has a s e ≡ is s v
 unfolding has attr or_empty
 has_value a s e v p = rw p
 
-chosen_none : (l : List (Case ElementKind)) → kind_chosen l Option.none ≡ Option.none
+chosen_none : (l : List (Case ElementKind)) → kind_chosen l None ≡ None
 unfolding kind_chosen
 chosen_none l = refl
 
-chosen_model : (v : Word) → kind_chosen model_types (some v)
-    ≡ cond (is "CIFTI_MODEL_TYPE_SURFACE" v) (some surface) (cond (is "CIFTI_MODEL_TYPE_VOXELS" v) (some voxels) Option.none)
+chosen_model : (v : Word) → kind_chosen model_types (Some v)
+    ≡ cond (is "CIFTI_MODEL_TYPE_SURFACE" v) (Some surface) (cond (is "CIFTI_MODEL_TYPE_VOXELS" v) (Some voxels) None)
 unfolding kind_chosen kind_among model_types
 chosen_model v = refl
 
@@ -70,17 +68,17 @@ model_volume = refl
 -- the word that chooses the kind of a map
 pub record MapWord (e : Element) (k : ElementKind) : Type 0 where
   pub word : Word
-  pub said : value_in "IndicesMapToDataType" (attributes_of e) ≡ some word
-  pub chooses : kind_chosen map_kinds (some word) ≡ some k
+  pub said : value_in "IndicesMapToDataType" (attributes_of e) ≡ Some word
+  pub chooses : kind_chosen map_kinds (Some word) ≡ Some k
 
-pub map_word : (e : Element) {k : ElementKind} → kind_of matrix_rows e ≡ some k → is "MatrixIndicesMap" (name_of e) ≡ true → MapWord e k
+pub map_word : (e : Element) {k : ElementKind} → kind_of matrix_rows e ≡ Some k → is "MatrixIndicesMap" (name_of e) ≡ true → MapWord e k
 unfolding kind_of kind_by
 map_word e {k} q n = go (value_in "IndicesMapToDataType" (attributes_of e)) refl
     (rw (not_both "MatrixIndicesMap" "MetaData" (name_of e) n meta_map, n) at q)
   where
-    go : (o : Option Word) → value_in "IndicesMapToDataType" (attributes_of e) ≡ o → kind_chosen map_kinds o ≡ some k → MapWord e k
-    go Option.none p r = never_some (rw chosen_none at r)
-    go (some v) p r = record { word = v; said = p; chooses = r }
+    go : (o : Option Word) → value_in "IndicesMapToDataType" (attributes_of e) ≡ o → kind_chosen map_kinds o ≡ Some k → MapWord e k
+    go None p r = never_some (rw chosen_none at r)
+    go (Some v) p r = record { word = v; said = p; chooses = r }
 
 surface_voxels : is "CIFTI_MODEL_TYPE_VOXELS" (ascii "CIFTI_MODEL_TYPE_SURFACE") ≡ false
 unfolding is same_bytes
@@ -90,12 +88,12 @@ pub good_model : (e : Element) → GoodAs brain_rows e → is "BrainModel" (name
 unfolding kind_of kind_by
 good_model e (good_as {k} q g) n = go (value_in "ModelType" (attributes_of e)) refl at
   where
-    at : kind_chosen model_types (value_in "ModelType" (attributes_of e)) ≡ some k
+    at : kind_chosen model_types (value_in "ModelType" (attributes_of e)) ≡ Some k
     at = rw n at q
 
-    pick : (v : Word) → value_in "ModelType" (attributes_of e) ≡ some v → (a b : Bool) → is "CIFTI_MODEL_TYPE_SURFACE" v ≡ a
+    pick : (v : Word) → value_in "ModelType" (attributes_of e) ≡ Some v → (a b : Bool) → is "CIFTI_MODEL_TYPE_SURFACE" v ≡ a
         → is "CIFTI_MODEL_TYPE_VOXELS" v ≡ b
-        → cond a (some surface) (cond b (some voxels) Option.none) ≡ some k → GoodModel e
+        → cond a (Some surface) (cond b (Some voxels) None) ≡ Some k → GoodModel e
     pick v p true b x y r =
         let z : k ≡ surface = cc in
         surface_model (subst (λ (j : ElementKind). Good j e) z g)
@@ -104,14 +102,14 @@ good_model e (good_as {k} q g) n = go (value_in "ModelType" (attributes_of e)) r
         voxel_model_lem (subst (λ (j : ElementKind). Good j e) z g) (has_value "ModelType" _ e v p ∙ y)
     pick v p false false x y r = never_some r
 
-    go : (o : Option Word) → value_in "ModelType" (attributes_of e) ≡ o → kind_chosen model_types o ≡ some k → GoodModel e
-    go Option.none p r = never_some (rw chosen_none at r)
-    go (some v) p r = pick v p (is "CIFTI_MODEL_TYPE_SURFACE" v) (is "CIFTI_MODEL_TYPE_VOXELS" v) refl refl (rw chosen_model at r)
+    go : (o : Option Word) → value_in "ModelType" (attributes_of e) ≡ o → kind_chosen model_types o ≡ Some k → GoodModel e
+    go None p r = never_some (rw chosen_none at r)
+    go (Some v) p r = pick v p (is "CIFTI_MODEL_TYPE_SURFACE" v) (is "CIFTI_MODEL_TYPE_VOXELS" v) refl refl (rw chosen_model at r)
 
 pub good_volume : (e : Element) → GoodAs brain_rows e → is "Volume" (name_of e) ≡ true → Good volume e
 unfolding kind_of kind_by
 good_volume e (good_as {k} q g) n =
-    let at : some volume ≡ some k = rw (not_both "Volume" "BrainModel" (name_of e) n model_volume, n) at q in
+    let at : Some volume ≡ Some k = rw (not_both "Volume" "BrainModel" (name_of e) n model_volume, n) at q in
     let z : k ≡ volume = cc in
     subst (λ (j : ElementKind). Good j e) z g
 
@@ -173,7 +171,7 @@ one_kind : (s : String) (t : Times) (k : ElementKind) (e : Element) → GoodAs (
 unfolding kind_of kind_by
 one_kind s t k e (good_as {k = j} q g) = go (is s (name_of e)) refl q
   where
-    go : (b : Bool) → is s (name_of e) ≡ b → cond b (some k) Option.none ≡ some j → (is s (name_of e) ≡ true) × Good k e
+    go : (b : Bool) → is s (name_of e) ≡ b → cond b (Some k) None ≡ Some j → (is s (name_of e) ≡ true) × Good k e
     go true p r = let z : j ≡ k = cc in (p, subst (λ (i : ElementKind). Good i e) z g)
     go false p r = never_some r
 

@@ -1,11 +1,9 @@
 -- THE KIND OF A MAP, and its row: the words that name kinds are the words that choose rows, each beside its kind's. What holds of every
 -- kind is computed over the table of words.
-use Rattle.std.specs.Prelude.{◌≡◌, Bool, ◌||◌, ℕ, min, length, replicate}
+use Rattle.std.specs.Prelude.{◌≡◌, Bool, ◌||◌, ℕ, min, length, replicate, Option, Some, None}
 use Rattle.std.proofs.Math.Path.{refl, ap}
 use Rattle.std.proofs.Common.{sym, ◌∙◌, true≢false, arith, rules}
 use mathlib.Core.List.{List, [], ◌∷◌}
-use Rattle.std.proofs.Math.Option.{Option, some}
-use Rattle.std.proofs.Math.Option
 use Rattle.std.proofs.Math.Bool.{true, false, cond}
 use Prim.Native.String.{String}
 use Rattle.lists.specs.Lists.{each, those}
@@ -17,8 +15,6 @@ use Rattle.grammar.specs.Parser.{same_bytes}
 use Rattle.nodes.specs.Places.{Stands, the}
 use Rattle.nodes.specs.Attributes.{place}
 use Rattle.nodes.specs.Values.{value_there}
-use Rattle.nodes.specs.declared.Found.{Found}
-use Rattle.nodes.specs.declared.Found.TheVariants.{At, Nothing}
 use Rattle.numbers.specs.Numbers.{dimension_list}
 use Rattle.schema.specs.Schema.{AttributeRow, required, number, Row, branch, leaf, ChildRow, child, Case, ◌⇒◌, kind_of, kind_chosen}
 use Rattle.schema.specs.Schema.{kind_among}
@@ -28,7 +24,7 @@ use Rattle.cifti.specs.Maps.{kind_words, kind_by_word, case_kind, words_of_kinds
 use Rattle.cifti.specs.Maps.{is_series}
 use Rattle.cifti.proofs.Laws.Kinds.{kind_named, no_word}
 use Rattle.cifti.specs.declared.answer.Kind.{Kind}
-use Rattle.cifti.specs.declared.answer.Kind.TheVariants.{None, Brain, Series}
+use Rattle.cifti.specs.declared.answer.Kind.TheVariants.{None as NoKind, Brain, Series}
 use Rattle.maps.proofs.Laws.Good.{GoodAs, good_as, AllGood, none_left, one_good, good_children}
 use Rattle.maps.specs.Good.{Good}
 use Rattle.maps.proofs.Laws.Kinds.{is_word_lem, matrix_rows, map_word, no_row, in_form_lem}
@@ -50,13 +46,13 @@ of_all {A = A} f a [] {k = k} h x'' = elim x'' [ ]
 of_all f a (j ∷ l) h here = cc
 of_all f a (j ∷ l) h (further m) = of_all f a l (cc) m
 
-row_chosen : (l : List (Case Kind)) (v : Word) (r : ElementKind) → kind_among (each rowed l) v ≡ some r → RowOf l (kind_by_word l v) r
+row_chosen : (l : List (Case Kind)) (v : Word) (r : ElementKind) → kind_among (each rowed l) v ≡ Some r → RowOf l (kind_by_word l v) r
 unfolding kind_among each rowed case_kind kind_by_word
 row_chosen [] v r h = never_some h
 row_chosen ((s ⇒ k) ∷ l) v r h = go (is s v) h (row_chosen l v r)
   where
-    go : (b : Bool) → cond b (some (row_for k)) (kind_among (each rowed l) v) ≡ some r
-        → (kind_among (each rowed l) v ≡ some r → RowOf l (kind_by_word l v) r)
+    go : (b : Bool) → cond b (Some (row_for k)) (kind_among (each rowed l) v) ≡ Some r
+        → (kind_among (each rowed l) v ≡ Some r → RowOf l (kind_by_word l v) r)
         → RowOf ((s ⇒ k) ∷ l) (cond b k (kind_by_word l v)) r
     go true q ih = record { row = cc; known = here }
     go false q ih = let o = ih q in record { row = o.row; known = further o.known }
@@ -83,7 +79,7 @@ lists_first {k} {e} g h = go (rows k) refl h
     go (branch (a ∷ l) o r) q f = in_form_lem g (a ∷ l) o r q 0 (omega arith) "AppliesToMatrixDimension" dimension_list f
     go (leaf a t) q f = clash (cc)
 
-kind_by_lem : (e : Element) (v : Word) → value_in "IndicesMapToDataType" (attributes_of e) ≡ some v → kind_of_map e ≡ kind_by_word kind_words v
+kind_by_lem : (e : Element) (v : Word) → value_in "IndicesMapToDataType" (attributes_of e) ≡ Some v → kind_of_map e ≡ kind_by_word kind_words v
 unfolding kind_of_map attr or_empty
 kind_by_lem e v p = rw p refl
 
@@ -91,7 +87,7 @@ pub good_map : (e : Element) → GoodAs matrix_rows e → is "MatrixIndicesMap" 
 unfolding kind_chosen all_kinds
 good_map e (good_as {k} q g) n =
     let w = map_word e q n in
-    let c : kind_among (each rowed kind_words) w.word ≡ some k = ap (λ l. kind_among l w.word) (sym same_words) ∙ w.chooses in
+    let c : kind_among (each rowed kind_words) w.word ≡ Some k = ap (λ l. kind_among l w.word) (sym same_words) ∙ w.chooses in
     let o = row_chosen kind_words w.word k c in
     record { good = rw (kind_by_lem e w.word w.said, o.row) g; known = rw (kind_by_lem e w.word w.said) o.known }
 
@@ -117,7 +113,7 @@ rows_name s [] = false
 rows_name s (child t n w ∷ r) = is t (ascii s) || rows_name s r
 
 module _ (s : String) where
-  unknown : (r : List (ChildRow ElementKind)) (e : Element) → rows_name s r ≡ false → is s (name_of e) ≡ true → kind_of r e ≡ Option.none
+  unknown : (r : List (ChildRow ElementKind)) (e : Element) → rows_name s r ≡ false → is s (name_of e) ≡ true → kind_of r e ≡ None
   unfolding rows_name kind_of
   unknown [] e h q = refl
   unknown (child t n w ∷ r) e h q =
@@ -166,14 +162,14 @@ series_kind k h = same_kind k Series h
 
 -- ---- As its attribute tells it.
 
-module _ {text : List ℕ} {at : ℕ} (st : Stands text at) {f : Found} (e : f ≡ place text at (ascii "IndicesMapToDataType")) where
-  pub kind_there : {v p : ℕ} {r : Kind} → f ≡ At v → p ≡ number_in words_of_kinds (value_there text v)
-      → kind_place r ≡ min p (kind_place None) → r ≡ kind_of_map (the text at)
+module _ {text : List ℕ} {at : ℕ} (st : Stands text at) {f : Option ℕ} (e : f ≡ place text at (ascii "IndicesMapToDataType")) where
+  pub kind_there : {v p : ℕ} {r : Kind} → f ≡ Some v → p ≡ number_in words_of_kinds (value_there text v)
+      → kind_place r ≡ min p (kind_place NoKind) → r ≡ kind_of_map (the text at)
   unfolding kind_of_map
   kind_there {v} h q z = kind_named _ q z
       ∙ ap (kind_by_word kind_words) (found_value (ascii "IndicesMapToDataType") st e h ∙ word_at "IndicesMapToDataType" (the text at))
 
-  pub kind_missing : f ≡ Nothing → None ≡ kind_of_map (the text at)
+  pub kind_missing : f ≡ None → NoKind ≡ kind_of_map (the text at)
   unfolding kind_of_map
   kind_missing h = no_word ∙ ap (kind_by_word kind_words)
       (sym (sym (word_at "IndicesMapToDataType" (the text at)) ∙ found_none (ascii "IndicesMapToDataType") st e h))

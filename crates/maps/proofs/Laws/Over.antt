@@ -36,7 +36,7 @@ module _ (maps : Maps) {i : ℕ} (t : length maps.each ≡ 3) where
   unfolding note_at
   note_past h e = e ∙ sym (get_or-eq_default maps.each no_note (omega arith))
 
-pub ruleset noting-at = (note_in, note_past, mapped_long, rules)
+pub ruleset noting_at = (note_in, note_past, mapped_long, rules)
 
 -- the maps from the i-th on
 abbrev pub from : List ℕ → Maps → ℕ → List Map

@@ -1,5 +1,5 @@
 -- What is proved of Seen.
-use Rattle.std.specs.Prelude.{◌≡◌, List, [], ◌∷◌, ◌++◌, Bool, true, false, cond, ℕ, ◌+◌, ◌-◌, ◌≤◌, ◌<◌, min, eqb, length, get_or, set, replicate, drop}
+use Rattle.std.specs.Prelude.{◌≡◌, List, [], ◌∷◌, ◌++◌, Bool, true, false, cond, ℕ, ◌+◌, ◌-◌, ◌≤◌, ◌<◌, min, eqb, length, get_or, set, replicate, drop, Option, Some, None}
 use Rattle.std.proofs.Common.{sym, ap, ◌∙◌, append_assoc, append-nil, arith, length-set, drop_of_length-le, get_or-set_same, get_or-set_other, eq-eqb, ne_eqb, rules}
 use Rattle.std.proofs.lemmas.List.{get_or-replicate}
 use Rattle.std.proofs.Math.Decide.{ℕ_discrete}
@@ -7,8 +7,6 @@ use Rattle.lists.specs.Lists.{count}
 use Rattle.grammar.specs.Look.{Word}
 use Rattle.nodes.specs.Values.{value_there, tells, decoded_at}
 use Rattle.nodes.proofs.Laws.NextBytes.{value_begins, tells_none, decoded_byte, decoded_end}
-use Rattle.nodes.specs.declared.Char.{Char}
-use Rattle.nodes.specs.declared.Char.TheVariants.{Byte, End}
 use Rattle.maps.specs.declared.dims.Dims.{Dims}
 use Rattle.maps.specs.Seen.{CountsDigits, Grown}
 
@@ -89,13 +87,13 @@ reading_none text v r h e =
 pub reading_start : (text : List ℕ) (v : ℕ) (r : Dims) → r.has ≡ replicate 10 0 → Reading text v (get_or text v 0) r (v + 1)
 reading_start text v r e = record { done = []; so_far = none_yet r e; all = value_begins text v }
 
-module _ {text : List ℕ} {v q i : ℕ} {r : Dims} (go : Reading text v q r i) {c : Char} (e : c ≡ decoded_at text i q) where
-  pub reading_done : c ≡ End → CountsDigits (value_there text v) r
+module _ {text : List ℕ} {v q i : ℕ} {r : Dims} (go : Reading text v q r i) {c : Option (ℕ × ℕ)} (e : c ≡ decoded_at text i q) where
+  pub reading_done : c ≡ None → CountsDigits (value_there text v) r
   reading_done h =
       let z : value_there text v ≡ go.done = go.all ∙ ap (λ l. go.done ++ l) (decoded_end text q i e h) ∙ append-nil go.done in
       rw z go.so_far
 
-  module _ {b j : ℕ} (h : c ≡ Byte b j) where
+  module _ {b j : ℕ} (h : c ≡ Some (b, j)) where
     pub reading_less : length text - j < length text - i
     reading_less = let d = decoded_byte text q i e h in omega (arith, d.inside, d.ahead)
 

@@ -1,5 +1,5 @@
 -- What is proved of Sums.
-use Rattle.std.specs.Prelude.{◌≡◌, List, [], ◌∷◌, Bool, true, false, cond, ℕ, ◌+◌, ◌*◌, ◌-◌, ◌^◌, ◌≤◌, ◌<◌, length, take, drop}
+use Rattle.std.specs.Prelude.{◌≡◌, List, [], ◌∷◌, Bool, true, false, cond, ℕ, ◌+◌, ◌*◌, ◌-◌, ◌^◌, ◌≤◌, ◌<◌, length, take, drop, Option, Some, None}
 use Rattle.std.proofs.Math.Path.{refl, sym, ap}
 use Rattle.std.proofs.Common.{◌∙◌, length-take, rules}
 use Prim.Native.String.{String}
@@ -25,8 +25,6 @@ use Rattle.nodes.proofs.Laws.Along.{ahead_stands, ahead_here, ahead_less, ahead_
 use Rattle.nodes.specs.declared.ahead.Ahead.{Ahead}
 use Rattle.nodes.specs.declared.ahead.Ahead.TheVariants as ahead-is
 use Rattle.steps.specs.Step.{stepped}
-use Rattle.steps.specs.declared.Step.{Step}
-use Rattle.steps.specs.declared.Step.TheVariants.{To, No}
 use Rattle.grammar.specs.Read.{got}
 use Rattle.grammar.proofs.Laws.Read.{ok_got}
 use Rattle.nodes.specs.Names.{named}
@@ -44,14 +42,13 @@ use Rattle.maps.proofs.Laws.Fields.{word_at, number_seen_lem}
 use Rattle.numbers.specs.Answers.{whole_in}
 use Rattle.maps.specs.declared.survey.Measure.{Measure}
 use Rattle.maps.specs.declared.survey.Seen.{Seen}
-use Rattle.numbers.specs.declared.Whole.TheVariants.{Is, No}
 use Rattle.maps.specs.Sums.{weigh, weight_of, Weighed, is_volume, VolumeLeft, VolumeMet, InShort, AheadBehind, Summed, KindAt, Spanned}
 
 pub seen_most : (lo hi : ℕ) (w : Word) → number_seen lo hi w ≤ hi
 unfolding number_seen whole_in or_zero whole
 seen_most lo hi w = go (whole lo hi w) refl
   where
-    go : (b : Bool) → whole lo hi w ≡ b → or_zero (cond b (Is (value w)) No) ≤ hi
+    go : (b : Bool) → whole lo hi w ≡ b → or_zero (cond b (Some (value w)) None) ≤ hi
     go true e = (within lo hi (value w) (and_right (digits 1 7 w) (between lo hi (value w)) e)).1
     go false e = omega arith
 
@@ -139,31 +136,31 @@ ends_at {text} {k} st =
     }
 
 -- the code's way to that place
-module _ {text : List ℕ} {k : ℕ} {x : Step} (e : x ≡ stepped (length text) (skip_at (drop k text))) where
-  step_behind : {j : ℕ} → Behind text k j → x ≡ To j
+module _ {text : List ℕ} {k : ℕ} {x : Option ℕ} (e : x ≡ stepped (length text) (skip_at (drop k text))) where
+  step_behind : {j : ℕ} → Behind text k j → x ≡ Some j
   unfolding stepped
-  step_behind {j} b = e ∙ rw b.ends (ap To (simp length-drop (omega (arith, b.inside))))
+  step_behind {j} b = e ∙ rw b.ends (ap Some (simp length-drop (omega (arith, b.inside))))
 
-  pub behind_found : Stands text k → {j : ℕ} → x ≡ To j → Behind text k j
+  pub behind_found : Stands text k → {j : ℕ} → x ≡ Some j → Behind text k j
   behind_found st {j} h =
       let b = ends_at st in
-      let same : To (length text - length st.rest) ≡ To j = sym (step_behind b) ∙ h in
+      let same : Some (length text - length st.rest) ≡ Some j = sym (step_behind b) ∙ h in
       let place : length text - length st.rest ≡ j = cc in
       rw place at b
 
-  pub behind_missing : Stands text k → x ≡ No → Behind text k 0
-  behind_missing st h = let bad : No ≡ To (length text - length st.rest) = sym h ∙ step_behind (ends_at st) in clash (cc)
+  pub behind_missing : Stands text k → x ≡ None → Behind text k 0
+  behind_missing st h = let bad : None ≡ Some (length text - length st.rest) = sym h ∙ step_behind (ends_at st) in clash (cc)
 
-  pub ahead_found : {j : ℕ} → x ≡ To j → {a : Ahead} → a ≡ ahead_at true (length text) (drop j text) → AheadBehind text k a
+  pub ahead_found : {j : ℕ} → x ≡ Some j → {a : Ahead} → a ≡ ahead_at true (length text) (drop j text) → AheadBehind text k a
   ahead_found {j} h q i b =
-      let same : To i ≡ To j = sym (step_behind b) ∙ h in
+      let same : Some i ≡ Some j = sym (step_behind b) ∙ h in
       let place : i ≡ j = cc in
       rw place q
 
-  pub ahead_missing : x ≡ No → (a : Ahead) → AheadBehind text k a
-  ahead_missing h a i b = let bad : No ≡ To i = sym h ∙ step_behind b in clash (cc)
+  pub ahead_missing : x ≡ None → (a : Ahead) → AheadBehind text k a
+  ahead_missing h a i b = let bad : None ≡ Some i = sym h ∙ step_behind b in clash (cc)
 
-pub ruleset behind-so = (behind_found, behind_missing, ahead_found, ahead_missing, rules)
+pub ruleset behind_so = (behind_found, behind_missing, ahead_found, ahead_missing, rules)
 
 -- the sum of those passed; those of the list are ahead
 pub record Summing (text : List ℕ) (at : ℕ) (kind : Kind) (n : ℕ) (seen : Seen) (l : List Element) : Type 0 where

@@ -1,5 +1,5 @@
 -- What is proved of Survey.
-use Rattle.std.specs.Prelude.{◌≡◌, refl, Bool, true, false, ℕ, ◌+◌, ◌≤◌, ◌<◌, ltb, length, drop, get_or, set}
+use Rattle.std.specs.Prelude.{◌≡◌, refl, Bool, true, false, ℕ, ◌+◌, ◌≤◌, ◌<◌, ltb, length, drop, get_or, set, Option, Some, None}
 use Rattle.std.proofs.Math.Path.{sym}
 use Rattle.std.proofs.Common.{ap, ◌∙◌, arith, lt-ltb, length-set, length-append, get_or-set_same, get_or-set_other, rules}
 use mathlib.Core.List.{List, [], ◌∷◌, ◌++◌, append-nil}
@@ -17,8 +17,6 @@ use Rattle.nodes.proofs.Laws.Children.{left}
 use Rattle.nodes.specs.Names.{named}
 use Rattle.nodes.proofs.Laws.Names.{name_is_law}
 use Rattle.nodes.proofs.Laws.Along.{Along, along_start, along_done, along_stands, along_here, along_less, along_next}
-use Rattle.nodes.specs.declared.Kid.{Kid}
-use Rattle.nodes.specs.declared.Kid.TheVariants.{Child, Done}
 use Rattle.cifti.specs.Rows as kinds
 use Rattle.cifti.specs.Maps.{map_of, kind_of_map, dimensions_of}
 use Rattle.cifti.specs.declared.answer.Kind.{Kind}
@@ -62,7 +60,7 @@ module _ {text : List ℕ} {at : ℕ} (m : MapAt text at) where
   pub note_unwanted : {w : Bool} → w ≡ false → {j : ℕ} → Behind text at j → (n : MapNote) → n.at ≡ at → n.behind ≡ j → NotedIf w text at n
   note_unwanted f b n p q = record { place = p; ends = rw q b; noted = λ t. both_ways t f }
 
-pub ruleset noting-one = (note_map, note_stands, note_kind, note_wanted, note_unwanted, rules)
+pub ruleset noting_one = (note_map, note_stands, note_kind, note_wanted, note_unwanted, rules)
 
 one_longer : (l : List ℕ) (k : ℕ) → length (l ++ (k ∷ [])) ≡ length l + 1
 one_longer l k = length-append l (k ∷ [])
@@ -136,9 +134,9 @@ pub record Surveying (text : List ℕ) (matrix : ℕ) (r : Maps) (l : List Eleme
 pub none_yet : (r : Maps) → length r.each ≡ 3 → r.count ≡ 0 → NoneYet r
 none_yet r a c = record { three = a; none = c }
 
-pub ruleset none-noted = (none_yet, rules)
+pub ruleset none_noted = (none_yet, rules)
 
-pub surveying_start : {text : List ℕ} {at : ℕ} {r : Maps} → NoneYet r → MatrixAt text at → {kid : Kid} → kid ≡ first_child text at
+pub surveying_start : {text : List ℕ} {at : ℕ} {r : Maps} → NoneYet r → MatrixAt text at → {kid : Option ℕ} → kid ≡ first_child text at
     → Along text (Surveying text at r) kid
 unfolding children each is_map
 surveying_start y m e =
@@ -156,19 +154,19 @@ surveying_start y m e =
       so_far = refl;
     }) e
 
-module _ {text : List ℕ} {matrix : ℕ} {r : Maps} {kid : Kid} (go : Along text (Surveying text matrix r) kid) where
-  pub surveying_done : kid ≡ Done → MapsAre text matrix r
+module _ {text : List ℕ} {matrix : ℕ} {r : Maps} {kid : Option ℕ} (go : Along text (Surveying text matrix r) kid) where
+  pub surveying_done : kid ≡ None → MapsAre text matrix r
   unfolding those
   surveying_done e =
       let s = along_done go e in
       record { met = s.met; holds = s.holds; stand = s.stand; are = s.so_far ∙ append-nil (each (the text) s.met) }
 
-  module _ {k : ℕ} (is_child : kid ≡ Child k) {b : Bool} (nm : b ≡ named text k (ascii "MatrixIndicesMap")) where
+  module _ {k : ℕ} (is_child : kid ≡ Some k) {b : Bool} (nm : b ≡ named text k (ascii "MatrixIndicesMap")) where
     is_map_lem : is_map (the text k) ≡ b
     unfolding is_map
     is_map_lem = sym (nm ∙ name_is_law "MatrixIndicesMap" (along_stands go is_child))
 
-    pub surveying_miss : b ≡ false → {kid₁ : Kid} → kid₁ ≡ next text k → Along text (Surveying text matrix r) kid₁
+    pub surveying_miss : b ≡ false → {kid₁ : Option ℕ} → kid₁ ≡ next text k → Along text (Surveying text matrix r) kid₁
     unfolding those
     surveying_miss f e =
         along_next go is_child (λ l s. record {
@@ -186,7 +184,7 @@ module _ {text : List ℕ} {matrix : ℕ} {r : Maps} {kid : Kid} (go : Along tex
         let s = along_here go is_child in
         record { stands = along_stands go is_child; good = good_map (the text k) (good_head s.good) (is_map_lem ∙ t); short = s.short }
 
-    module _ {n : MapNote} (at : NotedIf (ltb r.count 3) text k n) {kid₁ : Kid}
+    module _ {n : MapNote} (at : NotedIf (ltb r.count 3) text k n) {kid₁ : Option ℕ}
         (e : kid₁ ≡ kid_at (length text) (drop n.behind text)) where
       is_next : kid₁ ≡ next text k
       is_next = e ∙ sym (next_behind at.ends)

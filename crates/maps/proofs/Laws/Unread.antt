@@ -1,9 +1,7 @@
 -- What is proved of Unread.
-use Rattle.std.specs.Prelude.{◌≡◌, List, [], ◌∷◌, Bool, cond, ◌||◌, ◌&&◌, ℕ, ◌<◌}
+use Rattle.std.specs.Prelude.{◌≡◌, List, [], ◌∷◌, Bool, cond, ◌||◌, ◌&&◌, ℕ, ◌<◌, Option, Some, None}
 use Rattle.std.proofs.Math.Path.{refl, sym, ap}
 use Rattle.std.proofs.Common.{◌∙◌, rules}
-use Rattle.std.proofs.Math.Option.{some}
-use Rattle.std.proofs.Math.Option
 use Rattle.std.proofs.Math.Bool.{true, false, not}
 use Prim.Native.String.{String}
 use Rattle.lists.specs.Lists.{any, those}
@@ -21,11 +19,7 @@ use Rattle.nodes.specs.Found.{value_at_name}
 use Rattle.nodes.proofs.Laws.Found.{has_law, attr_law, value_found, value_missing}
 use Rattle.nodes.specs.Values.{value_there}
 use Rattle.nodes.specs.Attributes.{place}
-use Rattle.nodes.specs.declared.Found.{Found}
-use Rattle.nodes.specs.declared.Found.TheVariants.{At, Nothing}
 use Rattle.nodes.proofs.Laws.Along.{Along, along_start, along_done, along_stands, along_here, along_less, along_next}
-use Rattle.nodes.specs.declared.Kid.{Kid}
-use Rattle.nodes.specs.declared.Kid.TheVariants.{Child, Done}
 use Rattle.cifti.specs.Maps.{map_elements}
 use Rattle.cifti.specs.Conditions.{root_wrong, kind_not_read}
 use Rattle.schema.specs.Schema.{Case, ◌⇒◌, kind_chosen, kind_among}
@@ -59,21 +53,21 @@ any_not_read e = any not_read (children "MatrixIndicesMap" e)
 unfoldable unread_word : List ℕ → Bool
 unread_word w = same_bytes w (ascii "CIFTI_INDEX_TYPE_PARCELS")
 
-module _ {text : List ℕ} {at : ℕ} (st : Stands text at) {f : Found} (e : f ≡ place text at (ascii "IndicesMapToDataType")) where
+module _ {text : List ℕ} {at : ℕ} (st : Stands text at) {f : Option ℕ} (e : f ≡ place text at (ascii "IndicesMapToDataType")) where
   not_read_so : not_read (the text at) ≡ unread_word (value_at_name text at (ascii "IndicesMapToDataType"))
   unfolding not_read unread_word has is
   not_read_so = rw (attr_law "IndicesMapToDataType" st)
 
-  pub unread_found : {v : ℕ} → f ≡ At v → {b : Bool} → b ≡ same_bytes (value_there text v) (ascii "CIFTI_INDEX_TYPE_PARCELS")
+  pub unread_found : {v : ℕ} → f ≡ Some v → {b : Bool} → b ≡ same_bytes (value_there text v) (ascii "CIFTI_INDEX_TYPE_PARCELS")
       → b ≡ not_read (the text at)
   unfolding unread_word
   unread_found h p = sym (not_read_so ∙ ap unread_word (value_found text at (ascii "IndicesMapToDataType") e h) ∙ sym p)
 
-  pub unread_missing : f ≡ Nothing → false ≡ not_read (the text at)
+  pub unread_missing : f ≡ None → false ≡ not_read (the text at)
   unfolding unread_word same_bytes
   unread_missing h = sym (not_read_so ∙ ap unread_word (value_missing text at (ascii "IndicesMapToDataType") e h))
 
-pub ruleset unread-one = (unread_found, unread_missing, rules)
+pub ruleset unread_one = (unread_found, unread_missing, rules)
 
 -- ---- Some child of a name passes: a loop over children that is left at the first.
 
@@ -92,23 +86,23 @@ module _ (s : String) (p : Element → Bool) where
   pub record Sought (text : List ℕ) (at : ℕ) (l : List Element) : Type 0 where
     pub so_far : any p (children s (the text at)) ≡ any p (those (λ e. is s (name_of e)) l)
 
-  abbrev pub Seeking : List ℕ → ℕ → Kid → Type 0
+  abbrev pub Seeking : List ℕ → ℕ → Option ℕ → Type 0
   Seeking text at kid = Along text (Sought text at) kid
 
-  pub seek_start : {text : List ℕ} {at : ℕ} → Stands text at → {kid : Kid} → kid ≡ first_child text at → Seeking text at kid
+  pub seek_start : {text : List ℕ} {at : ℕ} → Stands text at → {kid : Option ℕ} → kid ≡ first_child text at → Seeking text at kid
   unfolding children
   seek_start st e = along_start st (record { so_far = refl }) e
 
-  module _ {text : List ℕ} {at : ℕ} {kid : Kid} (go : Seeking text at kid) where
-    pub seek_done : kid ≡ Done → false ≡ any p (children s (the text at))
+  module _ {text : List ℕ} {at : ℕ} {kid : Option ℕ} (go : Seeking text at kid) where
+    pub seek_done : kid ≡ None → false ≡ any p (children s (the text at))
     unfolding any those
     seek_done e = sym (along_done go e).so_far
 
-    module _ {k : ℕ} (is_child : kid ≡ Child k) where
+    module _ {k : ℕ} (is_child : kid ≡ Some k) where
       pub seek_stands : Stands text k
       seek_stands = along_stands go is_child
 
-      pub seek_less : {kid₁ : Kid} → kid₁ ≡ next text k → left text kid₁ < left text kid
+      pub seek_less : {kid₁ : Option ℕ} → kid₁ ≡ next text k → left text kid₁ < left text kid
       seek_less = along_less go is_child
 
       module _ {b : Bool} (nm : b ≡ named text k (ascii s)) where
@@ -116,14 +110,14 @@ module _ (s : String) (p : Element → Bool) where
             → any p (children s (the text at)) ≡ ((b && p (the text k)) || any p (those (λ d. is s (name_of d)) l))
         split l h = rw (nm ∙ name_is_law s seek_stands) (h.so_far ∙ some_one (the text k) l)
 
-        pub seek_other : b ≡ false → {kid₁ : Kid} → kid₁ ≡ next text k → Seeking text at kid₁
+        pub seek_other : b ≡ false → {kid₁ : Option ℕ} → kid₁ ≡ next text k → Seeking text at kid₁
         seek_other f = along_next go is_child (λ l h. record { so_far = rw f at (split l h) })
 
         module _ (t : b ≡ true) {c : Bool} (q : c ≡ p (the text k)) where
           pub seek_found : c ≡ true → true ≡ any p (children s (the text at))
           seek_found r = sym (rw (t, sym q ∙ r) at (split _ (along_here go is_child)))
 
-          pub seek_missed : c ≡ false → {kid₁ : Kid} → kid₁ ≡ next text k → Seeking text at kid₁
+          pub seek_missed : c ≡ false → {kid₁ : Option ℕ} → kid₁ ≡ next text k → Seeking text at kid₁
           seek_missed r = along_next go is_child (λ l h. record { so_far = rw (t, sym q ∙ r) at (split l h) })
 
 -- all maps, matrix after matrix
@@ -151,18 +145,18 @@ none_unread : any case_unread map_kinds ≡ false
 unfolding any case_unread is_unread map_kinds is same_bytes
 none_unread = refl
 
-chosen_in : (l : List (Case ElementKind)) (v : Word) {k : ElementKind} → kind_among l v ≡ some k → any case_unread l ≡ false
+chosen_in : (l : List (Case ElementKind)) (v : Word) {k : ElementKind} → kind_among l v ≡ Some k → any case_unread l ≡ false
     → is_unread v ≡ false
 unfolding kind_among any case_unread
 chosen_in [] v h n = never_some h
 chosen_in ((s ⇒ j) ∷ l) v {k} h n = go (is s v) refl h (λ q. chosen_in l v q (or_right (is_unread (ascii s)) _ n))
   where
-    go : (b : Bool) → is s v ≡ b → cond b (some j) (kind_among l v) ≡ some k → (kind_among l v ≡ some k → is_unread v ≡ false)
+    go : (b : Bool) → is s v ≡ b → cond b (Some j) (kind_among l v) ≡ Some k → (kind_among l v ≡ Some k → is_unread v ≡ false)
         → is_unread v ≡ false
     go true x q ih = rw (is_word_lem s v x) (or_left _ _ n)
     go false x q ih = ih q
 
-chosen_read : (v : Word) {k : ElementKind} → kind_chosen map_kinds (some v) ≡ some k → is "CIFTI_INDEX_TYPE_PARCELS" v ≡ false
+chosen_read : (v : Word) {k : ElementKind} → kind_chosen map_kinds (Some v) ≡ Some k → is "CIFTI_INDEX_TYPE_PARCELS" v ≡ false
 unfolding kind_chosen is_unread
 chosen_read v h = chosen_in map_kinds v h none_unread
 

@@ -1,10 +1,8 @@
 -- A VOLUME IS NEEDED WITH ANY VOXEL MODEL: among the children of a good brain map, a VoxelIndicesIJK stands below one exactly where some
 -- BrainModel is of voxels.
 -- So the row of Volume, which goes by what stands below, says what document 01 says.
-use Rattle.std.specs.Prelude.{◌≡◌, refl, List, [], ◌∷◌, Bool, true, false, ◌&&◌, ◌||◌, length}
+use Rattle.std.specs.Prelude.{◌≡◌, refl, List, [], ◌∷◌, Bool, true, false, ◌&&◌, ◌||◌, length, Some}
 use Rattle.std.proofs.Common.{sym, ap₂, ◌∙◌, arith, eqb-true}
-use Rattle.std.proofs.Math.Option.{Option, some}
-use Rattle.std.proofs.Math.Option
 use Prim.Native.String.{String}
 use Rattle.lists.specs.Lists.{any}
 use Rattle.lists.proofs.Laws.Booleans.{and_right, never_some}
@@ -86,7 +84,7 @@ unfolding voxel_model kind_of
 child_alike {e} (good_as {k} q g) = go (is "BrainModel" (name_of e)) (is "Volume" (name_of e)) refl refl q
   where
     go : (a b : Bool) → is "BrainModel" (name_of e) ≡ a → is "Volume" (name_of e) ≡ b
-        → kind_of brain_rows e ≡ some k → below needy e ≡ (a && has "ModelType" "CIFTI_MODEL_TYPE_VOXELS" e)
+        → kind_of brain_rows e ≡ Some k → below needy e ≡ (a && has "ModelType" "CIFTI_MODEL_TYPE_VOXELS" e)
     go true b x y r = below_model (good_model e (good_as r g) x)
     go false true x y r = below_volume (good_volume e (good_as r g) y)
     go false false x y r = never_some (rw (x, y) at r)

@@ -1,13 +1,11 @@
 -- The turns of the loops over the numbers of a list, and what the list of a model is.
-use Rattle.std.specs.Prelude.{◌≡◌, ℕ, ◌+◌, ◌/◌, ◌%◌, ◌^◌, ◌<◌, ◌≤◌, Bool, true, false, not, ◌&&◌, ◌||◌, List, [], ◌∷◌, length, ◌==◌, nat_eq, nat_lt, refl}
+use Rattle.std.specs.Prelude.{◌≡◌, ℕ, ◌+◌, ◌/◌, ◌%◌, ◌^◌, ◌<◌, ◌≤◌, Bool, true, false, not, ◌&&◌, ◌||◌, List, [], ◌∷◌, length, ◌==◌, nat_eq, nat_lt, refl, Option, Some, None}
 use Rattle.std.proofs.Common.{sym, ◌∙◌, arith, rules}
 use Rattle.std.proofs.Math.Path.{ap}
 use Rattle.lists.specs.Lists.{two_of}
 use Rattle.grammar.specs.Bytes.{ascii}
 use Rattle.nodes.specs.Places.{the}
 use Rattle.nodes.specs.Texts.{left}
-use Rattle.nodes.specs.declared.Found.{Found}
-use Rattle.nodes.specs.declared.Found.TheVariants.{At, Nothing}
 use Rattle.numbers.specs.Answers.{next_number}
 use Rattle.numbers.specs.Quick.{Quick}
 use Rattle.numbers.specs.declared.Next.{Next}
@@ -170,9 +168,9 @@ no_vertices : two_of nat_eq [] ≡ false
 unfolding two_of
 no_vertices = refl
 
-module _ (volume : Voxel) (grid : Grid) {text : List ℕ} {at size kind : ℕ} (k : ModelKnown text at size kind) {f : Found}
+module _ (volume : Voxel) (grid : Grid) {text : List ℕ} {at size kind : ℕ} (k : ModelKnown text at size kind) {f : Option ℕ}
     (st : StartOf text at f) where
-  pub list_none : f ≡ Nothing → (work : List ℕ) (v : Verdict) → v.number ≡ 11 → v.apart ≡ false
+  pub list_none : f ≡ None → (work : List ℕ) (v : Verdict) → v.number ≡ 11 → v.apart ≡ false
       → ModelTold volume grid (model_of (the text at)) work v work
   list_none q work v y z = record {
     number_is = y ∙ judge_none volume k st q;
@@ -184,7 +182,7 @@ module _ (volume : Voxel) (grid : Grid) {text : List ℕ} {at size kind : ℕ} (
   unfolding type_and_structure
   kind_of = k.kind_is
 
-  module _ {i : ℕ} (q : f ≡ At i) where
+  module _ {i : ℕ} (q : f ≡ Some i) where
     numbers : listed_numbers (model_of (the text at)).listed ≡ values_at text i
     numbers = list_numbers (st.told k.model) q
 

@@ -1,8 +1,7 @@
 -- The turns of the chain: from 0, each range goes on where the last one ended.
-use Rattle.std.specs.Prelude.{◌≡◌, refl, Bool, true, false, ℕ, zero, suc, ◌+◌, ◌*◌, ◌-◌, ◌<◌, ◌≤◌, ◌^◌, eqb, get_or}
+use Rattle.std.specs.Prelude.{◌≡◌, refl, Bool, true, false, ℕ, zero, suc, ◌+◌, ◌*◌, ◌-◌, ◌<◌, ◌≤◌, ◌^◌, eqb, get_or, Some}
 use Rattle.std.proofs.Math.Path.{sym}
 use Rattle.std.proofs.Common.{◌∙◌, subst, arith, rules, eqb-true, lt-ltb, le-ltb}
-use Rattle.std.proofs.Math.Option.{some}
 use Rattle.std.proofs.lemmas.Bool.{eqb-false}
 use Rattle.lists.specs.Lists.{count_up, tabulated, total}
 use Rattle.lists.specs.Ranges.{Range, sum_of, tiling, begins_at, Chain, start, on}
@@ -63,7 +62,7 @@ module _ {m : Models} {end index : ℕ} (go : Chaining m end index) where
         (b ∙ rw (le-ltb i m.count u)))
 
     module _ (u : i < m.count) where
-      begun : begins_at index (ranges_of m) ≡ some (range_of m i)
+      begun : begins_at index (ranges_of m) ≡ Some (range_of m i)
       unfolding range_if
       begun = b ∙ rw (lt-ltb i m.count u)
 

@@ -1,5 +1,5 @@
 -- The turns of the walk that gathers the models.
-use Rattle.std.specs.Prelude.{◌≡◌, Bool, ◌||◌, eqb, length, get_or, take, set}
+use Rattle.std.specs.Prelude.{◌≡◌, Bool, ◌||◌, eqb, length, get_or, take, set, Option, Some, None, ℕ}
 use Rattle.std.proofs.Math.Path.{refl, sym, ap}
 use Rattle.std.proofs.Common.{◌∙◌, true≢false, le_of_suc-le-suc, not-suc-le-zero, add-one, arith, get_or-set_same, get_or-set_other, take-suc, rules, eq-eqb, ne_eqb}
 use mathlib.Core.List.{List, [], ◌∷◌, ◌++◌, append_assoc, append-nil}
@@ -18,8 +18,6 @@ use Rattle.nodes.specs.Children.{first_child, next}
 use Rattle.nodes.specs.Names.{named}
 use Rattle.nodes.proofs.Laws.Names.{name_is_law}
 use Rattle.nodes.proofs.Laws.Along.{Along, along_start, along_done, along_stands, along_here, along_less, along_next}
-use Rattle.nodes.specs.declared.Kid.{Kid}
-use Rattle.nodes.specs.declared.Kid.TheVariants.{Child, Done}
 use Rattle.cifti.specs.Maps.{Model, model_of, map_of}
 use Rattle.cifti.specs.Conditions.{alike}
 use Rattle.maps.proofs.Laws.Good.{AllGood, good_head, good_tail}
@@ -157,7 +155,7 @@ none_kept text =
       as_many = refl;
     }
 
-pub gathering_start : {text : List ℕ} {map : ℕ} {kid : Kid} → BrainAt text map → kid ≡ first_child text map
+pub gathering_start : {text : List ℕ} {map : ℕ} {kid : Option ℕ} → BrainAt text map → kid ≡ first_child text map
     → Along text (Gathering text map no_models (falses 64)) kid
 gathering_start {text} {map} b e =
     along_start b.stands
@@ -294,8 +292,8 @@ module _ {text : List ℕ} {m : Models} {seen : List Bool} (kept : Kept text m s
       as_many = flags_set seen q flag_here s ∙ ap suc kept.as_many ∙ sym (add-one m.count);
     }
 
-module _ {text : List ℕ} {map : ℕ} {m : Models} {seen : List Bool} {kid : Kid} (go : Along text (Gathering text map m seen) kid) where
-  pub gathering_done : kid ≡ Done → Gathers text map m
+module _ {text : List ℕ} {map : ℕ} {m : Models} {seen : List Bool} {kid : Option ℕ} (go : Along text (Gathering text map m seen) kid) where
+  pub gathering_done : kid ≡ None → Gathers text map m
   unfolding passed each those
   gathering_done e =
       let s = along_done go e in
@@ -308,12 +306,12 @@ module _ {text : List ℕ} {map : ℕ} {m : Models} {seen : List Bool} {kid : Ki
         };
       }
 
-  module _ {k : ℕ} (is_child : kid ≡ Child k) {b : Bool} (nm : b ≡ named text k (ascii "BrainModel")) where
+  module _ {k : ℕ} (is_child : kid ≡ Some k) {b : Bool} (nm : b ≡ named text k (ascii "BrainModel")) where
     is_model_lem : is_model (the text k) ≡ b
     unfolding is_model
     is_model_lem = sym (nm ∙ name_is_law "BrainModel" (along_stands go is_child))
 
-    pub gathering_miss : b ≡ false → {kid₁ : Kid} → kid₁ ≡ next text k → Along text (Gathering text map m seen) kid₁
+    pub gathering_miss : b ≡ false → {kid₁ : Option ℕ} → kid₁ ≡ next text k → Along text (Gathering text map m seen) kid₁
     unfolding those
     gathering_miss f e =
         along_next go is_child (λ l s. record { good = good_tail s.good; kept = s.kept; so_far = rw (is_model_lem ∙ f) at s.so_far }) e
@@ -355,7 +353,7 @@ module _ {text : List ℕ} {map : ℕ} {m : Models} {seen : List Bool} {kid : Ki
               let h = (along_here go is_child).kept in
               record { model = gathering_model; sized = h.sized; left = room_here h gathering_model eq s }
 
-          pub gathering_on : {m₁ : Models} → m₁ ≡ with_model m k (offset_seen text k) (length_seen text k) q → {kid₁ : Kid}
+          pub gathering_on : {m₁ : Models} → m₁ ≡ with_model m k (offset_seen text k) (length_seen text k) q → {kid₁ : Option ℕ}
               → kid₁ ≡ next text k → Along text (Gathering text map m₁ (set seen q true)) kid₁
           unfolding those more
           gathering_on e f =

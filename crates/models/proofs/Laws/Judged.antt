@@ -154,7 +154,7 @@ pub with_number : (j : Judged) (i : ℕ) (r : Ruling) {n : ℕ} → n ≡ sooner
     → ◌≡◌ {A = Judged} (record { number = n; apart = j.apart && r.apart; each = set j.each i r.models }) (with_ruling j i r)
 with_number j i r e = rw e refl
 
-pub ruleset with-ruling = (with_number, rules)
+pub ruleset with_ruling_laws = (with_number, rules)
 
 -- the first of all is the sooner of what was found and the first of those that are left; and 14 is decided by those that are left
 pub record Judge (all : List Map) (found : ℕ) (apart : Bool) (l : List Map) : Type 0 where

@@ -1,5 +1,5 @@
 -- What is proved of Listings.
-use Rattle.std.specs.Prelude.{◌≡◌, refl, List, [], ◌∷◌, true, ◌&&◌, ℕ}
+use Rattle.std.specs.Prelude.{◌≡◌, refl, List, [], ◌∷◌, true, ◌&&◌, ℕ, Option, Some, None}
 use Rattle.std.proofs.Math.Path.{sym, ap}
 use Rattle.std.proofs.Common.{◌∙◌, append-nil, arith}
 use Prim.Native.String.{String}
@@ -14,10 +14,6 @@ use Rattle.nodes.specs.Children.{first_child}
 use Rattle.nodes.proofs.Laws.Along.{Along, along_start, along_done, along_stands, along_here}
 use Rattle.nodes.specs.Texts.{says_at, inside, text_from, text_of_lem}
 use Rattle.nodes.proofs.Laws.TextSteps.{text_law, from_at}
-use Rattle.nodes.specs.declared.Kid.{Kid}
-use Rattle.nodes.specs.declared.Kid.TheVariants.{Child, Done}
-use Rattle.nodes.specs.declared.Found.{Found}
-use Rattle.nodes.specs.declared.Found.TheVariants.{At, Nothing}
 use Rattle.cifti.specs.Words.{most_voxel}
 use Rattle.cifti.specs.Rows.{ElementKind}
 use Rattle.cifti.specs.Maps.{vertices, voxels, model_of, listed_by}
@@ -73,21 +69,21 @@ pub listed_is : (e : Element) → (model_of e).listed ≡ listed_by e
 unfolding model_of
 listed_is e = refl
 
-module _ {text : List ℕ} {at : ℕ} (m : ModelAt text at) {kid : Kid} (e : kid ≡ first_child text at) where
+module _ {text : List ℕ} {at : ℕ} (m : ModelAt text at) {kid : Option ℕ} (e : kid ≡ first_child text at) where
   only : OnlyText (the text at)
   only = model_text m.good
 
   go : Along text (λ l. l ≡ only.one ∷ []) kid
   go = along_start m.stands only.alone e
 
-  pub list_none : kid ≡ Done → ListAt text at Nothing
+  pub list_none : kid ≡ None → ListAt text at None
   list_none q = absurd (let z = along_done go q in let y : ◌≡◌ {A = ℕ} 0 1 = cc in omega arith)
 
-  module _ {k : ℕ} (q : kid ≡ Child k) where
+  module _ {k : ℕ} (q : kid ≡ Some k) where
     there : the text k ≡ only.one
     there = let z = along_here go q in cc
 
-    pub list_there : {f : Found} → f ≡ inside text k → ListAt text at f
+    pub list_there : {f : Option ℕ} → f ≡ inside text k → ListAt text at f
     unfolding text_of_lem
     list_there {f} x =
         let t : text_from text f ≡ text_of only.one = ap (text_from text) x ∙ text_law (along_stands go q) ∙ ap text_of there in
@@ -97,7 +93,7 @@ module _ {text : List ℕ} {at : ℕ} (m : ModelAt text at) {kid : Kid} (e : kid
         }
 
 -- the numbers from there on
-module _ {text : List ℕ} {at : ℕ} {f : Found} (x : ListAt text at f) {i : ℕ} (q : f ≡ At i) where
+module _ {text : List ℕ} {at : ℕ} {f : Option ℕ} (x : ListAt text at f) {i : ℕ} (q : f ≡ Some i) where
   here : text_from text f ≡ says_at text i
   here = ap (text_from text) q ∙ from_at text i
 

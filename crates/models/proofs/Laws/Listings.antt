@@ -1,5 +1,5 @@
 -- What is said of a model's list, as the code reads it.
-use Rattle.std.specs.Prelude.{◌≡◌, false, ℕ, ◌+◌, ◌*◌, ◌<◌, ◌≤◌, length}
+use Rattle.std.specs.Prelude.{◌≡◌, false, ℕ, ◌+◌, ◌*◌, ◌<◌, ◌≤◌, length, Option, Some, None}
 use Rattle.std.proofs.Math.Path.{refl, sym, ap, ap₂}
 use Rattle.std.proofs.Common.{◌∙◌, arith, rules, ne_eqb}
 use mathlib.Core.List.{List, []}
@@ -11,8 +11,6 @@ use Rattle.numbers.specs.Numbers.{value, words, values, parts, filled}
 use Rattle.nodes.specs.Places.{Stands, the}
 use Rattle.nodes.specs.Texts.{text_from}
 use Rattle.nodes.proofs.Laws.TextSteps.{from_none}
-use Rattle.nodes.specs.declared.Found.{Found}
-use Rattle.nodes.specs.declared.Found.TheVariants.{At, Nothing}
 use Rattle.cifti.specs.Maps.{Voxel, Listed, vertices, voxels, model_of, voxels_of}
 use Rattle.cifti.specs.Conditions.{lists_count, beyond}
 use Rattle.maps.proofs.Laws.Kinds.{model_facts}
@@ -53,14 +51,14 @@ vertices_said : (volume : Voxel) (size surface : ℕ) (l : List ℕ)
 unfolding lists_count beyond vertices_verdict
 vertices_said volume size surface l = refl
 
-module _ (volume : Voxel) {text : List ℕ} {at size kind : ℕ} (k : ModelKnown text at size kind) {f : Found} (st : StartOf text at f) where
+module _ (volume : Voxel) {text : List ℕ} {at size kind : ℕ} (k : ModelKnown text at size kind) {f : Option ℕ} (st : StartOf text at f) where
   x : ListAt text at f
   x = st.told k.model
 
   pub judge_stands : Stands text at
   judge_stands = k.model.stands
 
-  pub judge_none : f ≡ Nothing → 11 ≡ list_verdict volume (model_of (the text at))
+  pub judge_none : f ≡ None → 11 ≡ list_verdict volume (model_of (the text at))
   unfolding list_verdict verdict_by
   judge_none q =
       let e : listed_numbers (model_of (the text at)).listed ≡ [] = sym x.numbers ∙ ap (λ g. values (text_from text g)) q
@@ -68,7 +66,7 @@ module _ (volume : Voxel) {text : List ℕ} {at size kind : ℕ} (k : ModelKnown
       let c = counts_none (model_of (the text at)).count (model_of (the text at)).listed (count_some k.model.good) e in
       sym (rw c)
 
-  module _ {i : ℕ} (q : f ≡ At i) where
+  module _ {i : ℕ} (q : f ≡ Some i) where
     pub judge_form : InForm text i
     judge_form = list_form x q
 

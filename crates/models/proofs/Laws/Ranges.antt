@@ -1,9 +1,7 @@
 -- The turns of the loops over the arrays of the ranges.
-use Rattle.std.specs.Prelude.{◌≡◌, refl, List, [], ◌∷◌, cond, ℕ, ◌+◌, ◌*◌, ◌-◌, ◌<◌, ◌≤◌, ◌^◌, eqb, get_or}
+use Rattle.std.specs.Prelude.{◌≡◌, refl, List, [], ◌∷◌, cond, ℕ, ◌+◌, ◌*◌, ◌-◌, ◌<◌, ◌≤◌, ◌^◌, eqb, get_or, Some, None}
 use Rattle.std.proofs.Math.Path.{sym, ap}
 use Rattle.std.proofs.Common.{◌∙◌, arith, rules}
-use Rattle.std.proofs.Math.Option.{some}
-use Rattle.std.proofs.Math.Option
 use borrow.Author.Tests.{eq-eqb, ne_eqb, lt-ltb, le-ltb}
 use Rattle.lists.specs.Lists.{count_up, total}
 use Rattle.lists.specs.Ranges.{Range, sum_of, begins_at}
@@ -79,11 +77,11 @@ module _ {m : Models} {n i : ℕ} (go : Adding m n i) where
 pub ruleset adding = (adding_start, adding_done, adding_place, adding_room, adding_on, rules)
 
 -- where a range begins
-begins_one : (c : ℕ) (x : Range) (l : List Range) → begins_at c (x ∷ l) ≡ cond (eqb x.offset c) (some x) (begins_at c l)
+begins_one : (c : ℕ) (x : Range) (l : List Range) → begins_at c (x ∷ l) ≡ cond (eqb x.offset c) (Some x) (begins_at c l)
 unfolding begins_at
 begins_one c x l = refl
 
-begins_none : (c : ℕ) → begins_at c [] ≡ Option.none
+begins_none : (c : ℕ) → begins_at c [] ≡ None
 unfolding begins_at
 begins_none c = refl
 
@@ -101,9 +99,9 @@ module _ {m : Models} {c i : ℕ} (go : Beginning m c i) where
   beginning_done h = go.same_begin ∙ ap (begins_at c) (ahead_none m i h) ∙ begins_none c ∙ sym (rw (le-ltb i m.count h))
 
   module _ (h : i < m.count) where
-    step : begins_at c (ranges_of m) ≡ cond (eqb (get_or m.offset i 0) c) (some (range_of m i)) (begins_at c (ahead m (i + 1)))
+    step : begins_at c (ranges_of m) ≡ cond (eqb (get_or m.offset i 0) c) (Some (range_of m i)) (begins_at c (ahead m (i + 1)))
     step = go.same_begin ∙ ap (begins_at c) (ahead_one m i h) ∙ begins_one c (range_of m i) (ahead m (i + 1))
-        ∙ ap (λ o. cond (eqb o c) (some (range_of m i)) (begins_at c (ahead m (i + 1)))) (range_offset m i)
+        ∙ ap (λ o. cond (eqb o c) (Some (range_of m i)) (begins_at c (ahead m (i + 1)))) (range_offset m i)
 
     pub beginning_place : i < 64
     beginning_place = omega (arith, go.sized.few)

@@ -1,5 +1,5 @@
 -- The sizes of a map's volume: those of its first Volume.
-use Rattle.std.specs.Prelude.{◌≡◌, refl, Bool, false, cond, ℕ, get_or}
+use Rattle.std.specs.Prelude.{◌≡◌, refl, Bool, false, cond, ℕ, get_or, Option, Some, None}
 use Rattle.std.proofs.Math.Path.{sym, ap}
 use Rattle.std.proofs.Common.{◌∙◌, arith, rules}
 use mathlib.Core.List.{List, [], ◌∷◌, ◌++◌}
@@ -13,8 +13,6 @@ use Rattle.numbers.specs.Numbers.{whole, value, three, parts, comma, volume_dime
 use Rattle.nodes.specs.Places.{Stands, the}
 use Rattle.nodes.specs.Attributes.{place}
 use Rattle.nodes.specs.Values.{value_there}
-use Rattle.nodes.specs.declared.Found.{Found}
-use Rattle.nodes.specs.declared.Found.TheVariants.{At, Nothing}
 use Rattle.cifti.specs.Words.{most_length}
 use Rattle.cifti.specs.Rows.{volume}
 use Rattle.cifti.specs.Maps.{Voxel, voxel, sizes_by, sizes_of, map_of}
@@ -26,8 +24,6 @@ use Rattle.maps.specs.declared.survey.Seen.{Seen}
 use Rattle.maps.proofs.Laws.Fields.{word_at, found_value, found_none}
 use Rattle.numbers.specs.Answers.{three_in, lengths_of}
 use Rattle.numbers.specs.declared.Lengths.{Lengths}
-use Rattle.numbers.specs.declared.Three.{Three}
-use Rattle.numbers.specs.declared.Three.TheVariants as answers
 use Rattle.models.specs.Sizes.{VolumeNoted, VolumeAt, sizes_at}
 
 -- ---- Three numbers with commas.
@@ -64,30 +60,30 @@ sizes_three l s = rw s.are
 
 -- ---- The Volume at a place.
 
-module _ {text : List ℕ} {at : ℕ} (v : VolumeAt text at) {f : Found} (e : f ≡ place text at (ascii "VolumeDimensions")) where
+module _ {text : List ℕ} {at : ℕ} (v : VolumeAt text at) {f : Option ℕ} (e : f ≡ place text at (ascii "VolumeDimensions")) where
   pub sizes_stands : Stands text at
   sizes_stands = v.stands
 
-  module _ {x : ℕ} (q : f ≡ At x) {a : Three} (y : a ≡ three_in most_length most_length most_length (value_there text x)) where
+  module _ {x : ℕ} (q : f ≡ Some x) {a : Option Lengths} (y : a ≡ three_in most_length most_length most_length (value_there text x)) where
     word : value_there text x ≡ attr "VolumeDimensions" (the text at)
     word = found_value (ascii "VolumeDimensions") v.stands e q ∙ word_at "VolumeDimensions" (the text at)
 
-    answered : a ≡ answers.Are (lengths_of (sizes_at (the text at)))
+    answered : a ≡ Some (lengths_of (sizes_at (the text at)))
     unfolding three_in sizes_at
     answered = y ∙ ap (three_in most_length most_length most_length) word ∙ rw (volume_sizes v.good)
 
-    pub sizes_there : {l : Lengths} → a ≡ answers.Are l → voxel l.i l.j l.k ≡ sizes_by (sizes_at (the text at))
+    pub sizes_there : {l : Lengths} → a ≡ Some l → voxel l.i l.j l.k ≡ sizes_by (sizes_at (the text at))
     unfolding lengths_of
     sizes_there {l} z =
         let s : l ≡ lengths_of (sizes_at (the text at)) =
-        (let w : answers.Are l ≡ answers.Are (lengths_of (sizes_at (the text at))) = sym z ∙ answered in cc) in
+        (let w : Some l ≡ Some (lengths_of (sizes_at (the text at))) = sym z ∙ answered in cc) in
         ap (λ m. voxel m.i m.j m.k) s ∙ sym (sizes_three (sizes_at (the text at)) (in_form_lem v.good))
 
-    pub sizes_not : a ≡ answers.No → voxel 0 0 0 ≡ sizes_by (sizes_at (the text at))
-    sizes_not z = absurd (let w : ◌≡◌ {A = Three} answers.No (answers.Are (lengths_of (sizes_at (the text at)))) = sym z ∙ answered in
+    pub sizes_not : a ≡ None → voxel 0 0 0 ≡ sizes_by (sizes_at (the text at))
+    sizes_not z = absurd (let w : ◌≡◌ {A = (Option Lengths)} None (Some (lengths_of (sizes_at (the text at)))) = sym z ∙ answered in
         let o : ◌≡◌ {A = ℕ} 0 1 = cc in omega arith)
 
-  pub sizes_missing : f ≡ Nothing → voxel 0 0 0 ≡ sizes_by (sizes_at (the text at))
+  pub sizes_missing : f ≡ None → voxel 0 0 0 ≡ sizes_by (sizes_at (the text at))
   unfolding volume_dimensions parts three
   sizes_missing q =
       let w : attr "VolumeDimensions" (the text at) ≡ [] = sym (word_at "VolumeDimensions" (the text at))

@@ -1,5 +1,5 @@
 -- The number of the word that an attribute says: of the structures, and of the units.
-use Rattle.std.specs.Prelude.{◌≡◌, refl, List, [], ◌∷◌, Bool, true, false, cond, ◌||◌, ℕ, suc, ◌<◌, length}
+use Rattle.std.specs.Prelude.{◌≡◌, refl, List, [], ◌∷◌, Bool, true, false, cond, ◌||◌, ℕ, suc, ◌<◌, length, Option, Some, None}
 use Prim.Native.String.{String}
 use Rattle.std.proofs.Common.{arith, sym, ap, ◌∙◌, rules}
 use Rattle.lists.specs.Lists.{any}
@@ -11,8 +11,6 @@ use Rattle.grammar.specs.Parser.{same_bytes}
 use Rattle.nodes.specs.Places.{Stands, the}
 use Rattle.nodes.specs.Attributes.{place}
 use Rattle.nodes.specs.Values.{value_there}
-use Rattle.nodes.specs.declared.Found.{Found}
-use Rattle.nodes.specs.declared.Found.TheVariants.{At, Nothing}
 use Rattle.cifti.specs.Words.{units}
 use Rattle.maps.proofs.Laws.Fields.{word_at, found_value, found_none}
 
@@ -42,27 +40,27 @@ no_unit : number_in units [] ≡ 4
 unfolding units number_in is same_bytes
 no_unit = refl
 
-module _ {text : List ℕ} {at : ℕ} (st : Stands text at) (s : String) (l : List String) {f : Found} (e : f ≡ place text at (ascii s)) where
-  named_there : {v n : ℕ} → f ≡ At v → n ≡ number_in l (value_there text v) → n ≡ number_in l (attr s (the text at))
+module _ {text : List ℕ} {at : ℕ} (st : Stands text at) (s : String) (l : List String) {f : Option ℕ} (e : f ≡ place text at (ascii s)) where
+  named_there : {v n : ℕ} → f ≡ Some v → n ≡ number_in l (value_there text v) → n ≡ number_in l (attr s (the text at))
   named_there h q = q ∙ ap (number_in l) (found_value (ascii s) st e h ∙ word_at s (the text at))
 
-  named_nowhere : f ≡ Nothing → number_in l [] ≡ number_in l (attr s (the text at))
+  named_nowhere : f ≡ None → number_in l [] ≡ number_in l (attr s (the text at))
   named_nowhere h = ap (number_in l) (sym (sym (word_at s (the text at)) ∙ found_none (ascii s) st e h))
 
-module _ {text : List ℕ} {at : ℕ} (st : Stands text at) {f : Found} where
-  pub structure_there : f ≡ place text at (ascii "BrainStructure") → {v n : ℕ} → f ≡ At v → n ≡ number_in structures (value_there text v)
+module _ {text : List ℕ} {at : ℕ} (st : Stands text at) {f : Option ℕ} where
+  pub structure_there : f ≡ place text at (ascii "BrainStructure") → {v n : ℕ} → f ≡ Some v → n ≡ number_in structures (value_there text v)
       → n ≡ number_in structures (attr "BrainStructure" (the text at))
   structure_there e h q = named_there st "BrainStructure" structures e h q
 
-  pub structure_missing : f ≡ place text at (ascii "BrainStructure") → f ≡ Nothing
+  pub structure_missing : f ≡ place text at (ascii "BrainStructure") → f ≡ None
       → 32 ≡ number_in structures (attr "BrainStructure" (the text at))
   structure_missing e h = sym no_structure_lem ∙ named_nowhere st "BrainStructure" structures e h
 
-  pub unit_there : f ≡ place text at (ascii "SeriesUnit") → {v n : ℕ} → f ≡ At v → n ≡ number_in units (value_there text v)
+  pub unit_there : f ≡ place text at (ascii "SeriesUnit") → {v n : ℕ} → f ≡ Some v → n ≡ number_in units (value_there text v)
       → n ≡ number_in units (attr "SeriesUnit" (the text at))
   unit_there e h q = named_there st "SeriesUnit" units e h q
 
-  pub unit_missing : f ≡ place text at (ascii "SeriesUnit") → f ≡ Nothing → 4 ≡ number_in units (attr "SeriesUnit" (the text at))
+  pub unit_missing : f ≡ place text at (ascii "SeriesUnit") → f ≡ None → 4 ≡ number_in units (attr "SeriesUnit" (the text at))
   unit_missing e h = sym no_unit ∙ named_nowhere st "SeriesUnit" units e h
 
 pub ruleset structured = (structure_there, structure_missing, unit_there, unit_missing, rules)

@@ -1,8 +1,7 @@
 -- THE FRONT AS CODE ANSWERS IT: the body that a walk takes is the first of code 32, and it lies inside the file. Assumes nothing.
-use Rattle.std.specs.Prelude.{◌≡◌, List, [], ◌∷◌, ◌++◌, Bool, true, false, ◌&&◌, not, cond, ℕ, zero, suc, ◌+◌, ◌-◌, ◌≤◌, ◌<◌, eqb, leb, ltb, pos, length, get_or, take, drop}
+use Rattle.std.specs.Prelude.{◌≡◌, List, [], ◌∷◌, ◌++◌, Bool, true, false, ◌&&◌, not, cond, ℕ, zero, suc, ◌+◌, ◌-◌, ◌≤◌, ◌<◌, eqb, leb, ltb, pos, length, get_or, take, drop, Option, Some, None}
 use Rattle.std.proofs.Math.Path.{refl, sym, ap, subst}
 use Rattle.std.proofs.Common.{◌∙◌, arith, Fits, length-append, drop-drop, drop_at}
-use Rattle.std.proofs.Math.Option.{Option, some}
 use Rattle.std.specs.Int.{w8}
 use Rattle.std.proofs.Math.Seq.{slice, take-append_seam, length-slice}
 use borrow.Author.Tests.{leb-true, ltb-true, lt-ltb, le-ltb, le-leb, lt-leb, eq-eqb, ne_eqb, not-false}
@@ -82,8 +81,8 @@ pub ruleset beginning = (list_empty, list_past, list_walked, end_low)
 -- ---- What a walk takes is the first of code 32.
 
 abbrev pub taken_as : Option Body → Taken
-taken_as Option.none = record { listed = true; start = 0; length = 0 }
-taken_as (some b) = record { listed = true; start = b.start; length = length b.bytes }
+taken_as None = record { listed = true; start = 0; length = 0 }
+taken_as (Some b) = record { listed = true; start = b.start; length = length b.bytes }
 
 taken_kept : (start size place : ℕ) (es : List Extension) → (start ≡ 0 → ⊥)
     → taken start size place es ≡ record { listed = true; start = start; length = size }
@@ -98,13 +97,13 @@ taken_first place (e ∷ es) = go (eqb e.code 32) (taken_first (place + size_of 
   where
     go : (t : Bool) → taken 0 0 (place + size_of e) es ≡ taken_as (first_text (place + size_of e) es)
         → cond t (taken (place + 8) (length e.body) (place + size_of e) es) (taken 0 0 (place + size_of e) es)
-        ≡ taken_as (cond t (some (record { start = place + 8; bytes = e.body })) (first_text (place + size_of e) es))
+        ≡ taken_as (cond t (Some (record { start = place + 8; bytes = e.body })) (first_text (place + size_of e) es))
     go true ih = taken_kept (place + 8) (length e.body) (place + size_of e) es (λ z. omega arith)
     go false ih = ih
 
 is_listed : (b : Option Body) → (taken_as b).listed ≡ true
-is_listed Option.none = refl
-is_listed (some b) = refl
+is_listed None = refl
+is_listed (Some b) = refl
 
 -- ---- PART-INSIDE: the body lies inside the bytes that the list is written in.
 
@@ -143,22 +142,22 @@ module _ (o : Order) (file : List ℕ) (at end : ℕ) (e : Extension) (g : GoodE
       }
 
 pub first_inside : {o : Order} {es : List Extension} {s : List ℕ} (file : List ℕ) (at end : ℕ) (b : Body) → ExtensionList o es s
-    → s ≡ slice at end file → at ≤ end → end ≤ length file → first_text at es ≡ some b → Inside file end b
+    → s ≡ slice at end file → at ≤ end → end ≤ length file → first_text at es ≡ Some b → Inside file end b
 unfolding first_text
 first_inside file at end b nothing h k u f = never_some f
 first_inside {o} file at end b (next {e} {es} {s} g l) h k u f =
     go (eqb e.code 32) f
     (λ q. first_inside file (at + size_of e) end b l (rest o file at end e g s h k u) (spans o file at end e g s h k u) u q)
   where
-    go : (t : Bool) → cond t (some (record { start = at + 8; bytes = e.body })) (first_text (at + size_of e) es) ≡ some b
-        → (first_text (at + size_of e) es ≡ some b → Inside file end b) → Inside file end b
+    go : (t : Bool) → cond t (Some (record { start = at + 8; bytes = e.body })) (first_text (at + size_of e) es) ≡ Some b
+        → (first_text (at + size_of e) es ≡ Some b → Inside file end b) → Inside file end b
     go true q ih =
         let z : record { start = at + 8; bytes = e.body } ≡ b = cc in
         subst (Inside file end) z (body_there o file at end e g s h k u)
     go false q ih = ih q
 
 -- of a file
-has_inside : {file : List ℕ} {es : List Extension} {b : Body} → HasList file es → offset_stands file ≡ true → first_text list_start es ≡ some b
+has_inside : {file : List ℕ} {es : List Extension} {b : Body} → HasList file es → offset_stands file ≡ true → first_text list_start es ≡ Some b
     → Inside file (length file) b
 unfolding first_text offset_stands field_at_least
 has_inside (empty z) p f = never_some f
@@ -168,7 +167,7 @@ has_inside {file} {b = b} (listed {end} z e i l) p f =
     let w = r.within in
     record { behind = r.behind; within = omega arith; is = r.is }
 
-list_inside : {file : List ℕ} {l : Option (List Extension)} {b : Body} → ListOf file l → offset_stands file ≡ true → text_body l ≡ some b
+list_inside : {file : List ℕ} {l : Option (List Extension)} {b : Body} → ListOf file l → offset_stands file ≡ true → text_body l ≡ Some b
     → Inside file (length file) b
 unfolding text_body
 list_inside (list h) p f = has_inside h p f
@@ -183,11 +182,11 @@ stands_first file l h =
     (not-false (front_stands file)
     (or_right (ltb (length file) 544) (not (front_stands file)) (row_fails (given_none (conditions_of_front file l) refl h))))
 
-accepted_inside : (file : List ℕ) (o : Option Body) → ((b : Body) → o ≡ some b → Inside file (length file) b)
+accepted_inside : (file : List ℕ) (o : Option Body) → ((b : Body) → o ≡ Some b → Inside file (length file) b)
     → (accepted_front file o).start + (accepted_front file o).length ≤ length file
 unfolding accepted_front
-accepted_inside file Option.none h = omega arith
-accepted_inside file (some b) h =
+accepted_inside file None h = omega arith
+accepted_inside file (Some b) h =
     let i = h b refl in
     let w = i.within in
     let k = kept_few b.bytes in
@@ -209,8 +208,8 @@ pub record Shaped (f : Front) : Type 0 where
 
 shaped_by : (n : ℕ) (file : List ℕ) (o : Option Body) → Shaped (front_by n file o)
 unfolding front_by accepted_front
-shaped_by zero file Option.none = record { few = omega arith; three = refl }
-shaped_by zero file (some b) = record { few = count_few file; three = refl }
+shaped_by zero file None = record { few = omega arith; three = refl }
+shaped_by zero file (Some b) = record { few = count_few file; three = refl }
 shaped_by (suc n) file o = record { few = omega arith; three = refl }
 
 pub front_shaped : {file : List ℕ} {f : Front} → Fronts file f → Shaped f
@@ -263,8 +262,8 @@ module _ (file : List ℕ) (k : Bytes file) where
         module _ {r : Taken} (taken_is : r ≡ taken_by 0 0 544 (list_in file)) where
           not_there : (l : Option (List Extension)) → (taken_by 0 0 544 l).listed ≡ false → front_to file l ≡ refused_front 22
           unfolding taken_by is_some first front_by
-          not_there Option.none h = later Option.none
-          not_there (some es) h = both_ways (ap (λ (x : Taken). x.listed) (taken_first 544 es) ∙ is_listed (first_text 544 es)) h
+          not_there None h = later None
+          not_there (Some es) h = both_ways (ap (λ (x : Taken). x.listed) (taken_first 544 es) ∙ is_listed (first_text 544 es)) h
 
           pub no_list : {f : Front} → r.listed ≡ false → f ≡ refused_front 22 → Fronts file f
           unfolding front_of
@@ -273,12 +272,12 @@ module _ (file : List ℕ) (k : Bytes file) where
           none_there : (l : Option (List Extension)) → (taken_by 0 0 544 l).listed ≡ true → (taken_by 0 0 544 l).start ≡ 0
               → ListOf file l → front_to file l ≡ refused_front 23
           unfolding taken_by is_some text_body first front_by
-          none_there Option.none h z w = both_ways h refl
-          none_there (some es) h z w = go (first_text 544 es) refl
+          none_there None h z w = both_ways h refl
+          none_there (Some es) h z w = go (first_text 544 es) refl
             where
-              go : (o : Option Body) → first_text 544 es ≡ o → front_to file (some es) ≡ refused_front 23
-              go Option.none q = later (some es) ∙ rw q
-              go (some x) q =
+              go : (o : Option Body) → first_text 544 es ≡ o → front_to file (Some es) ≡ refused_front 23
+              go None q = later (Some es) ∙ rw q
+              go (Some x) q =
                   let s : x.start ≡ 0 = sym (ap (λ (y : Taken). y.start) (taken_first 544 es ∙ ap taken_as q)) ∙ z in
                   let i = list_inside w (offset_there file stands) q in
                   let k = i.behind in
@@ -296,17 +295,17 @@ module _ (file : List ℕ) (k : Bytes file) where
           one_there : (l : Option (List Extension)) → (taken_by 0 0 544 l).listed ≡ true → ((taken_by 0 0 544 l).start ≡ 0 → ⊥)
               → ListOf file l → Found l (taken_by 0 0 544 l)
           unfolding taken_by is_some text_body first front_by accepted_front front_accepted
-          one_there Option.none h z w = both_ways h refl
-          one_there (some es) h z w = go (first_text 544 es) refl
+          one_there None h z w = both_ways h refl
+          one_there (Some es) h z w = go (first_text 544 es) refl
             where
-              go : (o : Option Body) → first_text 544 es ≡ o → Found (some es) (taken 0 0 544 es)
-              go Option.none q = absurd (z (ap (λ (y : Taken). y.start) (taken_first 544 es ∙ ap taken_as q)))
-              go (some x) q =
+              go : (o : Option Body) → first_text 544 es ≡ o → Found (Some es) (taken 0 0 544 es)
+              go None q = absurd (z (ap (λ (y : Taken). y.start) (taken_first 544 es ∙ ap taken_as q)))
+              go (Some x) q =
                   let i = list_inside w (offset_there file stands) q in
-                  let e : taken_as (some x) ≡ taken 0 0 544 es = sym (taken_first 544 es ∙ ap taken_as q) in
-                  subst (Found (some es)) e (record {
+                  let e : taken_as (Some x) ≡ taken 0 0 544 es = sym (taken_first 544 es ∙ ap taken_as q) in
+                  subst (Found (Some es)) e (record {
                     within = i.within;
-                    is = later (some es) ∙ rw q (ap (λ s. accepted_by file x.start s) i.is);
+                    is = later (Some es) ∙ rw q (ap (λ s. accepted_by file x.start s) i.is);
                   })
 
           found : r.listed ≡ true → (r.start ≡ 0 → ⊥) → Found (list_in file) r

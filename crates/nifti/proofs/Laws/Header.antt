@@ -248,7 +248,7 @@ told_yes {b} e h = sym e ∙ not-false b h
 pub told_no : {b t : Bool} → b ≡ t → not b ≡ true → t ≡ false
 told_no {b} e h = sym e ∙ not-true b h
 
-pub ruleset counting-down = (down_begins, down_ends, down_next, down_fails)
+pub ruleset counting_down = (down_begins, down_ends, down_next, down_fails)
 
 -- ---- The order.
 

@@ -1,9 +1,8 @@
 -- THE LIST IS FOUND WHERE ONE IS WRITTEN, and no two are written alike. Assumes nothing.
-use Rattle.std.specs.Prelude.{◌≡◌, refl, Bool, true, false, cond, eqb, leb, ltb, drop, ◌↔◌}
+use Rattle.std.specs.Prelude.{◌≡◌, refl, Bool, true, false, cond, eqb, leb, ltb, drop, ◌↔◌, Option, Some, None}
 use Rattle.std.proofs.Math.Path.{sym, ap}
 use Rattle.std.proofs.Common.{◌∙◌, subst, take-append-drop, drop-drop, length-take-le, ltb-true, leb-true, eqb-true, lt-ltb, le-leb, eq-eqb, ne_eqb}
 use mathlib.Core.List.{List, [], ◌∷◌, ◌++◌, append_assoc}
-use Rattle.std.proofs.Math.Option.{Option, some}
 use Prim.Native.Nat.{ℕ, zero, suc, ◌+◌, ◌-◌, ◌%◌, ◌^◌, ◌≤◌, ◌<◌}
 use native.Mathlib.Omega.{arith}
 use Rattle.std.proofs.Math.ListN.{length, take, length-append, length-drop}
@@ -55,18 +54,18 @@ enough o (suc m) (suc n) s h k = go (good_size (number_at o 4 0 s) (length s)) r
     go : (t : Bool) → good_size (number_at o 4 0 s) (length s) ≡ t
         → (length (drop (number_at o 4 0 s) s) ≤ m → length (drop (number_at o 4 0 s) s) ≤ n
         → cut_by m o (drop (number_at o 4 0 s) s) ≡ cut_by n o (drop (number_at o 4 0 s) s))
-        → cond (eqb (length s) 0) (some []) (one_more_if t (extension_in o s) (cut_by m o (drop (number_at o 4 0 s) s)))
-        ≡ cond (eqb (length s) 0) (some []) (one_more_if t (extension_in o s) (cut_by n o (drop (number_at o 4 0 s) s)))
+        → cond (eqb (length s) 0) (Some []) (one_more_if t (extension_in o s) (cut_by m o (drop (number_at o 4 0 s) s)))
+        ≡ cond (eqb (length s) 0) (Some []) (one_more_if t (extension_in o s) (cut_by n o (drop (number_at o 4 0 s) s)))
     go false e ih = refl
     go true e ih =
         let f = size_fits (number_at o 4 0 s) (length s) e in
         let l = f.low in
         let u = length-drop (number_at o 4 0 s) s in
-        ap (λ r. cond (eqb (length s) 0) (some []) (one_more_if true (extension_in o s) r)) (ih (omega arith) (omega arith))
+        ap (λ r. cond (eqb (length s) 0) (Some []) (one_more_if true (extension_in o s) r)) (ih (omega arith) (omega arith))
 
 -- ---- One step.
 
-pub cut_none : (o : Order) (s : List ℕ) → length s ≡ 0 → cut o s ≡ some []
+pub cut_none : (o : Order) (s : List ℕ) → length s ≡ 0 → cut o s ≡ Some []
 unfolding cut cut_by
 cut_none o [] e = refl
 cut_none o (x ∷ s) e = absurd (omega arith)
@@ -75,7 +74,7 @@ cut_step : (o : Order) (s : List ℕ) → (length s ≡ 0 → ⊥) → cut o s �
 unfolding cut
 cut_step o s h = enough o (length s) (suc (length s)) s (omega arith) (omega arith)
 
-pub cut_bad : (o : Order) (s : List ℕ) → (length s ≡ 0 → ⊥) → good_size (number_at o 4 0 s) (length s) ≡ false → cut o s ≡ Option.none
+pub cut_bad : (o : Order) (s : List ℕ) → (length s ≡ 0 → ⊥) → good_size (number_at o 4 0 s) (length s) ≡ false → cut o s ≡ None
 unfolding cut_by one_more_if
 cut_bad o s h e = cut_step o s h ∙ rw (ne_eqb (length s) 0 h, e)
 
@@ -152,7 +151,7 @@ module _ (o : Order) (e : Extension) (g : GoodExtension e) (t : List ℕ) where
       cut_good o (written o e ++ t) good_read
       ∙ rw (read_back, size_read) (ap (λ l. one_more_if true e (cut o l)) (drop_at (written o e) t (size_of e) written_size))
 
-pub list_found : {o : Order} {es : List Extension} {s : List ℕ} → ExtensionList o es s → cut o s ≡ some es
+pub list_found : {o : Order} {es : List Extension} {s : List ℕ} → ExtensionList o es s → cut o s ≡ Some es
 unfolding one_more_if
 list_found {o} nothing = cut_none o [] refl
 list_found {o} (next {e} {es} {s} g l) = found_next o e g s ∙ ap (one_more_if true e) (list_found l)
@@ -217,21 +216,21 @@ module _ (o : Order) (s : List ℕ) (b : Below 256 s) (f : Fits (number_at o 4 0
 record Onward (t : Bool) (e : Extension) (l : Option (List Extension)) (es : List Extension) : Type 0 where
   good : t ≡ true
   rest : List Extension
-  is : l ≡ some rest
+  is : l ≡ Some rest
   joined : es ≡ e ∷ rest
 
-onward_some : (t : Bool) (e : Extension) (l : Option (List Extension)) {es : List Extension} → one_more_if t e l ≡ some es → Onward t e l es
+onward_some : (t : Bool) (e : Extension) (l : Option (List Extension)) {es : List Extension} → one_more_if t e l ≡ Some es → Onward t e l es
 unfolding one_more_if
 onward_some false e l h = never_some h
-onward_some true e Option.none h = never_some h
-onward_some true e (some fs) h = record { good = refl; rest = fs; is = refl; joined = cc }
+onward_some true e None h = never_some h
+onward_some true e (Some fs) h = record { good = refl; rest = fs; is = refl; joined = cc }
 
-nothing_listed : (o : Order) (s : List ℕ) {es : List Extension} → length s ≡ 0 → some [] ≡ some es → ExtensionList o es s
+nothing_listed : (o : Order) (s : List ℕ) {es : List Extension} → length s ≡ 0 → Some [] ≡ Some es → ExtensionList o es s
 nothing_listed o [] {es} e q = let z : es ≡ [] = cc in rw z nothing
 nothing_listed o (x ∷ s) e q = absurd (omega arith)
 
 next_listed : (o : Order) (s : List ℕ) {es : List Extension} {l : Option (List Extension)} → Below 256 s
-    → ((fs : List Extension) → Below 256 (drop (number_at o 4 0 s) s) → l ≡ some fs → ExtensionList o fs (drop (number_at o 4 0 s) s))
+    → ((fs : List Extension) → Below 256 (drop (number_at o 4 0 s) s) → l ≡ Some fs → ExtensionList o fs (drop (number_at o 4 0 s) s))
     → Onward (good_size (number_at o 4 0 s) (length s)) (extension_in o s) l es → ExtensionList o es s
 next_listed o s {es} b ih w =
     let f = size_fits (number_at o 4 0 s) (length s) w.good in
@@ -239,25 +238,25 @@ next_listed o s {es} b ih w =
     next (found_good o s b f) (ih w.rest (drop_below 256 (number_at o 4 0 s) s b) w.is) in
     rw w.joined (subst (ExtensionList o (extension_in o s ∷ w.rest)) (found_joined o s b f) r)
 
-found_by : (o : Order) (n : ℕ) (s : List ℕ) {es : List Extension} → Below 256 s → cut_by n o s ≡ some es → ExtensionList o es s
+found_by : (o : Order) (n : ℕ) (s : List ℕ) {es : List Extension} → Below 256 s → cut_by n o s ≡ Some es → ExtensionList o es s
 unfolding cut_by
 found_by o zero s {es} b h = go (eqb (length s) 0) refl h
   where
-    go : (t : Bool) → eqb (length s) 0 ≡ t → cond t (some []) Option.none ≡ some es → ExtensionList o es s
+    go : (t : Bool) → eqb (length s) 0 ≡ t → cond t (Some []) None ≡ Some es → ExtensionList o es s
     go true e q = nothing_listed o s (eqb-true _ _ e) q
     go false e q = never_some q
 found_by o (suc n) s {es} b h = go (eqb (length s) 0) refl (λ fs. found_by o n (drop (number_at o 4 0 s) s) {es = fs}) h
   where
     go : (t : Bool) → eqb (length s) 0 ≡ t
-        → ((fs : List Extension) → Below 256 (drop (number_at o 4 0 s) s) → cut_by n o (drop (number_at o 4 0 s) s) ≡ some fs
+        → ((fs : List Extension) → Below 256 (drop (number_at o 4 0 s) s) → cut_by n o (drop (number_at o 4 0 s) s) ≡ Some fs
         → ExtensionList o fs (drop (number_at o 4 0 s) s))
-        → cond t (some []) (one_more_if (good_size (number_at o 4 0 s) (length s)) (extension_in o s) (cut_by n o (drop (number_at o 4 0 s) s)))
-        ≡ some es
+        → cond t (Some []) (one_more_if (good_size (number_at o 4 0 s) (length s)) (extension_in o s) (cut_by n o (drop (number_at o 4 0 s) s)))
+        ≡ Some es
         → ExtensionList o es s
     go true e ih q = nothing_listed o s (eqb-true _ _ e) q
     go false e ih q = next_listed o s b ih (onward_some _ (extension_in o s) (cut_by n o (drop (number_at o 4 0 s) s)) q)
 
 -- ---- LISTED-IFF: what is found is that a list is written.
-pub listed_iff : (o : Order) (s : List ℕ) (es : List Extension) → Below 256 s → (cut o s ≡ some es) ↔ ExtensionList o es s
+pub listed_iff : (o : Order) (s : List ℕ) (es : List Extension) → Below 256 s → (cut o s ≡ Some es) ↔ ExtensionList o es s
 unfolding cut
 listed_iff o s es b = (found_by o (length s) s b, list_found)

@@ -1,8 +1,7 @@
 -- THE WALK OVER A LIST, step by step, and the body that it takes. Assumes nothing.
-use Rattle.std.specs.Prelude.{◌≡◌, refl, List, [], ◌∷◌, Bool, false, ◌&&◌, not, ℕ, zero, suc, ◌+◌, ◌-◌, ◌%◌, ◌≤◌, ◌<◌, eqb, length, take}
+use Rattle.std.specs.Prelude.{◌≡◌, refl, List, [], ◌∷◌, Bool, false, ◌&&◌, not, ℕ, zero, suc, ◌+◌, ◌-◌, ◌%◌, ◌≤◌, ◌<◌, eqb, length, take, Option, Some, None}
 use Rattle.std.proofs.Math.Path.{sym, ap}
 use Rattle.std.proofs.Common.{◌∙◌, subst, take-take}
-use Rattle.std.proofs.Math.Option.{Option, some}
 use Rattle.std.proofs.Math.Bool.{true}
 use native.Mathlib.Omega.{arith}
 use Rattle.std.proofs.Math.ListN.{drop}
@@ -40,14 +39,14 @@ number_slice o w at place end s h =
 take_on : (start size place : ℕ) (e : Extension) (l : Option (List Extension)) → start ≡ 0 → e.code ≡ 32
     → taken_by start size place (one_more_if true e l) ≡ taken_by (place + 8) (length e.body) (place + size_of e) l
 unfolding taken_by taken one_more_if
-take_on start size place e Option.none z c = refl
-take_on start size place e (some es) z c = rw (eq-eqb start 0 z, eq-eqb e.code 32 c)
+take_on start size place e None z c = refl
+take_on start size place e (Some es) z c = rw (eq-eqb start 0 z, eq-eqb e.code 32 c)
 
 skip_on : (start size place : ℕ) (e : Extension) (l : Option (List Extension)) → (eqb start 0 && eqb e.code 32) ≡ false
     → taken_by start size place (one_more_if true e l) ≡ taken_by start size (place + size_of e) l
 unfolding taken_by taken one_more_if
-skip_on start size place e Option.none h = refl
-skip_on start size place e (some es) h = rw h
+skip_on start size place e None h = refl
+skip_on start size place e (Some es) h = rw h
 
 -- ---- The loop.
 

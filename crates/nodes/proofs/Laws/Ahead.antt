@@ -1,5 +1,5 @@
 -- What stands ahead, at a position of the text: one law for each way through the code.
-use Rattle.std.specs.Prelude.{◌≡◌, List, ◌++◌, ℕ, ◌+◌, ◌-◌, ◌≤◌, ◌<◌, Bool, true, false, ◌||◌, drop}
+use Rattle.std.specs.Prelude.{◌≡◌, List, ◌++◌, ℕ, ◌+◌, ◌-◌, ◌≤◌, ◌<◌, Bool, true, false, ◌||◌, drop, Option, Some, None}
 use Rattle.std.proofs.Math.Path.{refl, ap, sym}
 use Rattle.std.proofs.Common.{◌∙◌, arith, rules, length-drop}
 use Rattle.std.proofs.Math.ListN.{length}
@@ -12,8 +12,6 @@ use Rattle.grammar.specs.Parser.{comment_at, data_at_lem, Look, at_close, at_com
 use Rattle.grammar.proofs.Laws.Sound.{comment_sound, data_sound}
 use Rattle.steps.specs.Step.{stepped, Went}
 use Rattle.steps.proofs.Laws.Step.{at_end, fell, Tails, tails, went}
-use Rattle.steps.specs.declared.Step.{Step}
-use Rattle.steps.specs.declared.Step.TheVariants.{To, No}
 use Rattle.nodes.specs.Places.{pick}
 use Rattle.nodes.proofs.Laws.Places.{tail_of}
 use Rattle.nodes.proofs.Laws.Depth.{comment_eats}
@@ -40,27 +38,27 @@ module _ (text : List ℕ) (at : ℕ) {words : Bool} {r : ℕ} where
   unfolding past_gap
   gap_words e h = rw e h
 
-  pub gap_blanks : words ≡ false → To r ≡ stepped (length text) (span blank (drop at text))
+  pub gap_blanks : words ≡ false → Some r ≡ stepped (length text) (span blank (drop at text))
       → r ≡ length text - length (past_gap words (drop at text))
   unfolding past_gap stepped after_gap
   gap_blanks e h = rw e (go (span blank (drop at text)) h)
     where
-      go : (m : Read (List ℕ)) → To r ≡ stepped (length text) m → r ≡ length text - length (after_gap m)
+      go : (m : Read (List ℕ)) → Some r ≡ stepped (length text) m → r ≡ length text - length (after_gap m)
       go fail k = clash (cc)
       go (got w s) k = cc
 
 pub ruleset gaps = (gap_words, gap_blanks, rules)
 
-module _ (n : ℕ) (m : Read (Unit {0})) {x : Step} (k : x ≡ stepped n m) where
-  pub end_there : {j : ℕ} → x ≡ To j → End j ≡ ending n m
+module _ (n : ℕ) (m : Read (Unit {0})) {x : Option ℕ} (k : x ≡ stepped n m) where
+  pub end_there : {j : ℕ} → x ≡ Some j → End j ≡ ending n m
   unfolding stepped ending
   end_there {j} z = go m (sym k ∙ z)
     where
-      go : (m : Read (Unit {0})) → stepped n m ≡ To j → End j ≡ ending n m
+      go : (m : Read (Unit {0})) → stepped n m ≡ Some j → End j ≡ ending n m
       go fail e = clash (cc)
       go (got u r) e = let q : n - length r ≡ j = cc in cc
 
-  pub end_missing : x ≡ No → Stray ≡ ending n m
+  pub end_missing : x ≡ None → Stray ≡ ending n m
   unfolding ending
   end_missing z = sym (rw (fell n m (sym z ∙ k)))
 
@@ -115,15 +113,15 @@ module _ (text : List ℕ) (words : Bool) (at i : ℕ) (go : Heading text words 
       (by : ahead_by words l (ahead_at words (length text)) (length text) (drop t text)
       ≡ ahead_then (p (drop t text)) (ahead_at words (length text)))
       (eats : (s : List ℕ) → Ok (λ _ r. length r < length s) (p s)) (leaves : (s : List ℕ) → Ok (Tails s) (p s))
-      {x : Step} (k : x ≡ stepped (length text) (p (drop t text))) where
+      {x : Option ℕ} (k : x ≡ stepped (length text) (p (drop t text))) where
     over : ahead_at words (length text) (drop at text) ≡ ahead_then (p (drop t text)) (ahead_at words (length text))
     over = by_look l q ∙ by
 
-    over_stuck : x ≡ No → Stray ≡ ahead_at words (length text) (drop at text)
+    over_stuck : x ≡ None → Stray ≡ ahead_at words (length text) (drop at text)
     unfolding ahead_then
     over_stuck z = sym (over ∙ rw (fell (length text) (p (drop t text)) (sym z ∙ k)))
 
-    module _ {j : ℕ} (z : x ≡ To j) where
+    module _ {j : ℕ} (z : x ≡ Some j) where
       passed : Went p text t j
       passed = went p text t j (leaves (drop t text)) (sym z ∙ k)
 
@@ -136,31 +134,31 @@ module _ (text : List ℕ) (words : Bool) (at i : ℕ) (go : Heading text words 
           let h : length (drop j text) < length (drop t text) = ok_got (rw passed.reads at (eats (drop t text))) in
           omega (arith, gap_short words (drop i text), length-drop i text, length-drop j text, length-drop t text)
 
-  module _ (q : f ≡ front_is.Comment) {x : Step} (k : x ≡ stepped (length text) (comment_at (drop t text))) where
-    pub heading_stuck : x ≡ No → Stray ≡ ahead_at words (length text) (drop at text)
+  module _ (q : f ≡ front_is.Comment) {x : Option ℕ} (k : x ≡ stepped (length text) (comment_at (drop t text))) where
+    pub heading_stuck : x ≡ None → Stray ≡ ahead_at words (length text) (drop at text)
     unfolding ahead_by
     heading_stuck z = over_stuck at_comment (looks_comment (drop t text) ef q) comment_at refl comment_eats comment_tails k z
 
-    pub heading_on : {j : ℕ} → x ≡ To j → Heading text words at j
+    pub heading_on : {j : ℕ} → x ≡ Some j → Heading text words at j
     unfolding ahead_by
     heading_on z = over_on at_comment (looks_comment (drop t text) ef q) comment_at refl comment_eats comment_tails k z
 
-    pub heading_less : {j : ℕ} → x ≡ To j → length text - j < length text - i
+    pub heading_less : {j : ℕ} → x ≡ Some j → length text - j < length text - i
     unfolding ahead_by
     heading_less z = over_less at_comment (looks_comment (drop t text) ef q) comment_at refl comment_eats comment_tails k z
 
-  module _ (q : f ≡ front_is.Data) {x : Step} (k : x ≡ stepped (length text) (gap_data words (data_at_lem (drop t text)))) where
-    pub marked_stuck : x ≡ No → Stray ≡ ahead_at words (length text) (drop at text)
+  module _ (q : f ≡ front_is.Data) {x : Option ℕ} (k : x ≡ stepped (length text) (gap_data words (data_at_lem (drop t text)))) where
+    pub marked_stuck : x ≡ None → Stray ≡ ahead_at words (length text) (drop at text)
     unfolding ahead_by
     marked_stuck z = over_stuck at_data (looks_data (drop t text) ef q) (λ s. gap_data words (data_at_lem s)) refl (gap_data_eats words)
         (gap_data_tails words) k z
 
-    pub marked_on : {j : ℕ} → x ≡ To j → Heading text words at j
+    pub marked_on : {j : ℕ} → x ≡ Some j → Heading text words at j
     unfolding ahead_by
     marked_on z = over_on at_data (looks_data (drop t text) ef q) (λ s. gap_data words (data_at_lem s)) refl (gap_data_eats words)
         (gap_data_tails words) k z
 
-    pub marked_less : {j : ℕ} → x ≡ To j → length text - j < length text - i
+    pub marked_less : {j : ℕ} → x ≡ Some j → length text - j < length text - i
     unfolding ahead_by
     marked_less z = over_less at_data (looks_data (drop t text) ef q) (λ s. gap_data words (data_at_lem s)) refl (gap_data_eats words)
         (gap_data_tails words) k z
@@ -196,7 +194,7 @@ module _ (text : List ℕ) (at : ℕ) (words : Bool) {x : Tag} (k : x ≡ tag_to
   unfolding ahead_in_tag first_ahead_by
   ahead_open z w = w ∙ sym (rw (opens_so text at (tag_from 0 (drop at text)) (tag_from_less 0 (drop at text)) (sym k ∙ z)).reads)
 
-pub ruleset in-tag-ahead = (ahead_none, ahead_bare, ahead_open, rules)
+pub ruleset in_tag_ahead = (ahead_none, ahead_bare, ahead_open, rules)
 
 -- what stands ahead from there is what stands ahead from the tag's start
 pub in_tag_first : {text : List ℕ} {at i : ℕ} → InTag text at i → (words : Bool) → ahead_in_tag words text i ≡ first_ahead words text at
@@ -211,4 +209,4 @@ module _ (text : List ℕ) (at : ℕ) (words : Bool) where
   pub first_behind : at < length text → {r : Ahead} → r ≡ ahead_in_tag words text (at + 1) → r ≡ first_ahead words text at
   first_behind h e = e ∙ in_tag_first (tag_opens text at h) words
 
-pub ruleset starts-ahead = (first_past, first_behind, rules)
+pub ruleset starts_ahead = (first_past, first_behind, rules)

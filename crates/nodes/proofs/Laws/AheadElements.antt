@@ -1,5 +1,5 @@
 -- THE LAW OF WHAT STANDS AHEAD: it is the next child, or the element ends there; and where no words may stand, the gap up to it is blank.
-use Rattle.std.specs.Prelude.{◌≡◌, Bool, ◌&&◌, ◌||◌, eqb, drop}
+use Rattle.std.specs.Prelude.{◌≡◌, Bool, ◌&&◌, ◌||◌, eqb, drop, Option, Some, None, ℕ}
 use Rattle.std.proofs.Math.Path.{refl, ap}
 use Rattle.std.proofs.Common.{sym, ◌∙◌, subst, arith, ne_eqb, eqb-true}
 use mathlib.Core.List.{List, [], ◌∷◌, ◌++◌, append-nil}
@@ -40,18 +40,16 @@ use Rattle.nodes.specs.Ahead.{after_gap, past_gap, gap_data, ending, ahead_then,
 use Rattle.nodes.proofs.Laws.AheadSteps.{gap_short, ahead_step}
 use Rattle.nodes.specs.Ahead.{first_ahead}
 use Rattle.nodes.specs.Ahead as Ahead-of
-use Rattle.nodes.specs.declared.Kid.{Kid}
-use Rattle.nodes.specs.declared.Kid.TheVariants.{Child, Done}
 use Rattle.nodes.specs.declared.ahead.Ahead.{Ahead}
 use Rattle.nodes.specs.declared.ahead.Ahead.TheVariants as ahead-is
 
 -- of contents whose characters are blank or not, which are left so, and have this next child
-pub data Facing (text : List ℕ) (words blanks : Bool) (leaves : Read (Unit {0})) : Kid → Ahead → Type 0 where
+pub data Facing (text : List ℕ) (words blanks : Bool) (leaves : Read (Unit {0})) : Option ℕ → Ahead → Type 0 where
   to_child : {k : ℕ} → look (drop k text) ≡ at_element → leaves ≡ leave_at (drop k text)
-      → (words ≡ false → blanks ≡ all blank (says (drop k text))) → Facing text words blanks leaves (Child k) (ahead-is.Child k)
+      → (words ≡ false → blanks ≡ all blank (says (drop k text))) → Facing text words blanks leaves (Some k) (ahead-is.Child k)
   to_end : {j : ℕ} → leaves ≡ got tt (drop j text) → 0 < j → j ≤ length text → (words ≡ false → blanks ≡ true)
-      → Facing text words blanks leaves Done (ahead-is.End j)
-  stray : {kid : Kid} → ((r : List ℕ) → leaves ≡ got tt r → (words ≡ false) × (blanks ≡ false))
+      → Facing text words blanks leaves None (ahead-is.End j)
+  stray : {kid : Option ℕ} → ((r : List ℕ) → leaves ≡ got tt r → (words ≡ false) × (blanks ≡ false))
       → Facing text words blanks leaves kid ahead-is.Stray
 
 -- ---- The gap.
@@ -195,7 +193,7 @@ leave_look : (s : List ℕ) (l : Look) → look s ≡ l → (l ≡ at_text → �
 unfolding leave_at
 leave_look s l e f = let z = tag_here s l e f in ap (λ m. bind m (λ _ r. past_tag r)) (scan_step 0 s ∙ rw (z, e))
 
-facing_from : {text : List ℕ} {words blanks others : Bool} {leaves : Read (Unit {0})} {kid : Kid} {a : Ahead}
+facing_from : {text : List ℕ} {words blanks others : Bool} {leaves : Read (Unit {0})} {kid : Option ℕ} {a : Ahead}
     → (words ≡ false → blanks ≡ others) → Facing text words others leaves kid a → Facing text words blanks leaves kid a
 facing_from f (to_child q e b) = to_child q e (λ w. f w ∙ b w)
 facing_from f (to_end e p q b) = to_end e p q (λ w. f w ∙ b w)
@@ -214,7 +212,7 @@ module _ (text : List ℕ) (words : Bool) where
       empty = rw (says_step s, q)
 
       go : (m : Read (Unit {0})) → past_tag s ≡ m → Ok (Less s) m
-          → Facing text words (all blank (says s)) (past_tag s) Done (ending (length text) m)
+          → Facing text words (all blank (says s)) (past_tag s) None (ending (length text) m)
       go fail e h = stray (λ r z. clash (cc))
       go (got _ r) e (good h) =
           let u : Tail text r = tail_more h.front r h.whole t in
@@ -320,31 +318,31 @@ module _ (text : List ℕ) (words : Bool) where
 
 -- ---- What is known of each.
 
-pub record Met (text : List ℕ) (words blanks : Bool) (leaves : Read (Unit {0})) (kid : Kid) (k : ℕ) : Type 0 where
-  pub is_next : kid ≡ Child k
+pub record Met (text : List ℕ) (words blanks : Bool) (leaves : Read (Unit {0})) (kid : Option ℕ) (k : ℕ) : Type 0 where
+  pub is_next : kid ≡ Some k
   pub looks : look (drop k text) ≡ at_element
   pub leaves_so : leaves ≡ leave_at (drop k text)
   pub blanks_so : words ≡ false → blanks ≡ all blank (says (drop k text))
 
-pub record Over (text : List ℕ) (words blanks : Bool) (leaves : Read (Unit {0})) (kid : Kid) (j : ℕ) : Type 0 where
-  pub no_next : kid ≡ Done
+pub record Over (text : List ℕ) (words blanks : Bool) (leaves : Read (Unit {0})) (kid : Option ℕ) (j : ℕ) : Type 0 where
+  pub no_next : kid ≡ None
   pub ends : leaves ≡ got tt (drop j text)
   pub after : 0 < j
   pub inside : j ≤ length text
   pub all_blank : words ≡ false → blanks ≡ true
 
 module _ {text : List ℕ} {words blanks : Bool} {leaves : Read (Unit {0})} where
-  met_child : {kid : Kid} {k : ℕ} → Facing text words blanks leaves kid (ahead-is.Child k) → Met text words blanks leaves kid k
+  met_child : {kid : Option ℕ} {k : ℕ} → Facing text words blanks leaves kid (ahead-is.Child k) → Met text words blanks leaves kid k
   met_child (to_child q e b) = record { is_next = refl; looks = q; leaves_so = e; blanks_so = b }
 
-  over_end : {kid : Kid} {j : ℕ} → Facing text words blanks leaves kid (ahead-is.End j) → Over text words blanks leaves kid j
+  over_end : {kid : Option ℕ} {j : ℕ} → Facing text words blanks leaves kid (ahead-is.End j) → Over text words blanks leaves kid j
   over_end (to_end e p q b) = record { no_next = refl; ends = e; after = p; inside = q; all_blank = b }
 
-  strayed : {kid : Kid} → Facing text words blanks leaves kid ahead-is.Stray → (r : List ℕ) → leaves ≡ got tt r → (words ≡ false)
+  strayed : {kid : Option ℕ} → Facing text words blanks leaves kid ahead-is.Stray → (r : List ℕ) → leaves ≡ got tt r → (words ≡ false)
       × (blanks ≡ false)
   strayed (stray h) r e = h r e
 
-  module _ {kid : Kid} {a : Ahead} (f : Facing text words blanks leaves kid a) where
+  module _ {kid : Option ℕ} {a : Ahead} (f : Facing text words blanks leaves kid a) where
     pub facing_child : {k : ℕ} → a ≡ ahead-is.Child k → Met text words blanks leaves kid k
     facing_child e = met_child (subst (λ (x : Ahead). Facing text words blanks leaves kid x) e f)
 
@@ -360,7 +358,7 @@ left_ahead text (ahead-is.Child k) = length text - k
 left_ahead text (ahead-is.End j) = 0
 left_ahead text ahead-is.Stray = 0
 
-pub facing_left : {text : List ℕ} {words blanks : Bool} {leaves : Read (Unit {0})} {kid : Kid} {a : Ahead}
+pub facing_left : {text : List ℕ} {words blanks : Bool} {leaves : Read (Unit {0})} {kid : Option ℕ} {a : Ahead}
     → Facing text words blanks leaves kid a → left_ahead text a ≤ left text kid
 unfolding left_ahead left
 facing_left (to_child q e b) = omega arith

@@ -1,6 +1,6 @@
 -- A LOOP OVER THE CHILDREN OF AN ELEMENT: what is known of the children that are ahead, from the first to the last.
 -- At the start all children are ahead; each turn takes one from the front; at the end none is left.
-use Rattle.std.specs.Prelude.{◌≡◌, refl, List, [], ◌∷◌, Bool, true, ℕ, ◌≤◌, ◌<◌, length, drop}
+use Rattle.std.specs.Prelude.{◌≡◌, refl, List, [], ◌∷◌, Bool, true, ℕ, ◌≤◌, ◌<◌, length, drop, Option, Some, None}
 use Rattle.std.proofs.Common.{sym, ◌∙◌, true≢false, arith}
 use Rattle.lists.specs.Lists.{all}
 use Rattle.grammar.specs.Bytes.{blank}
@@ -22,13 +22,11 @@ use Rattle.nodes.proofs.Laws.AheadElements.{behind_leaves}
 use Rattle.nodes.proofs.Laws.AheadElements.{left_ahead, facing_left}
 use Rattle.nodes.proofs.Laws.Walk.{kids, Walk, Turn, walk_children, kids_children, walk_none, turn_at, turn_splits, turn_falls}
 use Rattle.nodes.proofs.Laws.Walk.{left_fits}
-use Rattle.nodes.specs.declared.Kid.{Kid}
-use Rattle.nodes.specs.declared.Kid.TheVariants.{Child, Done}
 use Rattle.nodes.specs.declared.ahead.Ahead.{Ahead}
 use Rattle.nodes.specs.declared.ahead.Ahead.TheVariants as ahead-is
 
 -- an element has no more children than the text has bytes
-row_few : {text : List ℕ} {kid : Kid} {l : List Element} → Siblings text kid l → length l ≤ left text kid
+row_few : {text : List ℕ} {kid : Option ℕ} {l : List Element} → Siblings text kid l → length l ≤ left text kid
 row_few no_more = omega arith
 row_few (one_more st f r) = omega (arith, row_few r)
 
@@ -38,20 +36,20 @@ children_few {text} {at} st = omega (arith, row_few (children st), left_fits tex
 -- ---- By the first child and the next.
 
 -- P of the children that are ahead, at a cursor
-pub record Along (text : List ℕ) (P : List Element → Type 0) (kid : Kid) : Type 0 where
+pub record Along (text : List ℕ) (P : List Element → Type 0) (kid : Option ℕ) : Type 0 where
   pub walk : Walk text kid
   pub ahead : P (kids text kid)
 
 module _ {text : List ℕ} {P : List Element → Type 0} where
-  pub along_start : {at : ℕ} → Stands text at → P (elements (contents_of (the text at))) → {kid : Kid} → kid ≡ first_child text at
+  pub along_start : {at : ℕ} → Stands text at → P (elements (contents_of (the text at))) → {kid : Option ℕ} → kid ≡ first_child text at
       → Along text P kid
   along_start st p e = rw e (record { walk = walk_children st; ahead = rw (kids_children st) p })
 
-  module _ {kid : Kid} (go : Along text P kid) where
-    pub along_done : kid ≡ Done → P []
+  module _ {kid : Option ℕ} (go : Along text P kid) where
+    pub along_done : kid ≡ None → P []
     along_done e = rw (walk_none go.walk e) at go.ahead
 
-    module _ {k : ℕ} (is_child : kid ≡ Child k) where
+    module _ {k : ℕ} (is_child : kid ≡ Some k) where
       turn : Turn text k
       turn = turn_at go.walk is_child
 
@@ -62,10 +60,10 @@ module _ {text : List ℕ} {P : List Element → Type 0} where
       pub along_here : P (the text k ∷ kids text (next text k))
       along_here = rw (turn_splits go.walk is_child) at go.ahead
 
-      pub along_less : {kid₁ : Kid} → kid₁ ≡ next text k → left text kid₁ < left text kid
+      pub along_less : {kid₁ : Option ℕ} → kid₁ ≡ next text k → left text kid₁ < left text kid
       along_less e = rw e (turn_falls go.walk is_child)
 
-      pub along_next : {Q : List Element → Type 0} → ((l : List Element) → P (the text k ∷ l) → Q l) → {kid₁ : Kid} → kid₁ ≡ next text k
+      pub along_next : {Q : List Element → Type 0} → ((l : List Element) → P (the text k ∷ l) → Q l) → {kid₁ : Option ℕ} → kid₁ ≡ next text k
           → Along text Q kid₁
       along_next f e = rw e (record { walk = turn.then; ahead = f (kids text (next text k)) along_here })
 
@@ -74,7 +72,7 @@ module _ {text : List ℕ} {P : List Element → Type 0} where
 -- the same, where `words` says whether characters may stand among the children
 pub record AlongAhead (text : List ℕ) (at : ℕ) (words : Bool) (P : List Element → Type 0) (next : Ahead) : Type 0 where
   pub stands : Stands text at
-  pub kid : Kid
+  pub kid : Option ℕ
   pub blanks : Bool
   pub leaves : Read (Unit {0})
   pub facing : Facing text words blanks leaves kid next

@@ -1,7 +1,6 @@
 -- What is proved of Attributes.
-use Rattle.std.specs.Prelude.{◌≡◌, refl, List, [], ◌∷◌, ◌++◌, ℕ, zero, suc, ◌+◌, ◌-◌, ◌≤◌, ◌<◌, Bool, true, false, cond, leb, drop}
+use Rattle.std.specs.Prelude.{◌≡◌, refl, List, [], ◌∷◌, ◌++◌, ℕ, zero, suc, ◌+◌, ◌-◌, ◌≤◌, ◌<◌, Bool, true, false, cond, leb, drop, Option, Some, None}
 use Rattle.std.proofs.Common.{ap, sym, ◌∙◌, append_assoc, arith, length-append, drop-drop}
-use Rattle.std.proofs.Math.Option.{Option, some}
 use Prim.Native.String.{String}
 use Rattle.std.proofs.Math.ListN.{length}
 use Rattle.grammar.specs.Bytes.{ascii}
@@ -22,8 +21,6 @@ use Rattle.nodes.specs.Places.{Stands, the, pick}
 use Rattle.nodes.proofs.Laws.Places.{unbind, Tail, tail_of, tail_more, tail_read}
 use Rattle.nodes.proofs.Laws.ReadSteps.{spelled}
 use Rattle.nodes.proofs.Laws.Names.{ending_attributes}
-use Rattle.nodes.specs.declared.Found.{Found}
-use Rattle.nodes.specs.declared.Found.TheVariants.{At, Nothing}
 use Rattle.nodes.specs.Attributes.{key_bytes_lem, Key, key, keys_then, keys_by_lem, keys_within, keys_at_lem, keys_in, keys, place_in, place}
 use Rattle.nodes.specs.Attributes.{ValueAt, list_at, First, lookup}
 
@@ -205,19 +202,19 @@ keys_law {text} {at} st =
 pub lookup_is : (s : String) (l : List Attribute) → lookup (ascii s) l ≡ value_in s l
 unfolding lookup value_in is
 lookup_is s [] = refl
-lookup_is s (attribute n v ∷ l) = ap (λ o. cond (same_bytes n (ascii s)) (some v) o) (lookup_is s l)
+lookup_is s (attribute n v ∷ l) = ap (λ o. cond (same_bytes n (ascii s)) (Some v) o) (lookup_is s l)
 
 -- what was found, and what the document has
-pub data Held (text : List ℕ) : Found → Option (List ℕ) → Type 0 where
-  missing : Held text Nothing Option.none
-  held : {v : ℕ} {x : List ℕ} → ValueAt text v x → Held text (At v) (some x)
+pub data Held (text : List ℕ) : Option ℕ → Option (List ℕ) → Type 0 where
+  missing : Held text None None
+  held : {v : ℕ} {x : List ℕ} → ValueAt text v x → Held text (Some v) (Some x)
 
 held_place : {text : List ℕ} (w : List ℕ) {ks : List Key} {l : List Attribute} → Hold text ks l → Held text (place_in w ks) (lookup w l)
 unfolding place_in lookup
 held_place w no_key = missing
 held_place {text} w (one_key {n} {v} {x} {ks} {l} k h) = go (same_bytes n w) (held_place w h)
   where
-    go : (t : Bool) → Held text (place_in w ks) (lookup w l) → Held text (pick t (At v) (place_in w ks)) (cond t (some x) (lookup w l))
+    go : (t : Bool) → Held text (place_in w ks) (lookup w l) → Held text (pick t (Some v) (place_in w ks)) (cond t (Some x) (lookup w l))
     go true r = held k
     go false r = r
 

@@ -1,5 +1,5 @@
 -- CDATA THAT HOLDS BLANKS ALONE is its mark, blanks, and `]]>`: what a program reads in a gap where no words may stand.
-use Rattle.std.specs.Prelude.{◌≡◌, List, [], ◌∷◌, ◌++◌, Bool, ℕ, zero, suc, ◌≤◌, ◌<◌, eqb, length, drop}
+use Rattle.std.specs.Prelude.{◌≡◌, List, [], ◌∷◌, ◌++◌, Bool, ℕ, zero, suc, ◌≤◌, ◌<◌, eqb, length, drop, Option, Some, None}
 use Rattle.std.proofs.Math.Path.{refl, ap, sym}
 use Rattle.std.proofs.Common.{◌∙◌, arith, rules}
 use Rattle.std.proofs.Math.Bool.{true, false}
@@ -27,8 +27,6 @@ use Rattle.steps.proofs.Laws.Data.{inner_at, data_return, data_nil}
 use Rattle.steps.specs.Step.{stepped}
 use Rattle.steps.proofs.Laws.Leaves.{mark_tails, span_tails}
 use Rattle.steps.proofs.Laws.Parsing.{stuck, follows}
-use Rattle.steps.specs.declared.Step.{Step}
-use Rattle.steps.specs.declared.Step.TheVariants.{To, No}
 use Rattle.nodes.specs.Ahead.{gap_data}
 use Rattle.nodes.specs.BlankData.{blanks_at, blank_data_at}
 
@@ -177,10 +175,10 @@ blank_data s = go (mark (ascii "<![CDATA[") s)
 
 -- at a position of the text: one law for each way through the code
 module _ (text : List ℕ) (at : ℕ) (words : Bool) where
-  abbrev Gap : Step → Type 0
+  abbrev Gap : Option ℕ → Type 0
   Gap x = x ≡ stepped (length text) (gap_data words (data_at_lem (drop at text)))
 
-  pub gap_any : words ≡ true → {x : Step} → x ≡ stepped (length text) (data_at_lem (drop at text)) → Gap x
+  pub gap_any : words ≡ true → {x : Option ℕ} → x ≡ stepped (length text) (data_at_lem (drop at text)) → Gap x
   unfolding gap_data stepped
   gap_any e k = k ∙ rw e (go (data_at_lem (drop at text)))
     where
@@ -188,20 +186,20 @@ module _ (text : List ℕ) (at : ℕ) (words : Bool) where
       go fail = refl
       go (got b r) = refl
 
-  pub gap_blank : words ≡ false → {x : Step} → x ≡ stepped (length text) (blank_data_at (drop at text)) → Gap x
+  pub gap_blank : words ≡ false → {x : Option ℕ} → x ≡ stepped (length text) (blank_data_at (drop at text)) → Gap x
   gap_blank e k = k ∙ rw e (ap (stepped (length text)) (sym (blank_data (drop at text))))
 
-module _ (text : List ℕ) (at : ℕ) {x : Step} (q : x ≡ stepped (length text) (mark (ascii "<![CDATA[") (drop at text))) where
-  pub blank_missing : x ≡ No → No ≡ stepped (length text) (blank_data_at (drop at text))
+module _ (text : List ℕ) (at : ℕ) {x : Option ℕ} (q : x ≡ stepped (length text) (mark (ascii "<![CDATA[") (drop at text))) where
+  pub blank_missing : x ≡ None → None ≡ stepped (length text) (blank_data_at (drop at text))
   unfolding blank_data_at
   blank_missing z = stuck (length text) (mark (ascii "<![CDATA[") (drop at text)) _ q z
 
-  pub blank_there : {i : ℕ} → x ≡ To i → {j : ℕ} → To j ≡ stepped (length text) (span blank (drop i text)) → {y : Step}
+  pub blank_there : {i : ℕ} → x ≡ Some i → {j : ℕ} → Some j ≡ stepped (length text) (span blank (drop i text)) → {y : Option ℕ}
       → y ≡ stepped (length text) (mark (ascii "]]>") (drop j text)) → y ≡ stepped (length text) (blank_data_at (drop at text))
   unfolding blank_data_at blanks_at
   blank_there {i} z {j} w k = follows (mark (ascii "<![CDATA[")) (mark_tails (ascii "<![CDATA[")) text at _ q i z λ _ _.
       follows (span blank) (span_tails blank) text i _ w j refl λ _ _. k
 
-pub ruleset gap-marked = (gap_any, gap_blank, rules)
+pub ruleset gap_marked = (gap_any, gap_blank, rules)
 
-pub ruleset blank-marked = (blank_missing, blank_there, rules)
+pub ruleset blank_marked = (blank_missing, blank_there, rules)

@@ -1,5 +1,5 @@
 -- The walk over children, at a position of the text: one law for each way through the code.
-use Rattle.std.specs.Prelude.{◌≡◌, List, [], ◌∷◌, ◌++◌, Bool, true, false, drop}
+use Rattle.std.specs.Prelude.{◌≡◌, List, [], ◌∷◌, ◌++◌, Bool, true, false, drop, Option, Some, None, ℕ}
 use Rattle.std.proofs.Math.Path.{refl, sym, ap}
 use Rattle.std.proofs.Common.{◌∙◌, arith, rules}
 use Prim.Native.Nat.{ℕ, zero, suc, ◌-◌, ◌≤◌, ◌<◌}
@@ -24,16 +24,12 @@ use Rattle.nodes.proofs.Laws.ScanEnds.{to_tag_free, text_free}
 use Rattle.nodes.proofs.Laws.Skipping.{tag_here, no_text, no_text_comment, no_text_data, no_text_element, tag_read, tag_bare}
 use Rattle.nodes.proofs.Laws.Skipping.{tag_filled}
 use Rattle.nodes.proofs.Laws.Skipping.{skip_element}
-use Rattle.nodes.specs.declared.Kid.{Kid}
-use Rattle.nodes.specs.declared.Kid.TheVariants.{Child, Done}
 use Rattle.nodes.specs.Children.{kid_then, kid_by, kid_within, kid_at, first_by, first_child, next}
 use Rattle.lists.proofs.Laws.Booleans.{clash}
 use Rattle.grammar.specs.Read.{Reader}
 use Rattle.grammar.proofs.Laws.Read.{ok_got}
 use Rattle.steps.specs.Step.{stepped, Went}
 use Rattle.steps.proofs.Laws.Step.{fell, Tails, went}
-use Rattle.steps.specs.declared.Step.{Step}
-use Rattle.steps.specs.declared.Step.TheVariants.{To, No}
 use Rattle.nodes.proofs.Laws.Scanned.{skip_less, less_tails}
 use Rattle.nodes.specs.ScanSteps.{tag_told}
 use Rattle.steps.specs.Prologue.{preamble_at}
@@ -47,24 +43,24 @@ use Rattle.nodes.proofs.Laws.Scan.{looks_close, looks_comment, looks_data, looks
 use Rattle.nodes.proofs.Laws.Skip.{tag_lies, tag_short, opens_at, bare_at_lem, no_tag}
 
 -- how much is left of a row: falls from each child to the next
-unfoldable pub left : List ℕ → Kid → ℕ
-left text Done = 0
-left text (Child k) = length text - k
+unfoldable pub left : List ℕ → Option ℕ → ℕ
+left text None = 0
+left text (Some k) = length text - k
 
 -- A ROW: the elements from a cursor on
-pub data Siblings (text : List ℕ) : Kid → List Element → Type 0 where
-  no_more : Siblings text Done []
-  one_more : {k : ℕ} {l : List Element} → Stands text k → left text (next text k) < left text (Child k) → Siblings text (next text k) l
-      → Siblings text (Child k) (the text k ∷ l)
+pub data Siblings (text : List ℕ) : Option ℕ → List Element → Type 0 where
+  no_more : Siblings text None []
+  one_more : {k : ℕ} {l : List Element} → Stands text k → left text (next text k) < left text (Some k) → Siblings text (next text k) l
+      → Siblings text (Some k) (the text k ∷ l)
 
 -- fuel changes nothing
-then_same : {A : Type 0} (m : Read A) (f g : List ℕ → Kid) (s : List ℕ) → Ok (λ _ r. length r < length s) m
+then_same : {A : Type 0} (m : Read A) (f g : List ℕ → Option ℕ) (s : List ℕ) → Ok (λ _ r. length r < length s) m
     → ((r : List ℕ) → length r < length s → f r ≡ g r) → kid_then m f ≡ kid_then m g
 unfolding kid_then
 then_same fail f g s h k = refl
 then_same (got u r) f g s (good h) k = k r h
 
-by_same : (f g : List ℕ → Kid) (l : Look) (n : ℕ) (s : List ℕ) → ((r : List ℕ) → length r < length s → f r ≡ g r)
+by_same : (f g : List ℕ → Option ℕ) (l : Look) (n : ℕ) (s : List ℕ) → ((r : List ℕ) → length r < length s → f r ≡ g r)
     → kid_by l f n s ≡ kid_by l g n s
 unfolding kid_by
 by_same f g at_close n s h = refl
@@ -96,13 +92,13 @@ pub kid_look : (n : ℕ) (s : List ℕ) (l : Look) → look s ≡ l → (l ≡ a
 kid_look n s l e f = let z = tag_here s l e f in kid_step n s ∙ rw (z, e)
 
 -- a cursor that was found in the end `s` of a text is not before it
-then_left : {A : Type 0} (text : List ℕ) (m : Read A) (f : List ℕ → Kid) (s : List ℕ) → Ok (λ _ r. length r < length s) m
+then_left : {A : Type 0} (text : List ℕ) (m : Read A) (f : List ℕ → Option ℕ) (s : List ℕ) → Ok (λ _ r. length r < length s) m
     → ((r : List ℕ) → left text (f r) ≤ length r) → left text (kid_then m f) ≤ length s
 unfolding kid_then left
 then_left text fail f s h k = omega arith
 then_left text (got u r) f s (good h) k = omega (arith, k r)
 
-by_left : (text : List ℕ) (f : List ℕ → Kid) (l : Look) (s : List ℕ) → ((r : List ℕ) → left text (f r) ≤ length r)
+by_left : (text : List ℕ) (f : List ℕ → Option ℕ) (l : Look) (s : List ℕ) → ((r : List ℕ) → left text (f r) ≤ length r)
     → left text (kid_by l f (length text) s) ≤ length s
 unfolding kid_by left
 by_left text f at_close s k = omega arith
@@ -111,7 +107,7 @@ by_left text f at_data s k = then_left text (data_at_lem s) f s (data_eats s) k
 by_left text f at_element s k = omega arith
 by_left text f at_text s k = omega arith
 
-kid_zero : (n : ℕ) (s : List ℕ) → kid_within zero n s ≡ Done
+kid_zero : (n : ℕ) (s : List ℕ) → kid_within zero n s ≡ None
 unfolding kid_within
 kid_zero n s = refl
 
@@ -125,7 +121,7 @@ pub kid_left : (text s : List ℕ) → left text (kid_at (length text) s) ≤ le
 unfolding kid_at
 kid_left text s = within_left (suc (length s)) text s
 
-left_child : (text : List ℕ) (k : ℕ) → left text (Child k) ≡ length text - k
+left_child : (text : List ℕ) (k : ℕ) → left text (Some k) ≡ length text - k
 unfolding left
 left_child text k = refl
 
@@ -161,7 +157,7 @@ module _ (text : List ℕ) where
   row_lettered : (w r : List ℕ) → to_tag (w ++ r) ≡ to_tag r → kid_at (length text) (w ++ r) ≡ kid_at (length text) r
   row_lettered w r e = kid_step (length text) (w ++ r) ∙ rw e (sym (kid_step (length text) r))
 
-  row_here : (s : List ℕ) → look s ≡ at_element → kid_at (length text) s ≡ Child (length text - length s)
+  row_here : (s : List ℕ) → look s ≡ at_element → kid_at (length text) s ≡ Some (length text - length s)
   unfolding kid_by
   row_here s q = kid_look (length text) s at_element q (no_text_element refl)
 
@@ -176,7 +172,7 @@ module _ (text : List ℕ) where
       let k : ℕ = length text - length s in
       let e₁ : element₁₆ (drop k text) ≡ got x r = rw tail.stands e₀ in
       let short : length r < length s = eats_child s e₀ in
-      let falls : left text (next text k) < left text (Child k) =
+      let falls : left text (next text k) < left text (Some k) =
       rw (next_read text k e₁, left_child text k) (omega (arith, kid_left text r, tail.fits)) in
       let rest : Siblings text (next text k) (elements c) = rw (next_read text k e₁) more in
       rw (row_here s q, ← the_read text k e₁) (one_more (stands_read text k (omega (arith, tail.fits)) e₁) falls rest)
@@ -230,7 +226,7 @@ first_left text s fail h k = k
 first_left text s (got true r) (good h) k = omega (arith, kid_left text r, h.falls)
 first_left text s (got false r) h k = k
 
-pub first_falls : {text : List ℕ} {at : ℕ} → Stands text at → left text (first_child text at) < left text (Child at)
+pub first_falls : {text : List ℕ} {at : ℕ} → Stands text at → left text (first_child text at) < left text (Some at)
 unfolding first_child
 first_falls {text} {at} st =
     let h = st.here in
@@ -250,33 +246,33 @@ module _ (text : List ℕ) (at i : ℕ) (go : Going text at i) {t : ℕ} (et : t
   stepped_by l q = let z : to_tag (drop i text) ≡ drop t text = (tag_lies text i et).rest in go.same_kid
       ∙ kid_step (length text) (drop i text) ∙ rw (z, q)
 
-  pub going_close : f ≡ front_is.Close → Done ≡ kid_at (length text) (drop at text)
+  pub going_close : f ≡ front_is.Close → None ≡ kid_at (length text) (drop at text)
   unfolding kid_by
   going_close q = sym (stepped_by at_close (looks_close (drop t text) ef q))
 
-  pub going_text : f ≡ front_is.Text → Done ≡ kid_at (length text) (drop at text)
+  pub going_text : f ≡ front_is.Text → None ≡ kid_at (length text) (drop at text)
   unfolding kid_by
   going_text q = sym (stepped_by at_text (looks_text (drop t text) ef q))
 
-  pub going_child : f ≡ front_is.Start → Child t ≡ kid_at (length text) (drop at text)
+  pub going_child : f ≡ front_is.Start → Some t ≡ kid_at (length text) (drop at text)
   unfolding kid_by
   going_child q =
       let z : length text - length (drop t text) ≡ t = simp length-drop (omega (arith, (tag_lies text i et).inside)) in
-      sym (stepped_by at_element (looks_start (drop t text) ef q) ∙ ap Child z)
+      sym (stepped_by at_element (looks_start (drop t text) ef q) ∙ ap Some z)
 
   -- what is passed over, a comment or CDATA
   module _ {A : Type 0} (p : Reader A) (l : Look) (q : look (drop t text) ≡ l)
       (by : kid_by l (kid_at (length text)) (length text) (drop t text) ≡ kid_then (p (drop t text)) (kid_at (length text)))
       (eats : (s : List ℕ) → Ok (λ _ r. length r < length s) (p s)) (leaves : (s : List ℕ) → Ok (Tails s) (p s))
-      {x : Step} (k : x ≡ stepped (length text) (p (drop t text))) where
+      {x : Option ℕ} (k : x ≡ stepped (length text) (p (drop t text))) where
     over : kid_at (length text) (drop at text) ≡ kid_then (p (drop t text)) (kid_at (length text))
     over = stepped_by l q ∙ by
 
-    over_stuck : x ≡ No → Done ≡ kid_at (length text) (drop at text)
+    over_stuck : x ≡ None → None ≡ kid_at (length text) (drop at text)
     unfolding kid_then
     over_stuck z = sym (over ∙ rw (fell (length text) (p (drop t text)) (sym z ∙ k)))
 
-    module _ {j : ℕ} (z : x ≡ To j) where
+    module _ {j : ℕ} (z : x ≡ Some j) where
       passed : Went p text t j
       passed = went p text t j (leaves (drop t text)) (sym z ∙ k)
 
@@ -289,29 +285,29 @@ module _ (text : List ℕ) (at i : ℕ) (go : Going text at i) {t : ℕ} (et : t
           let h : length (drop j text) < length (drop t text) = ok_got (rw passed.reads at (eats (drop t text))) in
           omega (arith, tag_short text i et, length-drop j text, length-drop t text)
 
-  module _ (q : f ≡ front_is.Comment) {x : Step} (k : x ≡ stepped (length text) (comment_at (drop t text))) where
-    pub going_stuck : x ≡ No → Done ≡ kid_at (length text) (drop at text)
+  module _ (q : f ≡ front_is.Comment) {x : Option ℕ} (k : x ≡ stepped (length text) (comment_at (drop t text))) where
+    pub going_stuck : x ≡ None → None ≡ kid_at (length text) (drop at text)
     unfolding kid_by
     going_stuck z = over_stuck comment_at at_comment (looks_comment (drop t text) ef q) refl comment_eats (λ s. tails (comment_sound s)) k z
 
-    pub going_on : {j : ℕ} → x ≡ To j → Going text at j
+    pub going_on : {j : ℕ} → x ≡ Some j → Going text at j
     unfolding kid_by
     going_on z = over_on comment_at at_comment (looks_comment (drop t text) ef q) refl comment_eats (λ s. tails (comment_sound s)) k z
 
-    pub going_less : {j : ℕ} → x ≡ To j → length text - j < length text - i
+    pub going_less : {j : ℕ} → x ≡ Some j → length text - j < length text - i
     unfolding kid_by
     going_less z = over_less comment_at at_comment (looks_comment (drop t text) ef q) refl comment_eats (λ s. tails (comment_sound s)) k z
 
-  module _ (q : f ≡ front_is.Data) {x : Step} (k : x ≡ stepped (length text) (data_at_lem (drop t text))) where
-    pub data_stuck : x ≡ No → Done ≡ kid_at (length text) (drop at text)
+  module _ (q : f ≡ front_is.Data) {x : Option ℕ} (k : x ≡ stepped (length text) (data_at_lem (drop t text))) where
+    pub data_stuck : x ≡ None → None ≡ kid_at (length text) (drop at text)
     unfolding kid_by
     data_stuck z = over_stuck data_at_lem at_data (looks_data (drop t text) ef q) refl data_eats (λ s. tails (data_sound s)) k z
 
-    pub data_on : {j : ℕ} → x ≡ To j → Going text at j
+    pub data_on : {j : ℕ} → x ≡ Some j → Going text at j
     unfolding kid_by
     data_on z = over_on data_at_lem at_data (looks_data (drop t text) ef q) refl data_eats (λ s. tails (data_sound s)) k z
 
-    pub data_less : {j : ℕ} → x ≡ To j → length text - j < length text - i
+    pub data_less : {j : ℕ} → x ≡ Some j → length text - j < length text - i
     unfolding kid_by
     data_less z = over_less data_at_lem at_data (looks_data (drop t text) ef q) refl data_eats (λ s. tails (data_sound s)) k z
 
@@ -330,37 +326,37 @@ pub ruleset going = (
 )
 
 module _ (text : List ℕ) (at : ℕ) {x : Tag} (k : x ≡ tag_told (length text) (tag_at (drop at text))) where
-  pub first_none : x ≡ tag_is.No → Done ≡ first_child text at
+  pub first_none : x ≡ tag_is.No → None ≡ first_child text at
   unfolding first_child first_by
   first_none z = rw (no_tag text at k z)
 
-  pub first_bare : {j : ℕ} → x ≡ tag_is.Bare j → Done ≡ first_child text at
+  pub first_bare : {j : ℕ} → x ≡ tag_is.Bare j → None ≡ first_child text at
   unfolding first_child first_by
   first_bare z = rw (bare_at_lem text at k z).reads
 
-  pub first_open : {j : ℕ} → x ≡ tag_is.Open j → {r : Kid} → r ≡ kid_at (length text) (drop j text) → r ≡ first_child text at
+  pub first_open : {j : ℕ} → x ≡ tag_is.Open j → {r : Option ℕ} → r ≡ kid_at (length text) (drop j text) → r ≡ first_child text at
   unfolding first_child first_by
   first_open z w = w ∙ sym (rw (opens_at text at k z).reads)
 
-module _ (text : List ℕ) (at : ℕ) {x : Step} (k : x ≡ stepped (length text) (skip_at (drop at text))) where
-  pub next_none : x ≡ No → Done ≡ next text at
+module _ (text : List ℕ) (at : ℕ) {x : Option ℕ} (k : x ≡ stepped (length text) (skip_at (drop at text))) where
+  pub next_none : x ≡ None → None ≡ next text at
   unfolding next kid_then
   next_none z = rw (fell (length text) (skip_at (drop at text)) (sym z ∙ k))
 
-  pub next_on : {j : ℕ} → x ≡ To j → {r : Kid} → r ≡ kid_at (length text) (drop j text) → r ≡ next text at
+  pub next_on : {j : ℕ} → x ≡ Some j → {r : Option ℕ} → r ≡ kid_at (length text) (drop j text) → r ≡ next text at
   unfolding next kid_then
   next_on {j} z w = w ∙ sym (rw (went skip_at text at j (less_tails (skip_less (drop at text))) (sym z ∙ k)).reads)
 
-module _ (text : List ℕ) {x : Step} (k : x ≡ stepped (length text) (preamble_at text)) where
-  pub root_none : x ≡ No → Done ≡ root text
+module _ (text : List ℕ) {x : Option ℕ} (k : x ≡ stepped (length text) (preamble_at text)) where
+  pub root_none : x ≡ None → None ≡ root text
   unfolding root root_by
   root_none z = rw (fell (length text) (preamble_at text) (sym z ∙ k))
 
-  pub root_there : {j : ℕ} → x ≡ To j → Child j ≡ root text
+  pub root_there : {j : ℕ} → x ≡ Some j → Some j ≡ root text
   unfolding root root_by stepped
   root_there {j} z = go (preamble_at text) (sym k ∙ z)
     where
-      go : (m : Read (Unit {0})) → stepped (length text) m ≡ To j → Child j ≡ root_by (length text) m
+      go : (m : Read (Unit {0})) → stepped (length text) m ≡ Some j → Some j ≡ root_by (length text) m
       go fail e = clash (cc)
       go (got u r) e = let q : length text - length r ≡ j = cc in cc
 

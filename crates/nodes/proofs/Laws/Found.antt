@@ -1,7 +1,6 @@
 -- What is proved of Found.
-use Rattle.std.specs.Prelude.{◌≡◌, refl, List, [], ℕ}
+use Rattle.std.specs.Prelude.{◌≡◌, refl, List, [], ℕ, Option, Some, None}
 use Rattle.std.proofs.Common.{ap, sym, ◌∙◌}
-use Rattle.std.proofs.Math.Option.{Option, some}
 use Prim.Native.String.{String}
 use Rattle.grammar.specs.Bytes.{ascii}
 use Rattle.grammar.specs.Look.{attributes_of, value_in, or_empty, attr, has, is}
@@ -11,14 +10,12 @@ use Rattle.nodes.specs.Attributes.{place, lookup}
 use Rattle.nodes.proofs.Laws.AttributesSteps.{lookup_is, Held, missing, held, attribute_law}
 use Rattle.nodes.specs.Values.{value_there}
 use Rattle.nodes.proofs.Laws.NextBytes.{value_law}
-use Rattle.nodes.specs.declared.Found.{Found}
-use Rattle.nodes.specs.declared.Found.TheVariants.{At, Nothing}
 use Rattle.nodes.specs.Found.{found_value, value_at_name}
 
-held_value : {text : List ℕ} {f : Found} {o : Option (List ℕ)} → Held text f o → found_value text f ≡ o
+held_value : {text : List ℕ} {f : Option ℕ} {o : Option (List ℕ)} → Held text f o → found_value text f ≡ o
 unfolding found_value
 held_value missing = refl
-held_value (held h) = ap some (value_law h)
+held_value (held h) = ap Some (value_law h)
 
 -- THE LAWS of found values
 pub found_law : {text : List ℕ} {at : ℕ} (w : List ℕ) → Stands text at
@@ -39,11 +36,11 @@ unfolding has is
 has_law s v st = ap (λ x. same_bytes x (ascii v)) (attr_law s st)
 
 -- by the answer of the program
-module _ (text : List ℕ) (at : ℕ) (w : List ℕ) {f : Found} (e : f ≡ place text at w) where
-  pub value_found : {v : ℕ} → f ≡ At v → value_at_name text at w ≡ value_there text v
+module _ (text : List ℕ) (at : ℕ) (w : List ℕ) {f : Option ℕ} (e : f ≡ place text at w) where
+  pub value_found : {v : ℕ} → f ≡ Some v → value_at_name text at w ≡ value_there text v
   unfolding value_at_name found_value or_empty
   value_found z = rw (sym e ∙ z)
 
-  pub value_missing : f ≡ Nothing → value_at_name text at w ≡ []
+  pub value_missing : f ≡ None → value_at_name text at w ≡ []
   unfolding value_at_name found_value or_empty
   value_missing z = rw (sym e ∙ z)

@@ -1,5 +1,5 @@
 -- Names, at a position of the text: one law for each way through the code.
-use Rattle.std.specs.Prelude.{◌≡◌, List, ℕ, Bool, false, drop, refl, ◌++◌, ◌+◌, ◌-◌, ◌≤◌, ◌<◌, length, get_or}
+use Rattle.std.specs.Prelude.{◌≡◌, List, ℕ, Bool, false, drop, refl, ◌++◌, ◌+◌, ◌-◌, ◌≤◌, ◌<◌, length, get_or, Option, Some, None}
 use Prim.Native.String.{String}
 use Rattle.grammar.specs.Bytes.{ascii}
 use Rattle.grammar.specs.Document.{Attribute, Element}
@@ -17,8 +17,6 @@ use Rattle.steps.specs.Step.{stepped, Went}
 use Rattle.steps.proofs.Laws.Step.{at_byte, at_end, fell, went}
 use Rattle.steps.proofs.Laws.Leaves.{name_tails}
 use Rattle.steps.specs.Noted.{part}
-use Rattle.steps.specs.declared.Step.{Step}
-use Rattle.steps.specs.declared.Step.TheVariants.{To, No}
 
 -- what an element is made of
 pub ending_name : {n : List ℕ} {l : List Attribute} {s : List ℕ} {e : Element} {r : List ℕ} → Ending n l s e r → name_of e ≡ n
@@ -60,16 +58,16 @@ module _ (text : List ℕ) (at : ℕ) (word : List ℕ) where
   unfolding named named_by
   name_other h f = rw (at_byte text at h, ne_eqb _ _ f)
 
-  module _ (h : at < length text) (q : get_or text at 0 ≡ 60) {x : Step} (k : x ≡ stepped (length text) (name_at (drop (at + 1) text))) where
+  module _ (h : at < length text) (q : get_or text at 0 ≡ 60) {x : Option ℕ} (k : x ≡ stepped (length text) (name_at (drop (at + 1) text))) where
     opened : named text at word ≡ named_in word (name_at (drop (at + 1) text))
     unfolding named named_by
     opened = rw (at_byte text at h, eq-eqb _ _ q)
 
-    pub name_bad : x ≡ No → false ≡ named text at word
+    pub name_bad : x ≡ None → false ≡ named text at word
     unfolding named_in
     name_bad z = sym (opened ∙ rw (fell (length text) (name_at (drop (at + 1) text)) (sym z ∙ k)))
 
-    module _ {e : ℕ} (z : x ≡ To e) where
+    module _ {e : ℕ} (z : x ≡ Some e) where
       read : Went name_at text (at + 1) e
       read = went name_at text (at + 1) e (name_tails (drop (at + 1) text)) (sym z ∙ k)
 
@@ -77,11 +75,11 @@ module _ (text : List ℕ) (at : ℕ) (word : List ℕ) where
       unfolding named_in
       name_read w = w ∙ sym (opened ∙ rw read.reads (ap (λ n. same_bytes n word) (sym (part_is read (omega arith)))))
 
-pub name_ahead : (text : List ℕ) (at : ℕ) {x : Step} {e : ℕ} → at < length text
-    → x ≡ stepped (length text) (name_at (drop (at + 1) text)) → x ≡ To e → at + 1 ≤ e
+pub name_ahead : (text : List ℕ) (at : ℕ) {x : Option ℕ} {e : ℕ} → at < length text
+    → x ≡ stepped (length text) (name_at (drop (at + 1) text)) → x ≡ Some e → at + 1 ≤ e
 name_ahead text at {x} {e} h k z = (went name_at text (at + 1) e (name_tails (drop (at + 1) text)) (sym z ∙ k)).ahead (omega arith)
 
-pub name_inside : (text : List ℕ) (at : ℕ) {x : Step} {e : ℕ} → x ≡ stepped (length text) (name_at (drop (at + 1) text)) → x ≡ To e
+pub name_inside : (text : List ℕ) (at : ℕ) {x : Option ℕ} {e : ℕ} → x ≡ stepped (length text) (name_at (drop (at + 1) text)) → x ≡ Some e
     → e ≤ length text
 name_inside text at {x} {e} k z = (went name_at text (at + 1) e (name_tails (drop (at + 1) text)) (sym z ∙ k)).inside
 

@@ -1,6 +1,7 @@
 -- What is proved of Values.
-use Rattle.std.specs.Prelude.{◌≡◌, refl, List, [], ◌∷◌, ◌++◌, ℕ, zero, suc, ◌+◌, ◌-◌, ◌≤◌, ◌<◌, Bool, true, false, eqb, length, drop, get_or}
+use Rattle.std.specs.Prelude.{◌≡◌, refl, List, [], ◌∷◌, ◌++◌, ℕ, zero, suc, ◌+◌, ◌-◌, ◌≤◌, ◌<◌, Bool, true, false, eqb, length, drop, get_or, Option, Some, None}
 use Rattle.std.proofs.Common.{ap, sym, ◌∙◌, arith, ne_eqb, length-drop, drop-drop, get_or-drop}
+use Rattle.std.proofs.lemmas.Option.{some_pair_parts}
 use Rattle.lists.proofs.Laws.Booleans.{and_left, or_right, clash}
 use Rattle.grammar.specs.Bytes.{ascii, blank, quote, special, begins, parted}
 use Rattle.grammar.specs.Characters.{Character, utf8_1, utf8_2, utf8_3, utf8_4}
@@ -23,8 +24,6 @@ use Rattle.grammar.proofs.Laws.Others.{continues_high, lead3_high, lead4_high}
 use Rattle.nodes.specs.Places.{pick}
 use Rattle.nodes.proofs.Laws.Places.{unbind, Tail, tail_of, tail_more}
 use Rattle.nodes.specs.Attributes.{ValueAt}
-use Rattle.nodes.specs.declared.Char.{Char}
-use Rattle.nodes.specs.declared.Char.TheVariants.{Byte, End}
 use Rattle.nodes.specs.Values.{Next, a_byte, no_byte, or_else_lem, bare_byte, next_byte, tell, decoded_as, tells, value_there, as_char}
 use Rattle.nodes.specs.Values.{decoded_at}
 
@@ -231,12 +230,13 @@ pub record Decodes (text : List ℕ) (q i b j : ℕ) : Type 0 where
   pub splits : tells q (drop i text) ≡ b ∷ tells q (drop j text)
 
 char_law : (text : List ℕ) (q i : ℕ) (n : Next) → next_byte q (drop i text) ≡ n → Tailed text n → ShorterNext (drop i text) n → {b j : ℕ}
-    → as_char (length text) n ≡ Byte b j → Decodes text q i b j
+    → as_char (length text) n ≡ Some (b, j) → Decodes text q i b j
 unfolding as_char tell
 char_law text q i no_byte e t s h = clash (cc)
 char_law text q i (a_byte c r) e (one_tailed t) (one_short s) {b} {j} h =
-    let p : j ≡ length text - length r = cc in
-    let w : c ≡ b = cc in
+    let parts = some_pair_parts _ _ _ _ h in
+    let w = parts.0 in
+    let p = sym parts.1 in
     let k : length (drop i text) ≡ length text - i = length-drop i text in
     let u : drop j text ≡ r = rw p t.stands in
     record {
@@ -245,17 +245,17 @@ char_law text q i (a_byte c r) e (one_tailed t) (one_short s) {b} {j} h =
       splits = rw (tells_step q (drop i text), e, w, u);
     }
 
-pub decoded_byte : (text : List ℕ) (q i : ℕ) {c : Char} → c ≡ decoded_at text i q → {b j : ℕ} → c ≡ Byte b j → Decodes text q i b j
+pub decoded_byte : (text : List ℕ) (q i : ℕ) {c : Option (ℕ × ℕ)} → c ≡ decoded_at text i q → {b j : ℕ} → c ≡ Some (b, j) → Decodes text q i b j
 unfolding decoded_at
 decoded_byte text q i e z = char_law text q i (next_byte q (drop i text)) refl (next_tailed text q (drop i text) (tail_of text i))
     (next_short q (drop i text)) (sym e ∙ z)
 
-end_law : (q : ℕ) (s : List ℕ) (k : ℕ) (n : Next) → next_byte q s ≡ n → as_char k n ≡ End → tells q s ≡ []
+end_law : (q : ℕ) (s : List ℕ) (k : ℕ) (n : Next) → next_byte q s ≡ n → as_char k n ≡ None → tells q s ≡ []
 unfolding as_char tell
 end_law q s k no_byte e h = rw (tells_step q s, e)
 end_law q s k (a_byte b r) e h = clash (cc)
 
-pub decoded_end : (text : List ℕ) (q i : ℕ) {c : Char} → c ≡ decoded_at text i q → c ≡ End → tells q (drop i text) ≡ []
+pub decoded_end : (text : List ℕ) (q i : ℕ) {c : Option (ℕ × ℕ)} → c ≡ decoded_at text i q → c ≡ None → tells q (drop i text) ≡ []
 unfolding decoded_at
 decoded_end text q i e z = end_law q (drop i text) (length text) (next_byte q (drop i text)) refl (sym e ∙ z)
 

@@ -1,7 +1,6 @@
 -- What is proved of Root.
-use Rattle.std.specs.Prelude.{◌≡◌, refl, List, ℕ, ◌-◌, ◌<◌, length, drop}
+use Rattle.std.specs.Prelude.{◌≡◌, refl, List, ℕ, ◌-◌, ◌<◌, length, drop, Some}
 use Rattle.std.proofs.Common.{ap, sym, ◌∙◌, subst, arith}
-use Rattle.std.proofs.Math.Option.{some}
 use Rattle.lists.proofs.Laws.Booleans.{clash}
 use Rattle.grammar.specs.Document.{Element}
 use Rattle.grammar.specs.Read.{Read, fail, got, bind, all_of}
@@ -14,20 +13,19 @@ use Rattle.steps.proofs.Laws.Prologue.{preamble_tails}
 use Rattle.nodes.specs.Places.{element₁₆, Stands, the}
 use Rattle.nodes.proofs.Laws.Places.{stands_read, the_read, unbind, Tail, tail_read}
 use Rattle.nodes.proofs.Laws.ReadSteps.{eats_child}
-use Rattle.nodes.specs.declared.Kid.TheVariants.{Child}
 use Rattle.nodes.specs.Root.{root_by, root}
 
 -- the root stands, and is `e`
 pub record Rooted (text : List ℕ) (e : Element) : Type 0 where
   pub place : ℕ
-  pub found : root text ≡ Child place
+  pub found : root text ≡ Some place
   pub stands : Stands text place
   pub is : the text place ≡ e
 
 pub whole_tail : (text : List ℕ) → Tail text text
 whole_tail text = let z : length text - length text ≡ 0 = omega arith in record { fits = omega arith; stands = rw z }
 
-answered : (m : Read Element) (e : Element) → answer m ≡ some e → (r : List ℕ) × (m ≡ got e r)
+answered : (m : Read Element) (e : Element) → answer m ≡ Some e → (r : List ℕ) × (m ≡ got e r)
 unfolding answer
 answered fail e h = clash (cc)
 answered (got x r) e h = (r, let q : x ≡ e = cc in ap (λ x. got x r) q)
@@ -50,7 +48,7 @@ unfolding preamble_at bind
 preamble_is text s₁ s₂ p q = rw (p, q)
 
 -- THE LAW OF THE ROOT
-pub root_law : (text : List ℕ) (e : Element) → parse text ≡ some e → Rooted text e
+pub root_law : (text : List ℕ) (e : Element) → parse text ≡ Some e → Rooted text e
 unfolding parse document_at
 root_law text e h =
     let a = answered (document_at (length text) text) e h in

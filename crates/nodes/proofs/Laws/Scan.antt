@@ -1,5 +1,5 @@
 -- The scan for tags, at a position of the text: one law for each way through the code.
-use Rattle.std.specs.Prelude.{◌≡◌, refl, List, ◌∷◌, ℕ, ◌+◌, ◌-◌, ◌≤◌, ◌<◌, Bool, true, false, eqb, length, get_or}
+use Rattle.std.specs.Prelude.{◌≡◌, refl, List, ◌∷◌, ℕ, ◌+◌, ◌-◌, ◌≤◌, ◌<◌, Bool, true, false, eqb, length, get_or, Some, None}
 use Rattle.std.proofs.Math.Path.{sym}
 use Rattle.std.proofs.Common.{◌∙◌, rules}
 use native.Mathlib.Omega.{arith}
@@ -9,7 +9,6 @@ use Rattle.grammar.specs.Read.{got, bind, mark, test}
 use Rattle.grammar.specs.Parser.{Look, at_close, at_comment, at_data, at_element, at_text, look}
 use Rattle.steps.specs.Step.{stepped}
 use Rattle.steps.proofs.Laws.Step.{at_byte, at_end, arrives, refuses}
-use Rattle.steps.specs.declared.Step.TheVariants.{To, No}
 use Rattle.steps.specs.Blocks.{Through, other}
 use Rattle.steps.proofs.Laws.Blocks.{through_passed}
 use Rattle.nodes.specs.Scan.{to_tag, Quoted, past_tag, quoting, finishes, finish, tag_from, tag_at, InTag}
@@ -79,11 +78,11 @@ pub pass_start : (text : List ℕ) (at : ℕ) → Passing text at at
 pass_start text at = record { same_end = refl }
 
 module _ (text : List ℕ) (at i : ℕ) (go : Passing text at i) where
-  pub pass_end : length text ≤ i → No ≡ stepped (length text) (past_tag (drop at text))
+  pub pass_end : length text ≤ i → None ≡ stepped (length text) (past_tag (drop at text))
   unfolding past_tag
   pass_end h = refuses (length text) (past_tag (drop at text)) (rw (go.same_end, at_end text i h))
 
-  pub pass_here : i < length text → get_or text i 0 ≡ 62 → To (i + 1) ≡ stepped (length text) (past_tag (drop at text))
+  pub pass_here : i < length text → get_or text i 0 ≡ 62 → Some (i + 1) ≡ stepped (length text) (past_tag (drop at text))
   unfolding past_tag
   pass_here h e =
       let q : past_tag (drop at text) ≡ got tt (drop (i + 1) text) = rw (go.same_end, at_byte text i h, eq-eqb _ _ e) in
@@ -178,4 +177,4 @@ module _ (text : List ℕ) (at : ℕ) where
       → r ≡ tag_told (length text) (tag_at (drop at text))
   tag_whole h e = rw (tag_opens h).same_tag e
 
-pub ruleset whole-tag = (tag_past, tag_whole, rules)
+pub ruleset whole_tag = (tag_past, tag_whole, rules)

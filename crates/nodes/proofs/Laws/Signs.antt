@@ -1,5 +1,5 @@
 -- Signs: what stands where contents go on with a tag, at a position of the text: one law for each way through the code.
-use Rattle.std.specs.Prelude.{◌≡◌, refl, List, ℕ, ◌-◌, ◌≤◌, ◌<◌, Bool, true, false, length, drop}
+use Rattle.std.specs.Prelude.{◌≡◌, refl, List, ℕ, ◌-◌, ◌≤◌, ◌<◌, Bool, true, false, length, drop, Option, Some, None}
 use Rattle.std.proofs.Common.{ap, ◌∙◌, arith, rules}
 use Rattle.std.proofs.Math.Path.{sym}
 use Rattle.lists.proofs.Laws.Booleans.{clash}
@@ -7,8 +7,6 @@ use Rattle.grammar.specs.Read.{Read, fail, got}
 use Rattle.grammar.specs.Parser.{comment_at, data_at_lem, Look, at_close, at_comment, at_data, at_element, at_text, look}
 use Rattle.steps.specs.Step.{stepped}
 use Rattle.steps.proofs.Laws.Step.{at_end}
-use Rattle.steps.specs.declared.Step.{Step}
-use Rattle.steps.specs.declared.Step.TheVariants.{To, No}
 use Rattle.nodes.specs.Scan.{tag_at}
 use Rattle.nodes.specs.ScanSteps.{tag_told, flat_of, mark_of, sign_by, sign, sign_told}
 use Rattle.steps.specs.Pieces.{front}
@@ -25,12 +23,12 @@ sign_look : (s : List ℕ) (l : Look) → look s ≡ l → sign s ≡ sign_by l 
 unfolding sign
 sign_look s l e = rw e
 
-flat_to : {A : Type 0} (n : ℕ) (m : Read A) {j : ℕ} → stepped n m ≡ To j → sign-is.Flat j ≡ sign_told n (flat_of m)
+flat_to : {A : Type 0} (n : ℕ) (m : Read A) {j : ℕ} → stepped n m ≡ Some j → sign-is.Flat j ≡ sign_told n (flat_of m)
 unfolding stepped sign_told flat_of
 flat_to n fail e = clash (cc)
 flat_to n (got u r) {j} e = let q : n - length r ≡ j = cc in cc
 
-flat_no : {A : Type 0} (n : ℕ) (m : Read A) → stepped n m ≡ No → sign-is.No ≡ sign_told n (flat_of m)
+flat_no : {A : Type 0} (n : ℕ) (m : Read A) → stepped n m ≡ None → sign-is.No ≡ sign_told n (flat_of m)
 unfolding stepped sign_told flat_of
 flat_no n fail e = refl
 flat_no n (got u r) e = clash (cc)
@@ -70,26 +68,26 @@ module _ (text : List ℕ) (at : ℕ) {f : Front} (e : f ≡ front (look (drop a
   unfolding sign_by sign_told
   sign_text q = sym (rw (sign_look (drop at text) at_text (looks_text (drop at text) e q)))
 
-  module _ (q : f ≡ front_is.Comment) {x : Step} (k : x ≡ stepped (length text) (comment_at (drop at text))) where
+  module _ (q : f ≡ front_is.Comment) {x : Option ℕ} (k : x ≡ stepped (length text) (comment_at (drop at text))) where
     comment_look : flat_of (comment_at (drop at text)) ≡ sign (drop at text)
     unfolding sign_by
     comment_look = sym (sign_look (drop at text) at_comment (looks_comment (drop at text) e q))
 
-    pub sign_comment : {j : ℕ} → x ≡ To j → sign-is.Flat j ≡ sign_told (length text) (sign (drop at text))
+    pub sign_comment : {j : ℕ} → x ≡ Some j → sign-is.Flat j ≡ sign_told (length text) (sign (drop at text))
     sign_comment z = flat_to (length text) (comment_at (drop at text)) (sym k ∙ z) ∙ ap (sign_told (length text)) comment_look
 
-    pub sign_broken : x ≡ No → sign-is.No ≡ sign_told (length text) (sign (drop at text))
+    pub sign_broken : x ≡ None → sign-is.No ≡ sign_told (length text) (sign (drop at text))
     sign_broken z = flat_no (length text) (comment_at (drop at text)) (sym k ∙ z) ∙ ap (sign_told (length text)) comment_look
 
-  module _ (q : f ≡ front_is.Data) {x : Step} (k : x ≡ stepped (length text) (data_at_lem (drop at text))) where
+  module _ (q : f ≡ front_is.Data) {x : Option ℕ} (k : x ≡ stepped (length text) (data_at_lem (drop at text))) where
     data_look : flat_of (data_at_lem (drop at text)) ≡ sign (drop at text)
     unfolding sign_by
     data_look = sym (sign_look (drop at text) at_data (looks_data (drop at text) e q))
 
-    pub sign_data : {j : ℕ} → x ≡ To j → sign-is.Flat j ≡ sign_told (length text) (sign (drop at text))
+    pub sign_data : {j : ℕ} → x ≡ Some j → sign-is.Flat j ≡ sign_told (length text) (sign (drop at text))
     sign_data z = flat_to (length text) (data_at_lem (drop at text)) (sym k ∙ z) ∙ ap (sign_told (length text)) data_look
 
-    pub sign_no_data : x ≡ No → sign-is.No ≡ sign_told (length text) (sign (drop at text))
+    pub sign_no_data : x ≡ None → sign-is.No ≡ sign_told (length text) (sign (drop at text))
     sign_no_data z = flat_no (length text) (data_at_lem (drop at text)) (sym k ∙ z) ∙ ap (sign_told (length text)) data_look
 
   module _ (q : f ≡ front_is.Start) {x : Tag} (k : x ≡ tag_told (length text) (tag_at (drop at text))) where

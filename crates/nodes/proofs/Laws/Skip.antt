@@ -1,5 +1,5 @@
 -- The scan over contents and elements, at a position of the text: one law for each way through the code.
-use Rattle.std.specs.Prelude.{◌≡◌, List, Bool, drop}
+use Rattle.std.specs.Prelude.{◌≡◌, List, Bool, drop, Option, Some, None, ℕ}
 use Rattle.std.proofs.Math.Path.{refl, ap, sym}
 use Rattle.std.proofs.Common.{◌∙◌, rules, length-drop}
 use Prim.Native.Nat.{ℕ, suc, ◌+◌, ◌-◌, ◌≤◌, ◌<◌}
@@ -13,8 +13,6 @@ use Rattle.grammar.specs.Parser.{comment_at, data_at_lem, Look, at_close, at_com
 use Rattle.grammar.proofs.Laws.Sound.{comment_sound, data_sound}
 use Rattle.steps.specs.Step.{stepped, Went}
 use Rattle.steps.proofs.Laws.Step.{arrives, refuses, fell, Tails, tails, went}
-use Rattle.steps.specs.declared.Step.{Step}
-use Rattle.steps.specs.declared.Step.TheVariants.{To, No}
 use Rattle.nodes.proofs.Laws.Places.{Tail, tail_of, tail_more}
 use Rattle.nodes.proofs.Laws.Depth.{comment_eats, data_eats}
 use Rattle.nodes.specs.Scan.{to_tag, past_tag, tag_at, scan, skip_at, passed}
@@ -144,7 +142,7 @@ module _ (text : List ℕ) (at depth i : ℕ) (go : Scanning text at depth i) {t
   short : length s ≤ length text - i
   short = omega (arith, tag_short text i et, length-drop t text)
 
-  pub scan_none : g ≡ sign-is.No → No ≡ stepped (length text) (scan 0 (drop at text))
+  pub scan_none : g ≡ sign-is.No → None ≡ stepped (length text) (scan 0 (drop at text))
   unfolding go_on
   scan_none z = refuses (length text) (scan 0 (drop at text)) (on ∙ rw (told_none text s (tail_of text t) (sign s) (sym eg ∙ z)))
 
@@ -189,23 +187,23 @@ module _ (text : List ℕ) (at depth i : ℕ) (go : Scanning text at depth i) {t
         go_in (flat r) e = clash (cc)
         go_in none e = clash (cc)
 
-    pub scan_ends : depth ≡ 0 → To j ≡ stepped (length text) (scan 0 (drop at text))
+    pub scan_ends : depth ≡ 0 → Some j ≡ stepped (length text) (scan 0 (drop at text))
     unfolding go_on
     scan_ends e =
         let q : scan 0 (drop at text) ≡ got tt (drop j text) = on ∙ rw (closed.0, e) in
         arrives text (scan 0 (drop at text)) j inside q
 
-    module _ (f : depth ≡ 0 → ⊥) {x : Step} (k : x ≡ stepped (length text) (past_tag (drop j text))) where
+    module _ (f : depth ≡ 0 → ⊥) {x : Option ℕ} (k : x ≡ stepped (length text) (past_tag (drop j text))) where
       deeper : scan 0 (drop at text) ≡ bind (past_tag (drop j text)) (λ _ r. scan (depth - 1) r)
       unfolding go_on
       deeper = let n : depth ≡ suc (depth - 1) = omega arith in on ∙ ap (λ m. go_on m depth) closed.0
           ∙ ap (go_on (closes (drop j text))) n
 
-      pub scan_stuck : x ≡ No → No ≡ stepped (length text) (scan 0 (drop at text))
+      pub scan_stuck : x ≡ None → None ≡ stepped (length text) (scan 0 (drop at text))
       unfolding bind
       scan_stuck w = refuses (length text) (scan 0 (drop at text)) (deeper ∙ rw (fell (length text) (past_tag (drop j text)) (sym w ∙ k)))
 
-      module _ {k₁ : ℕ} (w : x ≡ To k₁) where
+      module _ {k₁ : ℕ} (w : x ≡ Some k₁) where
         passed_on : Went past_tag text j k₁
         passed_on = went past_tag text j k₁ (less_tails (past_tag_less (drop j text))) (sym w ∙ k)
 
@@ -278,28 +276,28 @@ module _ (text : List ℕ) (at : ℕ) {x : Tag} (k : x ≡ tag_told (length text
   pub no_tag : x ≡ tag_is.No → tag_at (drop at text) ≡ fail
   no_tag z = none_so (length text) (tag_at (drop at text)) (sym k ∙ z)
 
-  pub skip_none : x ≡ tag_is.No → No ≡ stepped (length text) (skip_at (drop at text))
+  pub skip_none : x ≡ tag_is.No → None ≡ stepped (length text) (skip_at (drop at text))
   unfolding skip_at bind
   skip_none z = refuses (length text) (skip_at (drop at text)) (rw (no_tag z))
 
-  pub skip_bare : {j : ℕ} → x ≡ tag_is.Bare j → To j ≡ stepped (length text) (skip_at (drop at text))
+  pub skip_bare : {j : ℕ} → x ≡ tag_is.Bare j → Some j ≡ stepped (length text) (skip_at (drop at text))
   unfolding skip_at bind passed leave_at
   skip_bare {j} z = let o = bare_at_lem z in let q : skip_at (drop at text) ≡ got tt (drop j text) = rw o.reads in
       arrives text (skip_at (drop at text)) j o.inside q
 
-  pub skip_open : {i : ℕ} → x ≡ tag_is.Open i → {r : Step} → r ≡ stepped (length text) (leave_at (drop i text))
+  pub skip_open : {i : ℕ} → x ≡ tag_is.Open i → {r : Option ℕ} → r ≡ stepped (length text) (leave_at (drop i text))
       → r ≡ stepped (length text) (skip_at (drop at text))
   unfolding skip_at bind passed leave_at
   skip_open z q = q ∙ sym (rw (opens_at z).reads)
 
 pub ruleset skipping = (skip_none, skip_bare, skip_open, rules)
 
-module _ (text : List ℕ) (at : ℕ) {c : Step} (e : c ≡ stepped (length text) (scan 0 (drop at text))) where
-  pub leave_stuck : c ≡ No → No ≡ stepped (length text) (leave_at (drop at text))
+module _ (text : List ℕ) (at : ℕ) {c : Option ℕ} (e : c ≡ stepped (length text) (scan 0 (drop at text))) where
+  pub leave_stuck : c ≡ None → None ≡ stepped (length text) (leave_at (drop at text))
   unfolding leave_at bind
   leave_stuck w = refuses (length text) (leave_at (drop at text)) (rw (fell (length text) (scan 0 (drop at text)) (sym w ∙ e)))
 
-  pub leave_past : {j : ℕ} → c ≡ To j → {r : Step} → r ≡ stepped (length text) (past_tag (drop j text))
+  pub leave_past : {j : ℕ} → c ≡ Some j → {r : Option ℕ} → r ≡ stepped (length text) (past_tag (drop j text))
       → r ≡ stepped (length text) (leave_at (drop at text))
   unfolding leave_at bind
   leave_past {j} w q =

@@ -1,5 +1,5 @@
 -- What is proved of Texts.
-use Rattle.std.specs.Prelude.{◌≡◌, ℕ, suc, ◌+◌, ◌-◌, ◌≤◌, ◌<◌, Bool, true, false, leb, length, drop}
+use Rattle.std.specs.Prelude.{◌≡◌, ℕ, suc, ◌+◌, ◌-◌, ◌≤◌, ◌<◌, Bool, true, false, leb, length, drop, Some, None}
 use Rattle.std.proofs.Math.Path.{refl}
 use Rattle.std.proofs.Common.{ap, sym, ◌∙◌, arith, le-leb, length-drop}
 use mathlib.Core.List.{List, [], ◌∷◌, ◌++◌}
@@ -24,7 +24,6 @@ use Rattle.nodes.proofs.Laws.Children.{tail_behind}
 use Rattle.nodes.specs.TextBytes.{Rest, outside, within, bytes, Move, stop, skip, char, past, referring, bare_char, step_by, step_in}
 use Rattle.nodes.specs.TextBytes.{step, say, says_from}
 use Rattle.nodes.proofs.Laws.TextBytes.{says, says_from_lem, Shorter, skip_short, char_short, step_short, contents_say}
-use Rattle.nodes.specs.declared.Found.TheVariants.{At, Nothing}
 use Rattle.nodes.specs.declared.Text.{Text}
 use Rattle.nodes.specs.declared.Text.TheVariants.{Stop, Skip, Letter}
 use Rattle.nodes.specs.Texts.{inside_by, inside, rest_from_by, rest_from, place_of, says_at, left, text_from, text_of_lem, as_text}
@@ -193,18 +192,18 @@ module _ (text : List ℕ) (i : ℕ) where
     unfolding text_step
     text_stop z = stop_law (step (rest_from text i)) refl (sym e ∙ z)
 
-pub from_none : (text : List ℕ) → text_from text Nothing ≡ []
+pub from_none : (text : List ℕ) → text_from text None ≡ []
 unfolding text_from
 from_none text = refl
 
-pub from_at : (text : List ℕ) (i : ℕ) → text_from text (At i) ≡ says_at text i
+pub from_at : (text : List ℕ) (i : ℕ) → text_from text (Some i) ≡ says_at text i
 unfolding text_from
 from_at text i = refl
 
-pub text_none : (text : List ℕ) (at : ℕ) → inside text at ≡ Nothing → text_of_lem text at ≡ []
+pub text_none : (text : List ℕ) (at : ℕ) → inside text at ≡ None → text_of_lem text at ≡ []
 unfolding text_from text_of_lem
 text_none text at e = rw e
 
-pub text_some : (text : List ℕ) (at : ℕ) {i : ℕ} → inside text at ≡ At i → text_of_lem text at ≡ says_at text i
+pub text_some : (text : List ℕ) (at : ℕ) {i : ℕ} → inside text at ≡ Some i → text_of_lem text at ≡ says_at text i
 unfolding text_from text_of_lem
 text_some text at e = rw e

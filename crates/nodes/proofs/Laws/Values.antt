@@ -1,7 +1,8 @@
 -- Decoded values, at a position of the text: one law for each way through the code.
-use Rattle.std.specs.Prelude.{◌≡◌, List, [], ◌∷◌, ℕ, ◌+◌, ◌-◌, ◌≤◌, ◌<◌, Bool, true, false, ◌&&◌, eqb, drop, get_or}
+use Rattle.std.specs.Prelude.{◌≡◌, List, [], ◌∷◌, ℕ, ◌+◌, ◌-◌, ◌≤◌, ◌<◌, Bool, true, false, ◌&&◌, eqb, drop, get_or, Option, Some, None}
 use Rattle.std.proofs.Math.Path.{refl, ap, sym}
 use Rattle.std.proofs.Common.{◌∙◌, arith, rules, length-drop}
+use Rattle.std.proofs.lemmas.Option.{some_pair_parts}
 use borrow.Author.Tests.{eq-eqb, ne_eqb}
 use Rattle.std.proofs.Math.ListN.{length}
 use Rattle.lists.proofs.Laws.Booleans.{clash}
@@ -12,10 +13,7 @@ use Rattle.grammar.proofs.Laws.Tokens.{reference_other, line_end_other}
 use Rattle.steps.specs.Step.{stepped}
 use Rattle.steps.proofs.Laws.Step.{at_byte, at_end}
 use Rattle.steps.proofs.Laws.Feeds.{fed, feed_got, return_read}
-use Rattle.steps.specs.declared.Step.TheVariants.{To}
 use Rattle.steps.specs.Leaves.{referred, first_byte}
-use Rattle.steps.specs.declared.characters.Reference.{Reference}
-use Rattle.steps.specs.declared.characters.Reference.TheVariants as reference-is
 use Rattle.nodes.specs.Places.{pick}
 use Rattle.nodes.specs.Values.{Next, a_byte, or_else_lem, bare_byte, next_byte, as_char, decoded_at, value_there, tells}
 use Rattle.nodes.proofs.Laws.NextBytes.{Decodes}
@@ -23,26 +21,22 @@ use Rattle.nodes.proofs.Laws.NextBytes.{decoded_byte, decoded_end}
 use Rattle.nodes.specs.Attributes.{place}
 use Rattle.nodes.specs.Found.{value_at_name}
 use Rattle.nodes.proofs.Laws.Found.{value_found, value_missing}
-use Rattle.nodes.specs.declared.Found.{Found}
-use Rattle.nodes.specs.declared.Found.TheVariants.{At, Nothing}
-use Rattle.nodes.specs.declared.Char.{Char}
-use Rattle.nodes.specs.declared.Char.TheVariants.{Byte, End}
 
-else_byte : (n : ℕ) (m : Read (List ℕ)) (x : Next) {d j : ℕ} → referred n m ≡ reference-is.Is d j → Byte d j ≡ as_char n (or_else_lem m x)
+else_byte : (n : ℕ) (m : Read (List ℕ)) (x : Next) {d j : ℕ} → referred n m ≡ Some (d, j) → Some (d, j) ≡ as_char n (or_else_lem m x)
 unfolding referred as_char or_else_lem
 else_byte n fail x e = clash (cc)
-else_byte n (got b r) x {d} {j} e = let p : first_byte b ≡ d = cc in let q : n - length r ≡ j = cc in cc
+else_byte n (got b r) x {d} {j} e = let p = some_pair_parts _ _ _ _ e in rw (p.0, p.1)
 
-else_end : (n : ℕ) (m : Read (List ℕ)) (x : Next) → referred n m ≡ reference-is.No → or_else_lem m x ≡ x
+else_end : (n : ℕ) (m : Read (List ℕ)) (x : Next) → referred n m ≡ None → or_else_lem m x ≡ x
 unfolding referred or_else_lem
 else_end n fail x e = refl
 else_end n (got b r) x e = clash (cc)
 
-pub decode_past : (text : List ℕ) (at q : ℕ) → length text ≤ at → End ≡ decoded_at text at q
+pub decode_past : (text : List ℕ) (at q : ℕ) → length text ≤ at → None ≡ decoded_at text at q
 unfolding decoded_at next_byte as_char
 decode_past text at q h = rw (at_end text at h)
 
-pub decode_quote : (text : List ℕ) (at q : ℕ) → at < length text → get_or text at 0 ≡ q → End ≡ decoded_at text at q
+pub decode_quote : (text : List ℕ) (at q : ℕ) → at < length text → get_or text at 0 ≡ q → None ≡ decoded_at text at q
 unfolding decoded_at next_byte as_char
 decode_quote text at q h e = rw (at_byte text at h, eq-eqb _ _ e)
 
@@ -54,13 +48,13 @@ module _ (text : List ℕ) (at q : ℕ) (h : at < length text) (nq : get_or text
   spot : length text - length (drop (at + 1) text) ≡ at + 1
   spot = simp length-drop (omega arith)
 
-  pub decode_reference : {c : Reference} → c ≡ referred (length text) (reference_at (drop at text)) → {d j : ℕ} → c ≡ reference-is.Is d j
-      → Byte d j ≡ decoded_at text at q
+  pub decode_reference : {c : Option (ℕ × ℕ)} → c ≡ referred (length text) (reference_at (drop at text)) → {d j : ℕ} → c ≡ Some (d, j)
+      → Some (d, j) ≡ decoded_at text at q
   unfolding decoded_at
   decode_reference w z = else_byte (length text) (reference_at (drop at text)) _ (sym w ∙ z) ∙ ap (as_char (length text)) (sym opened)
 
-  pub decode_ampersand : get_or text at 0 ≡ 38 → {c : Reference} → c ≡ referred (length text) (reference_at (drop at text))
-      → c ≡ reference-is.No → Byte 38 (at + 1) ≡ decoded_at text at q
+  pub decode_ampersand : get_or text at 0 ≡ 38 → {c : Option (ℕ × ℕ)} → c ≡ referred (length text) (reference_at (drop at text))
+      → c ≡ None → Some (38, (at + 1)) ≡ decoded_at text at q
   unfolding decoded_at as_char blank bare_byte or_else_lem
   decode_ampersand e w z = sym (ap (as_char (length text)) opened
       ∙ rw (
@@ -70,11 +64,11 @@ module _ (text : List ℕ) (at q : ℕ) (h : at < length text) (nq : get_or text
         spot,
       ))
 
-  pub decode_return : get_or text at 0 ≡ 13 → {j : ℕ} → To j ≡ stepped (length text) (feed_at (ascii "\n") (drop (at + 1) text))
-      → Byte 32 j ≡ decoded_at text at q
+  pub decode_return : get_or text at 0 ≡ 13 → {j : ℕ} → Some j ≡ stepped (length text) (feed_at (ascii "\n") (drop (at + 1) text))
+      → Some (32, j) ≡ decoded_at text at q
   unfolding decoded_at as_char bare_byte or_else_lem first_byte stepped
   decode_return e {j} k =
-      let fits : To j ≡ To (length text - length (fed (drop (at + 1) text))) = k ∙ rw (feed_got (ascii "\n") (drop (at + 1) text)) in
+      let fits : Some j ≡ Some (length text - length (fed (drop (at + 1) text))) = k ∙ rw (feed_got (ascii "\n") (drop (at + 1) text)) in
       let here : j ≡ length text - length (fed (drop (at + 1) text)) = cc in
       rw here (sym (rw (
         opened,
@@ -94,11 +88,11 @@ module _ (text : List ℕ) (at q : ℕ) (h : at < length text) (nq : get_or text
       line_end_other (ascii " ") (get_or text at 0) (ne_eqb _ _ nr) (drop (at + 1) text),
     )
 
-    pub decode_blank : t ≡ true → Byte 32 (at + 1) ≡ decoded_at text at q
+    pub decode_blank : t ≡ true → Some (32, (at + 1)) ≡ decoded_at text at q
     unfolding decoded_at as_char
     decode_blank e = sym (rw (bare, sym bl ∙ e, spot))
 
-    pub decode_plain : t ≡ false → Byte (get_or text at 0) (at + 1) ≡ decoded_at text at q
+    pub decode_plain : t ≡ false → Some ((get_or text at 0), (at + 1)) ≡ decoded_at text at q
     unfolding decoded_at as_char
     decode_plain e = sym (rw (bare, sym bl ∙ e, spot))
 
@@ -117,17 +111,17 @@ pub record Wording (text : List ℕ) (at q : ℕ) (word : List ℕ) (k i : ℕ) 
 pub word_start : (text : List ℕ) (at q : ℕ) (word : List ℕ) → Wording text at q word 0 at
 word_start text at q word = record { inside = omega arith; same_word = refl }
 
-module _ (text : List ℕ) (at q : ℕ) (word : List ℕ) (k i : ℕ) (go : Wording text at q word k i) {c : Char}
+module _ (text : List ℕ) (at q : ℕ) (word : List ℕ) (k i : ℕ) (go : Wording text at q word k i) {c : Option (ℕ × ℕ)}
     (ec : c ≡ decoded_at text i q) where
-  pub word_yes : c ≡ End → length word ≤ k → true ≡ same_bytes (tells q (drop at text)) word
+  pub word_yes : c ≡ None → length word ≤ k → true ≡ same_bytes (tells q (drop at text)) word
   unfolding same_bytes
   word_yes e h = sym (go.same_word ∙ rw (decoded_end text q i ec e, at_end word k h))
 
-  pub word_short : c ≡ End → k < length word → false ≡ same_bytes (tells q (drop at text)) word
+  pub word_short : c ≡ None → k < length word → false ≡ same_bytes (tells q (drop at text)) word
   unfolding same_bytes
   word_short e h = sym (go.same_word ∙ rw (decoded_end text q i ec e, at_byte word k h))
 
-  module _ {b j : ℕ} (is : c ≡ Byte b j) where
+  module _ {b j : ℕ} (is : c ≡ Some (b, j)) where
     says : Decodes text q i b j
     says = decoded_byte text q i ec is
 
@@ -152,11 +146,11 @@ module _ (text : List ℕ) (at q : ℕ) (word : List ℕ) (k i : ℕ) (go : Word
 pub ruleset wording = (word_start, word_yes, word_short, word_less, word_long, word_other, word_more, rules)
 
 -- THE VALUE OF A NAME
-module _ (text : List ℕ) (at : ℕ) (name word : List ℕ) {f : Found} (e : f ≡ place text at name) where
-  pub has_none : f ≡ Nothing → eqb (length word) 0 ≡ same_bytes (value_at_name text at name) word
+module _ (text : List ℕ) (at : ℕ) (name word : List ℕ) {f : Option ℕ} (e : f ≡ place text at name) where
+  pub has_none : f ≡ None → eqb (length word) 0 ≡ same_bytes (value_at_name text at name) word
   has_none z = sym (rw (value_missing text at name e z) (same_empty word))
 
-  pub has_some : {v : ℕ} → f ≡ At v → {r : Bool} → r ≡ same_bytes (value_there text v) word → r ≡ same_bytes (value_at_name text at name) word
+  pub has_some : {v : ℕ} → f ≡ Some v → {r : Bool} → r ≡ same_bytes (value_there text v) word → r ≡ same_bytes (value_at_name text at name) word
   has_some z w = w ∙ sym (rw (value_found text at name e z))
 
 pub ruleset having = (has_none, has_some, rules)

@@ -1,5 +1,5 @@
 -- PLACES INSIDE CDATA, and CDATA between children, computed.
-use Rattle.std.specs.Prelude.{◌≡◌, refl, List, true, false, ℕ}
+use Rattle.std.specs.Prelude.{◌≡◌, refl, List, true, false, ℕ, Some}
 use Rattle.lists.specs.Lists.{all}
 use Rattle.grammar.specs.Bytes.{ascii}
 use Rattle.grammar.specs.Parser.{computing}
@@ -10,7 +10,6 @@ use Rattle.nodes.specs.TextBytes.{past, referring, bare_char, step_by, step_in, 
 use Rattle.nodes.specs.Texts.{rest_from_by, rest_from, place_of, says_at, as_text, text_step}
 use Rattle.nodes.specs.Ahead.{after_gap, past_gap, gap_data, ending, ahead_then, ahead_by, ahead_within, ahead_at, first_ahead}
 use Rattle.nodes.specs.Ahead as Ahead-of
-use Rattle.nodes.specs.declared.Kid.TheVariants as kid_is
 use Rattle.nodes.specs.declared.Text.TheVariants.{Stop, Skip, Letter}
 use Rattle.nodes.specs.declared.ahead.Ahead.TheVariants.{Child, Stray}
 
@@ -64,7 +63,7 @@ unfolding computing to_tag past_tag quoting finishes finish tag_from tag_at kid_
 walks = tt
 
 -- a tag in CDATA is no child
-no_child : first_child (ascii "<a><![CDATA[<c/>]]><b/></a>") 0 ≡ kid_is.Child 19
+no_child : first_child (ascii "<a><![CDATA[<c/>]]><b/></a>") 0 ≡ Some 19
 unfolding walks
 no_child = refl
 

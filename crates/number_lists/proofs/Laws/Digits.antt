@@ -1,5 +1,5 @@
 -- A plain digit of a value reads as itself.
-use Rattle.std.specs.Prelude.{◌≡◌, List, Bool, ℕ, ◌+◌, ◌*◌, ◌-◌, ◌^◌, ◌<◌, ◌≤◌, eqb, leb, length}
+use Rattle.std.specs.Prelude.{◌≡◌, List, Bool, ℕ, ◌+◌, ◌*◌, ◌-◌, ◌^◌, ◌<◌, ◌≤◌, eqb, leb, length, Some}
 use Rattle.std.proofs.Math.Path.{refl, ap}
 use Rattle.std.proofs.Common.{sym, ◌∙◌, arith, rules}
 use Rattle.std.proofs.Math.Bool.{true, false, not}
@@ -8,7 +8,6 @@ use Rattle.std.proofs.Math.ListN.{get_or}
 use Rattle.lists.proofs.Laws.Booleans.{and_left, and_right, clash}
 use Rattle.grammar.proofs.Laws.Tokens.{high_no_blank}
 use Rattle.nodes.proofs.Laws.Values.{decode_plain}
-use Rattle.nodes.specs.declared.Char.TheVariants.{Byte}
 use Rattle.numbers.specs.Numbers.{digit}
 use Rattle.numbers.specs.Stream.{char_at}
 use Rattle.numbers.proofs.Laws.Read.{running_start, running_times, running_room, running_on}
@@ -43,7 +42,7 @@ module _ {q : ℕ} {text : List ℕ} {most before at n k i : ℕ} (go : Running 
   here : plain_digit q (get_or text i 0) ≡ true
   here = ap (plain_digit q) (sym is_byte_lem) ∙ plain_here
 
-  reads : Byte (get_or text i 0) (i + 1) ≡ char_at (Value q) text i
+  reads : Some ((get_or text i 0), (i + 1)) ≡ char_at (Value q) text i
   unfolding char_at
   reads =
       let a = get_or text i 0 in
@@ -65,6 +64,6 @@ pub in_value_lem : {source : Source} {q : ℕ} → source ≡ Value q → {text 
     → Running (Value q) text most before at n k i → Running source text most before at n k i
 in_value_lem e go = rw e go
 
-pub ruleset first-running = (running_start, in_value_lem, rules)
+pub ruleset first_running = (running_start, in_value_lem, rules)
 
-pub ruleset plain-running = (running_start, running_times, digit_least, digit_fits, digit_on, rules)
+pub ruleset plain_running = (running_start, running_times, digit_least, digit_fits, digit_on, rules)

@@ -1,5 +1,5 @@
 -- Numbers inside CDATA: blanks and digits are read there byte by byte as outside.
-use Rattle.std.specs.Prelude.{◌≡◌, List, Bool, not, drop}
+use Rattle.std.specs.Prelude.{◌≡◌, List, Bool, not, drop, Some}
 use Rattle.std.proofs.Math.Path.{refl, sym}
 use Rattle.std.proofs.Common.{ap, ◌∙◌, rules}
 use Rattle.std.proofs.Math.Bool.{true, false}
@@ -14,9 +14,7 @@ use Rattle.grammar.proofs.Laws.Facts.{blank_in}
 use Rattle.grammar.specs.Parser.{feed_at}
 use Rattle.steps.specs.Step.{stepped}
 use Rattle.steps.proofs.Laws.Feeds.{fed, feed_got, feed_none, feed_there, feed_not}
-use Rattle.steps.specs.declared.Step.TheVariants.{To}
 use Rattle.nodes.proofs.Laws.Texts.{within_letter, within_return, place_within}
-use Rattle.nodes.specs.declared.Char.TheVariants.{Byte}
 use Rattle.numbers.specs.Numbers.{digit}
 use Rattle.numbers.specs.Stream.{char_at, stream, word_ends, digits_by, digits_at, Plain, Stops, run_of}
 use Rattle.numbers.specs.Answers.{next_number}
@@ -38,14 +36,14 @@ module _ (text : List ℕ) (i : ℕ) (h : i < length text) where
   back = omega arith
 
   data_char : (get_or text i 0 ≡ 93 → ⊥) → (get_or text i 0 ≡ 13 → ⊥)
-      → char_at Contents text (in_data text i) ≡ Byte (get_or text i 0) (in_data text (i + 1))
+      → char_at Contents text (in_data text i) ≡ Some ((get_or text i 0), (in_data text (i + 1)))
   unfolding char_at
   data_char g f =
       let e = place_within text (in_data text i) (omega arith) back (within_letter text i h g f) in
       letter_byte text (in_data text i) (sym e)
 
-  data_return : get_or text i 0 ≡ 13 → {j : ℕ} → To j ≡ stepped (length text) (feed_at (ascii "\n") (drop (i + 1) text))
-      → char_at Contents text (in_data text i) ≡ Byte 10 (in_data text j)
+  data_return : get_or text i 0 ≡ 13 → {j : ℕ} → Some j ≡ stepped (length text) (feed_at (ascii "\n") (drop (i + 1) text))
+      → char_at Contents text (in_data text i) ≡ Some (10, (in_data text j))
   unfolding char_at
   data_return q k =
       let e = place_within text (in_data text i) (omega arith) back (within_return text i h q k) in
@@ -57,7 +55,7 @@ module _ (text : List ℕ) (i : ℕ) (h : i < length text) where
     where
       go : (t : Bool) → eqb (get_or text i 0) 13 ≡ t → BlankAt text (in_data text i)
       go true e =
-          let k : To (length text - length (fed (drop (i + 1) text))) ≡ stepped (length text) (feed_at (ascii "\n") (drop (i + 1) text)) =
+          let k : Some (length text - length (fed (drop (i + 1) text))) ≡ stepped (length text) (feed_at (ascii "\n") (drop (i + 1) text)) =
           rw (feed_got (ascii "\n") (drop (i + 1) text)) refl in
           record { byte = 10; next = _; reads = data_return (eqb-true _ 13 e) k; is_blank = refl }
       go false e =
@@ -78,7 +76,7 @@ module _ (text : List ℕ) (i : ℕ) (h : i < length text) where
   unfolding blank
   return_passed e = go (leb (length text) (i + 1)) refl
     where
-      to : {j : ℕ} → To j ≡ stepped (length text) (feed_at (ascii "\n") (drop (i + 1) text))
+      to : {j : ℕ} → Some j ≡ stepped (length text) (feed_at (ascii "\n") (drop (i + 1) text))
           → next_number text (in_data text i) ≡ next_number text (in_data text j)
       to k = next_blank text (in_data text i) (data_return text i h e k) refl
 
@@ -112,7 +110,7 @@ pub past_on : {text : List ℕ} {at i : ℕ} → Past text at i → i < length t
     → Past text at (i + 1)
 past_on {text} {at} {i} go h {t} e n = record { inside = omega arith; same = go.same ∙ byte_passed text i h (sym e ∙ not-false t n) }
 
-pub ruleset passing-within = (past_start, past_on, rules)
+pub ruleset passing_within = (past_start, past_on, rules)
 
 pub none_past : (text : List ℕ) (at : ℕ) → length text ≤ at → false ≡ blank (get_or text at 0)
 unfolding blank
@@ -178,9 +176,9 @@ digits_plain d = d.outside
 
 pub ruleset reading = (reading_start, reading_from, reading_done, reading_inside, reading_times, reading_room, reading_on, rules)
 
-pub ruleset starting-on = (digits_plain, starting)
+pub ruleset starting_on = (digits_plain, starting)
 
-pub ruleset hurrying-on = (digits_plain, hurrying)
+pub ruleset hurrying_on = (digits_plain, hurrying)
 
 -- digits with a blank behind them are all the digits there
 module _ {text : List ℕ} {i stop : ℕ} {run : Run} (d : Digits text i stop run) {t : Bool} (et : t ≡ blank (get_or text run.next 0))
@@ -235,4 +233,4 @@ pub late_within : (text : List ℕ) (at : ℕ) → length text < at → {i : ℕ
     → r ≡ next_number text (in_data text i) → r ≡ next_number text at
 late_within text at h {i} e q = let z : in_data text i ≡ at = omega arith in q ∙ ap (next_number text) z
 
-pub ruleset coming-late = (late_within, rules)
+pub ruleset coming_late = (late_within, rules)

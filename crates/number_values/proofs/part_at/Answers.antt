@@ -19,5 +19,5 @@ returns-then-b-eq44 c = search finding
 pub returns-else-b-eq44 : goal.returns-else-b-eq44
 returns-else-b-eq44 c = search finding
 
-pub returns-in-End : goal.returns-in-End
-returns-in-End c = search finding
+pub returns-in-None : goal.returns-in-None
+returns-in-None c = search finding

@@ -1,7 +1,6 @@
 -- CIFTI's numbers are CIFTI's rows: one computed theorem; so what the walker says is conditions 3, 6 and 7.
-use Rattle.std.specs.Prelude.{◌≡◌, refl, List, [], ◌∷◌, Bool, true, false, not, cond, ℕ, zero, suc, get_or}
+use Rattle.std.specs.Prelude.{◌≡◌, refl, List, [], ◌∷◌, Bool, true, false, not, cond, ℕ, zero, suc, get_or, Some}
 use Rattle.std.proofs.Common.{ap, ap₂, sym, ◌∙◌, true≢false, rules}
-use Rattle.std.proofs.Math.Option.{some}
 use Rattle.lists.specs.Lists.{count_up, each}
 use Rattle.grammar.specs.Document.{Element}
 use Rattle.grammar.specs.Look.{Word}
@@ -98,9 +97,9 @@ checked_by {k} {faultIn} f {text} {r} c = record {
   written = λ e p. judged e p (c.some_one e ((parse_iff text e).0 p));
 }
   where
-    judged : (e : Element) → parse text ≡ some e → ChecksDocument table letters k text r e → JudgedBy faultIn text r.root r.number
+    judged : (e : Element) → parse text ≡ Some e → ChecksDocument table letters k text r e → JudgedBy faultIn text r.root r.number
     judged e p j = record {
-      parsed = p ∙ ap some (sym j.root_is);
+      parsed = p ∙ ap Some (sym j.root_is);
       placed = j.placed;
       stands = j.stands;
       fault_is = j.number_is ∙ f e ∙ ap faultIn (sym j.root_is);

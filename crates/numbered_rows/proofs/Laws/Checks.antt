@@ -1,6 +1,5 @@
 -- What is proved of Checks.
-use Rattle.std.specs.Prelude.{◌≡◌, refl, List, Bool, true, false, cond, ℕ}
-use Rattle.std.proofs.Math.Option.{Option, some}
+use Rattle.std.specs.Prelude.{◌≡◌, refl, List, Bool, true, false, cond, ℕ, Option, Some, None}
 use Rattle.std.proofs.Common.{arith}
 use Rattle.grammar.specs.Document.{Element}
 use Rattle.grammar.specs.Parser.{parse}
@@ -37,16 +36,16 @@ module _ {n : ℕ} where
 -- ---- 3, where no fault is 3, says that no document writes the text; else its root is judged.
 
 module _ {faultIn : Element → ℕ} {text : List ℕ} {c : Checked} (w : ChecksBy faultIn text c) where
-  pub not_written : ((e : Element) → c.number ≡ faultIn e → c.number ≡ 3 → ⊥) → c.number ≡ 3 → parse text ≡ Option.none
+  pub not_written : ((e : Element) → c.number ≡ faultIn e → c.number ≡ 3 → ⊥) → c.number ≡ 3 → parse text ≡ None
   not_written never z = go (parse text) refl
     where
-      go : (d : Option Element) → parse text ≡ d → d ≡ Option.none
-      go Option.none p = refl
-      go (some e) p = absurd (never _ (w.written e p).fault_is z)
+      go : (d : Option Element) → parse text ≡ d → d ≡ None
+      go None p = refl
+      go (Some e) p = absurd (never _ (w.written e p).fault_is z)
 
   pub open_judged : (c.number ≡ 3 → ⊥) → JudgedBy faultIn text c.root c.number
   open_judged z = go (parse text) refl
     where
       go : (d : Option Element) → parse text ≡ d → JudgedBy faultIn text c.root c.number
-      go Option.none p = absurd (z (w.unwritten p).0)
-      go (some e) p = w.written e p
+      go None p = absurd (z (w.unwritten p).0)
+      go (Some e) p = w.written e p

@@ -1,5 +1,5 @@
 -- Colours: a decimal beside 0 and 1, in value, and what a program of 64 bits may ask instead.
-use Rattle.std.specs.Prelude.{◌≡◌, refl, Bool, true, false, ◌&&◌, ℕ, zero, suc, ◌+◌, ◌*◌, ◌^◌, ◌≤◌, ◌<◌, leb, ℤ, pos, negsuc, neg_ℤ, nat_abs}
+use Rattle.std.specs.Prelude.{◌≡◌, refl, Bool, true, false, ◌&&◌, ℕ, zero, suc, ◌+◌, ◌*◌, ◌^◌, ◌≤◌, ◌<◌, leb, ℤ, pos, negsuc, neg_ℤ, nat_abs, Option, Some, None}
 use Rattle.std.proofs.Common.{sym, ap, ◌∙◌, true≢false, arith, SFits, of_z, to_z, le-leb, leb-true, leb-false, ltb-true, ltb-false}
 use Rattle.std.specs.Int.Signed.{lt_z}
 use Rattle.std.specs.Int.{w64}
@@ -11,8 +11,6 @@ use Rattle.numbers.specs.Numbers.{up, down, in_value, no_more, no_less, at_most,
 use Rattle.numbers.proofs.Laws.Cuts.{powers}
 use Rattle.numbers.proofs.Laws.InValue.{ten, grows, not_less, as_it_is}
 use Rattle.numbers.specs.Answers.{places_in, shade}
-use Rattle.numbers.specs.declared.Whole.TheVariants as wholes
-use Rattle.numbers.specs.declared.Whole.{Whole}
 
 -- BY THE AMOUNT AND THE POWER
 nothing_less : (m : ℕ) → 1 ≤ m → no_less 0 (neg_ℤ (pos m)) ≡ false
@@ -49,27 +47,27 @@ too_much m u =
 plain : (m : ℕ) (p : ℤ) → up p ≡ 0 → shade (pos m) p ≡ leb m (10 ^ down p)
 plain m p h = let e : m * 10 ^ 0 ≡ m = omega arith in above m p ∙ rw (h, e) refl
 
-few : (p : ℤ) {k : ℕ} → places_in p ≡ wholes.Is k → (up p ≡ 0) × ((down p ≡ k) × (k ≤ 18))
+few : (p : ℤ) {k : ℕ} → places_in p ≡ Some k → (up p ≡ 0) × ((down p ≡ k) × (k ≤ 18))
 unfolding places_in
 few p {k} e = go (leb (up p) 0) (leb (down p) 18) refl refl
   where
     go : (t u : Bool) → leb (up p) 0 ≡ t → leb (down p) 18 ≡ u → (up p ≡ 0) × ((down p ≡ k) × (k ≤ 18))
     go true true i j =
-        let q : wholes.Is (down p) ≡ wholes.Is k = sym (rw (i, j) refl) ∙ e in
+        let q : Some (down p) ≡ Some k = sym (rw (i, j) refl) ∙ e in
         let z = leb-true (up p) 0 i in
         let d : down p ≡ k = cc in
         (omega arith, (d, omega (arith, leb-true (down p) 18 j, d)))
-    go true false i j = let q : wholes.No ≡ wholes.Is k = sym (rw (i, j) refl) ∙ e in clash (cc)
-    go false u i j = let q : wholes.No ≡ wholes.Is k = sym (rw i refl) ∙ e in clash (cc)
+    go true false i j = let q : None ≡ Some k = sym (rw (i, j) refl) ∙ e in clash (cc)
+    go false u i j = let q : None ≡ Some k = sym (rw i refl) ∙ e in clash (cc)
 
-many : (p : ℤ) → places_in p ≡ wholes.No → up p ≡ 0 → 18 < down p
+many : (p : ℤ) → places_in p ≡ None → up p ≡ 0 → 18 < down p
 unfolding places_in
 many p e h = go (leb (down p) 18) refl
   where
     go : (u : Bool) → leb (down p) 18 ≡ u → 18 < down p
     go true j =
         let o : leb (up p) 0 ≡ true = rw h (le-leb 0 0 (omega arith)) in
-        let q : wholes.Is (down p) ≡ wholes.No = sym (rw (o, j) refl) ∙ e in
+        let q : Some (down p) ≡ None = sym (rw (o, j) refl) ∙ e in
         clash (cc)
     go false j = leb-false (down p) 18 j
 
@@ -99,19 +97,19 @@ module _ (n : ℕ) (p : ℤ) (f : SFits w64 p) where
       go (suc m) (pos (suc u)) i k = sym (too_much m u)
       go (suc m) (negsuc u) i k = absurd (true≢false (sym k))
 
-  module _ {r : Whole} (e : r ≡ places_in (to_z w64 (of_z w64 p))) where
+  module _ {r : Option ℕ} (e : r ≡ places_in (to_z w64 (of_z w64 p))) where
     placed : r ≡ places_in p
     placed = e ∙ ap places_in (to_z-of_z w64 p f)
 
-    pub shade_few : {k : ℕ} → r ≡ wholes.Is k → k ≤ 18
+    pub shade_few : {k : ℕ} → r ≡ Some k → k ≤ 18
     shade_few h = (few p (sym placed ∙ h)).1.1
 
-    pub shade_places : {k : ℕ} → r ≡ wholes.Is k → {t : ℕ} → t ≡ 10 ^ k → leb n t ≡ shade (pos n) p
+    pub shade_places : {k : ℕ} → r ≡ Some k → {t : ℕ} → t ≡ 10 ^ k → leb n t ≡ shade (pos n) p
     shade_places h {t} q =
         let d = few p (sym placed ∙ h) in
         ap (leb n) (q ∙ ap (λ i. 10 ^ i) (sym d.1.0)) ∙ sym (plain n p d.0)
 
-    pub shade_little : n < 2 ^ 63 → r ≡ wholes.No → lt_z (pos 0) (to_z w64 (of_z w64 p)) ≡ false → true ≡ shade (pos n) p
+    pub shade_little : n < 2 ^ 63 → r ≡ None → lt_z (pos 0) (to_z w64 (of_z w64 p)) ≡ false → true ≡ shade (pos n) p
     shade_little l h k =
         let u = not_up p (rw (to_z-of_z w64 p f) at k) in
         let t : 10 ^ 19 ≤ 10 ^ down p = powers 19 (down p) (many p (sym placed ∙ h) u) in

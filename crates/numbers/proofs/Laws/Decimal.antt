@@ -1,5 +1,5 @@
 -- Decimals behind the point: what stands there, from the digits that are found.
-use Rattle.std.specs.Prelude.{◌≡◌, List, [], ◌∷◌, ◌++◌, Bool, ℕ, ◌+◌, ◌-◌, ◌^◌, ◌≤◌, ◌<◌, ℤ, drop}
+use Rattle.std.specs.Prelude.{◌≡◌, List, [], ◌∷◌, ◌++◌, Bool, ℕ, ◌+◌, ◌-◌, ◌^◌, ◌≤◌, ◌<◌, ℤ, drop, Option, None}
 use Rattle.std.proofs.Math.Path.{refl, sym, ap}
 use Rattle.std.proofs.Common.{◌∙◌, append_assoc, append-nil, arith, rules, le-leb}
 use Rattle.std.proofs.Math.Bool.{true, false}
@@ -22,8 +22,7 @@ use Rattle.numbers.proofs.Laws.Ahead.{uncut_point, uncut_blank, first_part, othe
 use Rattle.numbers.proofs.Laws.Ahead.{empty_read, before_mark, stop_mark, wrong_front}
 use Rattle.numbers.specs.declared.Source.{Source}
 use Rattle.numbers.specs.declared.Run.{Run}
-use Rattle.numbers.specs.declared.Spelling.{Spelling}
-use Rattle.numbers.specs.declared.Spelling.TheVariants.{Fails}
+use Rattle.numbers.specs.declared.Decimal.{Decimal}
 
 -- a mantissa in two parts
 two_right : (u v : Word) → all digit u ≡ true → all digit v ≡ true → 1 ≤ length u → 1 ≤ length v → length u + length v ≤ 15
@@ -70,7 +69,7 @@ module _ (source : Source) (text : List ℕ) (before count at : ℕ) {run : Run}
   places_few = omega (arith, ran.counted, ran.few)
 
   module _ (s : Sign) where
-    pub places_none : run.count ≡ 0 → Pointed source text at before count s Fails
+    pub places_none : run.count ≡ 0 → Pointed source text at before count s None
     unfolding word pure_decimal pointed mantissa
     places_none z = record {
       reading = λ {u} k.
@@ -129,7 +128,7 @@ module _ (source : Source) (text : List ℕ) (before count at : ℕ) {run : Run}
       unfolding pointed
       goes_on u x = sym (append_assoc u (46 ∷ ran.read) x)
 
-      pub places_read : {r : Spelling} → Powered source text run.next a run.count r → Pointed source text at before count s r
+      pub places_read : {r : Option (Decimal × ℕ)} → Powered source text run.next a run.count r → Pointed source text at before count s r
       places_read p = record {
         reading = λ {u} k. onward ran.read (λ x y e. (ap pure_decimal (goes_on u x), λ h. ap (pure_value s) (goes_on u x)))
             (uncut_blank (15 - count) ran.read ran.all_digits ran.few) ran.splits

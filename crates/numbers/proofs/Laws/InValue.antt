@@ -1,5 +1,5 @@
 -- A decimal beside 0 and beside 1, in value, with its power: what a program of 64 bits may ask instead.
-use Rattle.std.specs.Prelude.{◌≡◌, Bool, ltb, T, ℤ, negsuc, neg_ℤ, nat_abs, ◌-ℤ◌, ◌*ℤ◌}
+use Rattle.std.specs.Prelude.{◌≡◌, Bool, ltb, T, ℤ, negsuc, neg_ℤ, nat_abs, ◌-ℤ◌, ◌*ℤ◌, Option, Some, None, ℕ}
 use Rattle.std.proofs.Math.Path.{refl, sym, ap}
 use Rattle.std.proofs.Common.{◌∙◌, true≢false, arith, pow-suc, mul_assoc, Fits, SFits, of_z, to_z}
 use Rattle.std.proofs.Math.Bool.{true, false, and-false}
@@ -14,8 +14,6 @@ use Rattle.lists.proofs.Laws.Booleans.{clash}
 use Rattle.numbers.specs.Numbers.{up, down, in_value, is_whole}
 use Rattle.numbers.proofs.Laws.Cuts.{powers}
 use Rattle.numbers.specs.Answers.{places_in}
-use Rattle.numbers.specs.declared.Whole.TheVariants as wholes
-use Rattle.numbers.specs.declared.Whole.{Whole}
 use Rattle.numbers.specs.declared.Decimal.{Decimal}
 
 -- a power of ten is not 0, nor is what it multiplies made 0 by it
@@ -76,51 +74,51 @@ module _ (a : ℤ) where
   abbrev value_of : ℤ → Bool
   value_of p = is_whole (1 * 10 ^ down p) (a *ℤ pos (10 ^ up p))
 
-  is_one : (p : ℤ) {k : ℕ} → places_in p ≡ wholes.Is k → value_of p ≡ is_whole (10 ^ k) a
+  is_one : (p : ℤ) {k : ℕ} → places_in p ≡ Some k → value_of p ≡ is_whole (10 ^ k) a
   unfolding places_in up down
   is_one (pos zero) {k} e = let z : 0 ≡ k = cc in rw (sym z) (times_one 1 a)
   is_one (pos (suc u)) {k} e =
-      let q : wholes.No ≡ wholes.Is k = sym (rw (lt-leb (suc u) 0 (omega arith)) refl) ∙ e in
+      let q : None ≡ Some k = sym (rw (lt-leb (suc u) 0 (omega arith)) refl) ∙ e in
       clash (cc)
   is_one (negsuc j) {k} e = go (leb (suc j) 18) refl
     where
       go : (t : Bool) → leb (suc j) 18 ≡ t → is_whole (1 * 10 ^ suc j) (a *ℤ pos (10 ^ 0)) ≡ is_whole (10 ^ k) a
       go true h =
-          let q : wholes.Is (suc j) ≡ wholes.Is k = sym (rw h refl) ∙ e in
+          let q : Some (suc j) ≡ Some k = sym (rw h refl) ∙ e in
           let z : suc j ≡ k = cc in
           times_one (1 * 10 ^ suc j) a ∙ ap (λ i. is_whole i a) (one_more (suc j) ∙ ap (λ i. 10 ^ i) z)
-      go false h = let q : wholes.No ≡ wholes.Is k = sym (rw h refl) ∙ e in clash (cc)
+      go false h = let q : None ≡ Some k = sym (rw h refl) ∙ e in clash (cc)
 
-  is_not_one : (p : ℤ) → SFits w64 a → places_in p ≡ wholes.No → value_of p ≡ false
+  is_not_one : (p : ℤ) → SFits w64 a → places_in p ≡ None → value_of p ≡ false
   unfolding places_in up down
   is_not_one (pos zero) f e = clash (cc)
   is_not_one (pos (suc u)) f e = too_much u a
   is_not_one (negsuc j) f e = go (leb (suc j) 18) refl
     where
       go : (t : Bool) → leb (suc j) 18 ≡ t → is_whole (1 * 10 ^ suc j) (a *ℤ pos (10 ^ 0)) ≡ false
-      go true h = let q : wholes.Is (suc j) ≡ wholes.No = sym (rw h refl) ∙ e in clash (cc)
+      go true h = let q : Some (suc j) ≡ None = sym (rw h refl) ∙ e in clash (cc)
       go false h =
           times_one (1 * 10 ^ suc j) a
           ∙ ap (λ i. is_whole i a) (one_more (suc j)) ∙ too_little (suc j) a f (leb-false (suc j) 18 h)
 
-module _ (d : Decimal) {r : Whole} (e : r ≡ places_in d.power) where
-  pub one_few : {k : ℕ} → r ≡ wholes.Is k → k ≤ 18
+module _ (d : Decimal) {r : Option ℕ} (e : r ≡ places_in d.power) where
+  pub one_few : {k : ℕ} → r ≡ Some k → k ≤ 18
   unfolding places_in
   one_few {k} h = go (leb (up d.power) 0) (leb (down d.power) 18) refl refl
     where
       go : (t u : Bool) → leb (up d.power) 0 ≡ t → leb (down d.power) 18 ≡ u → k ≤ 18
       go true true i j =
-          let q : wholes.Is (down d.power) ≡ wholes.Is k = sym (rw (i, j) refl) ∙ sym e ∙ h in
+          let q : Some (down d.power) ≡ Some k = sym (rw (i, j) refl) ∙ sym e ∙ h in
           let z : down d.power ≡ k = cc in
           omega (arith, leb-true (down d.power) 18 j)
-      go true false i j = let q : wholes.No ≡ wholes.Is k = sym (rw (i, j) refl) ∙ sym e ∙ h in clash (cc)
-      go false u i j = let q : wholes.No ≡ wholes.Is k = sym (rw i refl) ∙ sym e ∙ h in clash (cc)
+      go true false i j = let q : None ≡ Some k = sym (rw (i, j) refl) ∙ sym e ∙ h in clash (cc)
+      go false u i j = let q : None ≡ Some k = sym (rw i refl) ∙ sym e ∙ h in clash (cc)
 
-  pub one_value : {k : ℕ} → r ≡ wholes.Is k → {n : ℕ} → n ≡ 10 ^ k → {t : Bool} → t ≡ is_whole n d.amount → t ≡ in_value is_whole 1 d
+  pub one_value : {k : ℕ} → r ≡ Some k → {n : ℕ} → n ≡ 10 ^ k → {t : Bool} → t ≡ is_whole n d.amount → t ≡ in_value is_whole 1 d
   unfolding in_value
   one_value h i q = q ∙ ap (λ z. is_whole z d.amount) i ∙ sym (is_one d.amount d.power (sym e ∙ h))
 
-  pub not_one : r ≡ wholes.No → SFits w64 d.amount → false ≡ in_value is_whole 1 d
+  pub not_one : r ≡ None → SFits w64 d.amount → false ≡ in_value is_whole 1 d
   unfolding in_value
   not_one h f = sym (is_not_one d.amount d.power f (sym e ∙ h))
 
@@ -156,15 +154,15 @@ module _ (a : ℤ) (f : SFits w64 a) where
     amount_same n = ap (λ z. eqb (nat_abs z) n) as_it_is ∙ sym (ap (is_whole n) not_less.1)
 
 -- A POWER, by its bits
-none_there : (z : ℤ) → leb (up z) 0 ≡ false → wholes.No ≡ places_in z
+none_there : (z : ℤ) → leb (up z) 0 ≡ false → None ≡ places_in z
 unfolding places_in
 none_there z h = sym (rw h refl)
 
-none_below : (z : ℤ) → leb (down z) 18 ≡ false → wholes.No ≡ places_in z
+none_below : (z : ℤ) → leb (down z) 18 ≡ false → None ≡ places_in z
 unfolding places_in
 none_below z h = sym (rw (h, and-false (leb (up z) 0)) refl)
 
-there_is : (z : ℤ) {k : ℕ} → up z ≡ 0 → down z ≡ k → k ≤ 18 → wholes.Is k ≡ places_in z
+there_is : (z : ℤ) {k : ℕ} → up z ≡ 0 → down z ≡ k → k ≤ 18 → Some k ≡ places_in z
 unfolding places_in
 there_is z {k} h e l = sym (rw (h, e, le-leb k 18 l) refl)
 
@@ -172,9 +170,9 @@ record Small (x : ℤ) : Type 0 where
   size : ℕ
   opposite : pos 0 -ℤ x ≡ pos size
   few : size ≤ 18
-  is : wholes.Is size ≡ places_in x
+  is : Some size ≡ places_in x
 
-small_below : (m : ℕ) → suc m ≤ 18 → wholes.Is (suc m) ≡ places_in (negsuc m)
+small_below : (m : ℕ) → suc m ≤ 18 → Some (suc m) ≡ places_in (negsuc m)
 unfolding up down
 small_below m h = there_is (negsuc m) refl refl h
 
@@ -183,19 +181,19 @@ unfolding up down
 small_zero = record { size = 0; opposite = refl; few = omega arith; is = there_is (pos 0) refl refl (omega arith) }
 
 module _ (x : ℤ) (f : SFits w64 x) where
-  pub power_above : lt_z (pos 0) (to_z w64 (of_z w64 x)) ≡ true → wholes.No ≡ places_in x
+  pub power_above : lt_z (pos 0) (to_z w64 (of_z w64 x)) ≡ true → None ≡ places_in x
   unfolding up
   power_above h = go x (rw (to_z-of_z w64 x f) at h)
     where
-      go : (z : ℤ) → lt_z (pos 0) z ≡ true → wholes.No ≡ places_in z
+      go : (z : ℤ) → lt_z (pos 0) z ≡ true → None ≡ places_in z
       go (pos m) k = none_there (pos m) (lt-leb m 0 (ltb-true 0 m k))
       go (negsuc m) k = absurd (true≢false (sym k))
 
-  pub power_below : lt_z (to_z w64 (of_z w64 x)) (negsuc 17) ≡ true → wholes.No ≡ places_in x
+  pub power_below : lt_z (to_z w64 (of_z w64 x)) (negsuc 17) ≡ true → None ≡ places_in x
   unfolding down
   power_below h = go x (rw (to_z-of_z w64 x f) at h)
     where
-      go : (z : ℤ) → lt_z z (negsuc 17) ≡ true → wholes.No ≡ places_in z
+      go : (z : ℤ) → lt_z z (negsuc 17) ≡ true → None ≡ places_in z
       go (pos m) k = absurd (true≢false (sym k))
       go (negsuc m) k = let l = ltb-true 17 m k in none_below (negsuc m) (lt-leb (suc m) 18 (omega arith))
 
@@ -224,5 +222,5 @@ module _ (x : ℤ) (f : SFits w64 x) where
         × Fits w64 (nat_abs (to_z w64 (of_z w64 (pos 0 -ℤ to_z w64 (of_z w64 x)))))
     opposite_cast = let g = small.few in rw back (tt, record { fits = omega arith })
 
-    pub opposite_places : wholes.Is (nat_abs (to_z w64 (of_z w64 (pos 0 -ℤ to_z w64 (of_z w64 x))))) ≡ places_in x
-    opposite_places = ap (λ z. wholes.Is (nat_abs z)) back ∙ small.is
+    pub opposite_places : Some (nat_abs (to_z w64 (of_z w64 (pos 0 -ℤ to_z w64 (of_z w64 x))))) ≡ places_in x
+    opposite_places = ap (λ z. Some (nat_abs z)) back ∙ small.is

@@ -1,5 +1,5 @@
 -- A written power less the places, by natural numbers and signs; a power beside 0 and 1.
-use Rattle.std.specs.Prelude.{◌≡◌, refl, Bool, true, false, ℕ, zero, suc, ◌+◌, ◌-◌, ◌≤◌, ◌<◌, ℤ, pos, negsuc, neg_ℤ, nat_abs, ◌-ℤ◌}
+use Rattle.std.specs.Prelude.{◌≡◌, refl, Bool, true, false, ℕ, zero, suc, ◌+◌, ◌-◌, ◌≤◌, ◌<◌, ℤ, pos, negsuc, neg_ℤ, nat_abs, ◌-ℤ◌, Option, Some, None}
 use Rattle.std.proofs.Math.Path.{sym}
 use Rattle.std.proofs.Common.{ap, ◌∙◌, arith, le-leb, lt-ltb, le-ltb, rules}
 use Rattle.std.proofs.Math.IntN.{+ℤ_idl, +ℤ_idr}
@@ -7,8 +7,6 @@ use Rattle.std.proofs.lemmas.Bool.{lt-leb}
 use Rattle.lists.proofs.Laws.Booleans.{clash}
 use Rattle.numbers.specs.Numbers.{Sign, plus, minus, with_sign, in_power}
 use Rattle.numbers.specs.Answers.{sign_if, power_in}
-use Rattle.numbers.specs.declared.Exponent.{Exponent}
-use Rattle.numbers.specs.declared.Exponent.TheVariants as exponents
 
 size_of : (s : Sign) (n : ℕ) → nat_abs (with_sign s n) ≡ n
 unfolding with_sign
@@ -49,17 +47,17 @@ less_above n (suc p) h = rw (le-ltb n (suc p) h) refl
 
 -- what a program finds: the number without its sign, at most 45 or not
 module _ (t : Bool) (n : ℕ) where
-  pub in_limit : n ≤ 45 → {z : ℤ} → z ≡ with_sign (sign_if t) n → exponents.Is z ≡ power_in (with_sign (sign_if t) n)
+  pub in_limit : n ≤ 45 → {z : ℤ} → z ≡ with_sign (sign_if t) n → Some z ≡ power_in (with_sign (sign_if t) n)
   unfolding power_in
   in_limit h e = sym (rw (power_within (sign_if t) n h, e) refl)
 
-  pub past_limit : 45 < n → exponents.No ≡ power_in (with_sign (sign_if t) n)
+  pub past_limit : 45 < n → None ≡ power_in (with_sign (sign_if t) n)
   unfolding power_in
   past_limit h = sym (rw (power_outside (sign_if t) n h) refl)
 
 pub ruleset limiting = (in_limit, past_limit, rules)
 
-module _ (n p : ℕ) {t : Bool} {r : Exponent} where
+module _ (n p : ℕ) {t : Bool} {r : Option ℤ} where
   pub less_of_minus : t ≡ true → r ≡ power_in (with_sign (sign_if true) (n + p)) → r ≡ power_in (with_sign (sign_if t) n -ℤ pos p)
   unfolding sign_if
   less_of_minus e h = h ∙ sym (rw e (ap power_in (less_minus n p)))
@@ -75,18 +73,18 @@ module _ (n p : ℕ) {t : Bool} {r : Exponent} where
 pub ruleset lessening = (less_of_minus, less_of_below, less_of_above, rules)
 
 -- an answer within the limit, told from none
-pub power_is : (z : ℤ) {p : ℤ} {r : Exponent} → r ≡ power_in z → r ≡ exponents.Is p → (in_power 45 z ≡ true) × (p ≡ z)
+pub power_is : (z : ℤ) {p : ℤ} {r : Option ℤ} → r ≡ power_in z → r ≡ Some p → (in_power 45 z ≡ true) × (p ≡ z)
 unfolding power_in
 power_is z {p} {r} e h = go (in_power 45 z) refl
   where
     go : (t : Bool) → in_power 45 z ≡ t → (in_power 45 z ≡ true) × (p ≡ z)
-    go true q = let k : exponents.Is z ≡ exponents.Is p = sym (rw q refl) ∙ sym e ∙ h in (q, cc)
-    go false q = let k : exponents.No ≡ exponents.Is p = sym (rw q refl) ∙ sym e ∙ h in clash (cc)
+    go true q = let k : Some z ≡ Some p = sym (rw q refl) ∙ sym e ∙ h in (q, cc)
+    go false q = let k : None ≡ Some p = sym (rw q refl) ∙ sym e ∙ h in clash (cc)
 
-pub power_no : (z : ℤ) {r : Exponent} → r ≡ power_in z → r ≡ exponents.No → in_power 45 z ≡ false
+pub power_no : (z : ℤ) {r : Option ℤ} → r ≡ power_in z → r ≡ None → in_power 45 z ≡ false
 unfolding power_in
 power_no z {r} e h = go (in_power 45 z) refl
   where
     go : (t : Bool) → in_power 45 z ≡ t → in_power 45 z ≡ false
-    go true q = let k : exponents.Is z ≡ exponents.No = sym (rw q refl) ∙ sym e ∙ h in clash (cc)
+    go true q = let k : Some z ≡ None = sym (rw q refl) ∙ sym e ∙ h in clash (cc)
     go false q = q

@@ -1,5 +1,5 @@
 -- A list of whole numbers in a text, number after number.
-use Rattle.std.specs.Prelude.{◌≡◌, Bool, false, ℕ, zero, suc, ◌+◌, ◌-◌, ◌≤◌, ◌<◌, eqb, leb, drop, get_or}
+use Rattle.std.specs.Prelude.{◌≡◌, Bool, false, ℕ, zero, suc, ◌+◌, ◌-◌, ◌≤◌, ◌<◌, eqb, leb, drop, get_or, Option, Some, None}
 use Rattle.std.proofs.Math.Path.{refl, ap}
 use Rattle.std.proofs.Common.{sym, ◌∙◌, eqb-true, leb-true, leb-false}
 use mathlib.Core.List.{List, [], ◌∷◌, ◌++◌, append_assoc, append-nil}
@@ -13,13 +13,9 @@ use Rattle.grammar.specs.Look.{Word}
 use Rattle.grammar.specs.Parser.{feed_at}
 use Rattle.steps.specs.Step.{stepped}
 use Rattle.steps.proofs.Laws.Feeds.{fed, feed_got, feed_none, feed_there, feed_not}
-use Rattle.steps.specs.declared.Step.TheVariants.{To}
 use Rattle.lists.specs.Lists.{all}
 use Rattle.nodes.proofs.Laws.Letters.{plain_letter, return_letter}
 use Rattle.nodes.proofs.Laws.AheadElements.{blank_special}
-use Rattle.nodes.specs.declared.Char.{Char}
-use Rattle.nodes.specs.declared.Char.TheVariants.{Byte}
-use Rattle.nodes.specs.declared.Char.TheVariants as chars
 use Rattle.numbers.specs.Numbers.{digit, digits, number, value, words}
 use Rattle.numbers.proofs.Laws.Cuts.{uncut_snoc, words_none, words_blank, words_end, words_cut}
 use Rattle.numbers.specs.Cuts.{Uncut, none, more}
@@ -33,12 +29,12 @@ use Rattle.numbers.specs.declared.Next.TheVariants.{Number, End, Bad}
 
 -- Plain bytes
 pub plain_char : (text : List ℕ) (i : ℕ) → i < length text → special (get_or text i 0) ≡ false → eqb (get_or text i 0) 13 ≡ false
-    → char_at Contents text i ≡ Byte (get_or text i 0) (i + 1)
+    → char_at Contents text i ≡ Some ((get_or text i 0), (i + 1))
 unfolding char_at
 plain_char text i h e f = letter_byte text i (plain_letter text i h e f)
 
 return_char : (text : List ℕ) (i : ℕ) → i < length text → get_or text i 0 ≡ 13
-    → char_at Contents text i ≡ Byte 10 (length text - length (fed (drop (i + 1) text)))
+    → char_at Contents text i ≡ Some (10, (length text - length (fed (drop (i + 1) text))))
 unfolding char_at
 return_char text i h e = letter_byte text i (return_letter text i h e)
 
@@ -46,7 +42,7 @@ return_char text i h e = letter_byte text i (return_letter text i h e)
 pub record BlankAt (text : List ℕ) (i : ℕ) : Type 0 where
   pub byte : ℕ
   pub next : ℕ
-  pub reads : char_at Contents text i ≡ Byte byte next
+  pub reads : char_at Contents text i ≡ Some (byte, next)
   pub is_blank : blank byte ≡ true
 
 pub plain_blank : (text : List ℕ) (i : ℕ) → i < length text → blank (get_or text i 0) ≡ true → BlankAt text i
@@ -69,7 +65,7 @@ unfolding next_in_words
 next_same f g [] h = refl
 next_same f g (w ∷ l) h = rw (h (length w)) refl
 
-pub next_blank : (text : List ℕ) (i : ℕ) {b j : ℕ} → char_at Contents text i ≡ Byte b j → blank b ≡ true
+pub next_blank : (text : List ℕ) (i : ℕ) {b j : ℕ} → char_at Contents text i ≡ Some (b, j) → blank b ≡ true
     → next_number text i ≡ next_number text j
 unfolding leading
 next_blank text i {b} {j} e h =
@@ -88,11 +84,11 @@ module _ (text : List ℕ) (i : ℕ) (h : i < length text) where
   plain_passed : blank (get_or text i 0) ≡ true → eqb (get_or text i 0) 13 ≡ false → next_number text i ≡ next_number text (i + 1)
   plain_passed e f = next_blank text i (plain_char text i h (blank_special (get_or text i 0) e) f) e
 
-feed_passed : (text : List ℕ) (i j : ℕ) → To j ≡ stepped (length text) (feed_at (ascii "\n") (drop i text))
+feed_passed : (text : List ℕ) (i j : ℕ) → Some j ≡ stepped (length text) (feed_at (ascii "\n") (drop i text))
     → next_number text i ≡ next_number text j → next_number text (length text - length (fed (drop i text))) ≡ next_number text i
 unfolding stepped
 feed_passed text i j e k =
-    let z : To j ≡ To (length text - length (fed (drop i text))) = e ∙ rw (feed_got (ascii "\n") (drop i text)) in
+    let z : Some j ≡ Some (length text - length (fed (drop i text))) = e ∙ rw (feed_got (ascii "\n") (drop i text)) in
     let here : j ≡ length text - length (fed (drop i text)) = cc in
     rw (← here) (sym k)
 
@@ -132,12 +128,12 @@ next_over (suc n) text i e = step_over (char_at Contents text i) refl λ j k. ne
     counted b w true h k = let z : suc (leading blank w) ≡ suc n = sym (rw h refl) ∙ k in (h, omega arith)
     counted b w false h k = let z : ◌≡◌ {A = ℕ} 0 (suc n) = sym (rw h refl) ∙ k in absurd (omega arith)
 
-    step_over : (c : Char) → char_at Contents text i ≡ c
+    step_over : (c : Option (ℕ × ℕ)) → char_at Contents text i ≡ c
         → ((j : ℕ) → leading blank (stream Contents text j) ≡ n → next_number text j ≡ next_number text (behind Contents text n j))
         → next_number text i ≡ next_number text (behind Contents text (suc n) i)
-    step_over chars.End q ih = let z : ◌≡◌ {A = ℕ} 0 (suc n) = sym (ap (leading blank) (char_end Contents text i refl q)) ∙ e in
+    step_over None q ih = let z : ◌≡◌ {A = ℕ} 0 (suc n) = sym (ap (leading blank) (char_end Contents text i refl q)) ∙ e in
         absurd (omega arith)
-    step_over (Byte b j) q ih =
+    step_over (Some (b, j)) q ih =
         let s = char_byte Contents text i refl q in
         let f = counted b (stream Contents text j) (blank b) refl (sym (ap (leading blank) s.splits) ∙ e) in
         next_blank text i q f.0 ∙ ih j f.1 ∙ ap (next_number text) (sym (behind_one Contents text i q n))

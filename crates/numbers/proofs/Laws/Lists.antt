@@ -1,5 +1,5 @@
 -- Dimension lists: their entries, counted one by one.
-use Rattle.std.specs.Prelude.{◌≡◌, List, [], ◌∷◌, Bool, ℕ, ◌+◌, ◌≤◌, ◌<◌, leb, length, get_or}
+use Rattle.std.specs.Prelude.{◌≡◌, List, [], ◌∷◌, Bool, ℕ, ◌+◌, ◌≤◌, ◌<◌, leb, length, get_or, Option, Some, None}
 use Rattle.std.proofs.Math.Path.{refl, sym}
 use Rattle.std.proofs.Common.{ap, ◌∙◌, arith, rules, le-leb}
 use Rattle.std.proofs.Math.Bool.{true, false, cond, and-false}
@@ -19,8 +19,6 @@ use Rattle.numbers.specs.declared.Source.{Source}
 use Rattle.numbers.specs.declared.Source.TheVariants.{Value}
 use Rattle.numbers.specs.declared.Part.{Part}
 use Rattle.numbers.specs.declared.Part.TheVariants.{Comma, Last, No}
-use Rattle.numbers.specs.declared.Whole.{Whole}
-use Rattle.numbers.specs.declared.Whole.TheVariants as wholes
 
 -- one entry
 pub within_low : (lo hi : ℕ) {d : ℕ} → d < lo → ◌≡◌ {A = ℕ} 0 (cond (between lo hi d) 1 0)
@@ -32,26 +30,26 @@ within_high lo hi {d} h = rw (lt-leb d hi h, and-false (leb lo d)) refl
 pub within_yes : (lo hi : ℕ) {d : ℕ} → lo ≤ d → d ≤ hi → ◌≡◌ {A = ℕ} 1 (cond (between lo hi d) 1 0)
 within_yes lo hi {d} h k = rw (le-leb lo d h, le-leb d hi k) refl
 
-pub ruleset within-it = (within_low, within_high, within_yes, rules)
+pub ruleset within_it = (within_low, within_high, within_yes, rules)
 
 at_most_one : (t : Bool) {r : ℕ} → r ≡ cond t 1 0 → r ≤ 1
 at_most_one true e = omega arith
 at_most_one false e = omega arith
 
 -- a sum where there is one
-pub add_to : ℕ → Whole → Whole
-add_to n wholes.No = wholes.No
-add_to n (wholes.Is m) = wholes.Is (n + m)
+pub add_to : ℕ → Option ℕ → Option ℕ
+add_to n None = None
+add_to n (Some m) = Some (n + m)
 
-add_again : (n m : ℕ) (x : Whole) → add_to n (add_to m x) ≡ add_to (n + m) x
+add_again : (n m : ℕ) (x : Option ℕ) → add_to n (add_to m x) ≡ add_to (n + m) x
 unfolding add_to
-add_again n m wholes.No = refl
-add_again n m (wholes.Is k) = ap wholes.Is (omega arith)
+add_again n m None = refl
+add_again n m (Some k) = ap Some (omega arith)
 
-add_none : (x : Whole) → add_to 0 x ≡ x
+add_none : (x : Option ℕ) → add_to 0 x ≡ x
 unfolding add_to
-add_none wholes.No = refl
-add_none (wholes.Is k) = ap wholes.Is (omega arith)
+add_none None = refl
+add_none (Some k) = ap Some (omega arith)
 
 module _ (lo hi : ℕ) where
   between_more : (w v x : Word) → parts comma w ≡ x ∷ parts comma v → digits 1 1 x ≡ true
@@ -59,18 +57,18 @@ module _ (lo hi : ℕ) where
   unfolding between_in dimension_list comma_values all each count add_to
   between_more w v x e h = rw (e, h) (go (all (digits 1 1) (parts comma v)))
     where
-      go : (t : Bool) → cond t (wholes.Is (cond (between lo hi (value x)) 1 0 + count (between lo hi) (each value (parts comma v))))
-          wholes.No ≡ add_to (cond (between lo hi (value x)) 1 0)
-          (cond t (wholes.Is (count (between lo hi) (each value (parts comma v)))) wholes.No)
+      go : (t : Bool) → cond t (Some (cond (between lo hi (value x)) 1 0 + count (between lo hi) (each value (parts comma v))))
+          None ≡ add_to (cond (between lo hi (value x)) 1 0)
+          (cond t (Some (count (between lo hi) (each value (parts comma v)))) None)
       go true = refl
       go false = refl
 
   between_last : (w x : Word) → parts comma w ≡ x ∷ [] → digits 1 1 x ≡ true
-      → between_in lo hi w ≡ wholes.Is (cond (between lo hi (value x)) 1 0)
+      → between_in lo hi w ≡ Some (cond (between lo hi (value x)) 1 0)
   unfolding between_in dimension_list comma_values all each count
-  between_last w x e h = rw (e, h) (ap wholes.Is (omega arith))
+  between_last w x e h = rw (e, h) (ap Some (omega arith))
 
-  between_wrong : (w x : Word) (l : List Word) → parts comma w ≡ x ∷ l → digits 1 1 x ≡ false → between_in lo hi w ≡ wholes.No
+  between_wrong : (w x : Word) (l : List Word) → parts comma w ≡ x ∷ l → digits 1 1 x ≡ false → between_in lo hi w ≡ None
   unfolding between_in dimension_list all
   between_wrong w x l e h = rw (e, h) refl
 
@@ -79,7 +77,7 @@ pub record Listing (text : List ℕ) (at lo hi : ℕ) (source : Source) (n i : �
   pub same : between_in lo hi (value_there text at) ≡ add_to n (between_in lo hi (stream source text i))
   pub room : n + left_in source text i < length text
 
-pub list_past : (text : List ℕ) (at lo hi : ℕ) → length text ≤ at → wholes.No ≡ between_in lo hi (value_there text at)
+pub list_past : (text : List ℕ) (at lo hi : ℕ) → length text ≤ at → None ≡ between_in lo hi (value_there text at)
 unfolding between_in dimension_list parts all digits
 list_past text at lo hi h = sym (rw (past text at h) refl)
 
@@ -93,7 +91,7 @@ list_start_lem text at lo hi h = record {
 
 module _ {text : List ℕ} {at lo hi : ℕ} {source : Source} {n i : ℕ} (go : Listing text at lo hi source n i) {r : Part}
     (p : Parted source text 1 0 9 i r) where
-  pub list_no : r ≡ No → wholes.No ≡ between_in lo hi (value_there text at)
+  pub list_no : r ≡ No → None ≡ between_in lo hi (value_there text at)
   unfolding add_to
   list_no e =
       let h = says_no p e in
@@ -104,7 +102,7 @@ module _ {text : List ℕ} {at lo hi : ℕ} {source : Source} {n i : ℕ} (go : 
     pub list_room : n + k ≤ length text
     list_room = omega (arith, at_most_one (between lo hi d) w, go.room)
 
-    pub list_last : r ≡ Last d → wholes.Is (n + k) ≡ between_in lo hi (value_there text at)
+    pub list_last : r ≡ Last d → Some (n + k) ≡ between_in lo hi (value_there text at)
     unfolding add_to
     list_last e =
         let h = says_last p e in
@@ -143,14 +141,14 @@ all_counted (x ∷ l) h =
     single : (x : Word) → numeral 1 0 9 x ≡ true → between 0 9 (value x) ≡ true
     single x e = and_right (digits 1 1 x) _ e
 
-pub all_listed : (w : Word) {r : Whole} → r ≡ between_in 0 9 w → r ≡ listed_in w
+pub all_listed : (w : Word) {r : Option ℕ} → r ≡ between_in 0 9 w → r ≡ listed_in w
 unfolding between_in listed_in dimension_list comma_values
 all_listed w e = e ∙ go (all (digits 1 1) (parts comma w)) refl
   where
     go : (t : Bool) → all (digits 1 1) (parts comma w) ≡ t
-        → cond t (wholes.Is (count (between 0 9) (each value (parts comma w)))) wholes.No
-        ≡ cond t (wholes.Is (length (each value (parts comma w)))) wholes.No
+        → cond t (Some (count (between 0 9) (each value (parts comma w)))) None
+        ≡ cond t (Some (length (each value (parts comma w)))) None
     go false h = refl
-    go true h = ap wholes.Is (all_counted (parts comma w) h)
+    go true h = ap Some (all_counted (parts comma w) h)
 
-pub ruleset counting-all = (all_listed, rules)
+pub ruleset counting_all = (all_listed, rules)

@@ -1,5 +1,5 @@
 -- The next number of a list: plain bytes first, whatever else then.
-use Rattle.std.specs.Prelude.{◌≡◌, Bool, not, length, get_or}
+use Rattle.std.specs.Prelude.{◌≡◌, Bool, not, length, get_or, Option, Some, None, ℕ}
 use Rattle.std.proofs.Math.Path.{refl, sym}
 use Rattle.std.proofs.Common.{ap, ◌∙◌, rules}
 use mathlib.Core.List.{List, [], ◌∷◌, ◌++◌}
@@ -13,9 +13,6 @@ use Rattle.grammar.specs.Bytes.{blank, special}
 use Rattle.grammar.proofs.Laws.Facts.{blank_in}
 use Rattle.lists.specs.Lists.{all}
 use Rattle.grammar.specs.Look.{Word}
-use Rattle.nodes.specs.declared.Char.{Char}
-use Rattle.nodes.specs.declared.Char.TheVariants.{Byte}
-use Rattle.nodes.specs.declared.Char.TheVariants as chars
 use Rattle.numbers.specs.Numbers.{digit}
 use Rattle.numbers.proofs.Laws.Cuts.{grown, powers, digit_no_blank}
 use Rattle.numbers.specs.Stream.{letter_at, char_at, stream, behind, leading, word_ends, digits_by, digits_at, Few, Plain, Stops}
@@ -252,7 +249,7 @@ module _ {text : List ℕ} {at value next : ℕ} (b : DigitsBegun text at value 
         go [] k h = clash (cc)
         go (c ∷ x) k h = next_bad text at er k h
 
-    module _ (z : run.count ≡ 0) {c : Char} (ec : c ≡ letter_at text run.next) where
+    module _ (z : run.count ≡ 0) {c : Option (ℕ × ℕ)} (ec : c ≡ letter_at text run.next) where
       nothing_read : stream Contents text at ≡ stream Contents text run.next
       nothing_read = go ran.read ran.counted ran.splits
         where
@@ -265,15 +262,15 @@ module _ {text : List ℕ} {at value next : ℕ} (b : DigitsBegun text at value 
       unfolding char_at
       from = ec
 
-      pub slow_end : c ≡ chars.End → End ≡ next_number text at
+      pub slow_end : c ≡ None → End ≡ next_number text at
       slow_end e = sym (next_end text at (nothing_read ∙ char_end Contents text run.next from e))
 
-      pub slow_other : {d j : ℕ} → c ≡ Byte d j → Bad ≡ next_number text at
+      pub slow_other : {d j : ℕ} → c ≡ Some (d, j) → Bad ≡ next_number text at
       slow_other {d} {j} e =
           let s = (char_byte Contents text run.next from e).splits in
           sym (next_bad text at er s (no_blank d (stream Contents text j) (nothing_read ∙ s)))
 
-pub ruleset taking-time = (from_ahead, from_few, slow_number, slow_bad, slow_end, slow_other, rules)
+pub ruleset taking_time = (from_ahead, from_few, slow_number, slow_bad, slow_end, slow_other, rules)
 
 -- behind all blanks
 module _ (text : List ℕ) (at : ℕ) {i : ℕ} (ei : i ≡ behind Contents text (leading blank (stream Contents text at)) at) where
@@ -310,7 +307,7 @@ digits_more source text (suc m) n a k i =
     shift : ℕ → (a + k) + 1 ≡ a + (k + 1)
     shift b = omega arith
 
-    go : (c : Char) → ((b j : ℕ) → digits_at source text m (n * 10 + (b - 48)) (a + k + 1) j
+    go : (c : Option (ℕ × ℕ)) → ((b j : ℕ) → digits_at source text m (n * 10 + (b - 48)) (a + k + 1) j
         ≡ record {
           value = (digits_at source text m (n * 10 + (b - 48)) (k + 1) j).value;
           count = a + (digits_at source text m (n * 10 + (b - 48)) (k + 1) j).count;
@@ -327,8 +324,8 @@ digits_more source text (suc m) n a k i =
           next =
               (digits_by c (record { value = n; count = k; next = i }) (λ b j. digits_at source text m (n * 10 + (b - 48)) (k + 1) j)).next;
         }
-    go chars.End ih = refl
-    go (Byte b j) ih = by (digit b)
+    go None ih = refl
+    go (Some (b, j)) ih = by (digit b)
       where
         by : (t : Bool) → cond t (digits_at source text m (n * 10 + (b - 48)) (a + k + 1) j) (record { value = n; count = a + k; next = i })
             ≡ record {
@@ -361,6 +358,6 @@ module _ {run : Run} (f : Few run) where
         rw e (sym (ap (λ k. digits_at Contents text (7 - run.count) run.value k run.next) (sym z)
         ∙ digits_more Contents text (7 - run.count) run.value run.count 0 run.next))
 
-pub ruleset Going-on = (more_first, more_room, more_count, more_digits, rules)
+pub ruleset Going_on = (more_first, more_room, more_count, more_digits, rules)
 
 pub ruleset hurrying = (quick_last, quick_fits, quick_stops, quick_inside, quick, quick_begun, slow, rules)

@@ -1,6 +1,6 @@
 -- THE LIST POSITION NEVER RESTARTS: the n-th number that `next_number` hands out, from a place on, is the n-th of the list that is
 -- written from there on.
-use Rattle.std.specs.Prelude.{◌≡◌, refl, List, Bool, true, false, ℕ, zero, suc, ◌≤◌, ◌<◌, length, drop, get_or}
+use Rattle.std.specs.Prelude.{◌≡◌, refl, List, Bool, true, false, ℕ, zero, suc, ◌≤◌, ◌<◌, length, drop, get_or, Some}
 use Rattle.std.proofs.Common.{sym, ap, ◌∙◌, arith}
 use Rattle.lists.proofs.Laws.Booleans.{clash}
 use Rattle.grammar.specs.Look.{Word, text_of}
@@ -9,7 +9,6 @@ use Rattle.nodes.specs.Places.{Stands, the}
 use Rattle.nodes.specs.Texts.{says_at}
 use Rattle.nodes.specs.Texts.{inside}
 use Rattle.nodes.proofs.Laws.TextSteps.{text_law, text_some}
-use Rattle.nodes.specs.declared.Found.TheVariants.{At}
 use Rattle.numbers.specs.Numbers.{digits, words, values}
 use Rattle.numbers.specs.Answers.{next_number}
 use Rattle.numbers.proofs.Laws.Walk.{number_law, end_law, bad_law}
@@ -120,10 +119,10 @@ all_handed n text i f l = go (answers n text i)
     go (the_end e g h) = absurd (omega arith)
     go (out_of_form e h) = clash (cc)
 
-text_is : {text : List ℕ} {at i : ℕ} → Stands text at → inside text at ≡ At i → says_at text i ≡ text_of (the text at)
+text_is : {text : List ℕ} {at i : ℕ} → Stands text at → inside text at ≡ Some i → says_at text i ≡ text_of (the text at)
 text_is {text} {at} {i} st e = sym (text_some text at e) ∙ text_law st
 
 -- THE SAME, OF THE DOCUMENT: the n-th number handed out from where the contents begin is the n-th of the element's text.
-pub of_the_document : {text : List ℕ} {at i : ℕ} → Stands text at → inside text at ≡ At i → (n : ℕ) {v j : ℕ}
+pub of_the_document : {text : List ℕ} {at i : ℕ} → Stands text at → inside text at ≡ Some i → (n : ℕ) {v j : ℕ}
     → handed n text i ≡ Number v j → get_or (values (text_of (the text at))) n 0 ≡ v
 of_the_document {text} {at} {i} st e n h = ap (λ w. get_or (values w) n 0) (sym (text_is st e)) ∙ (nth n text i h).valued

@@ -1,13 +1,11 @@
 -- A number among commas: what its reader finds, and what that says of the whole value.
-use Rattle.std.specs.Prelude.{◌≡◌, List, [], ◌∷◌, ◌++◌, Bool, true, false, ℕ, ◌-◌, ◌^◌, ◌≤◌, ◌<◌, leb}
+use Rattle.std.specs.Prelude.{◌≡◌, List, [], ◌∷◌, ◌++◌, Bool, true, false, ℕ, ◌-◌, ◌^◌, ◌≤◌, ◌<◌, leb, Option, Some, None}
 use Rattle.std.proofs.Math.Path.{refl}
 use Rattle.std.proofs.Common.{ap, ◌∙◌, append-nil, arith, rules}
 use Rattle.std.proofs.Math.Bool.{and-false}
 use borrow.Author.Tests.{eq-eqb, ne_eqb, le-leb, lt-leb}
 use Rattle.std.proofs.Math.ListN.{length}
 use Rattle.grammar.specs.Look.{Word}
-use Rattle.nodes.specs.declared.Char.{Char}
-use Rattle.nodes.specs.declared.Char.TheVariants.{Byte, End}
 use Rattle.numbers.specs.Numbers.{digits, value, parts, on_first, comma}
 use Rattle.numbers.proofs.Laws.Cuts.{digits_uncut, digit_no_comma, parts_some, parts_end, parts_cut, parts_join}
 use Rattle.numbers.specs.Cuts.{Uncut}
@@ -95,11 +93,11 @@ module _ (source : Source) (text : List ℕ) (most lo hi at : ℕ) {run : Run} (
           le-leb (value ran.read) hi h,
         ) refl
 
-    module _ {c : Char} (ec : c ≡ char_at source text run.next) where
-      pub part_finds_last : c ≡ End → Parted source text most lo hi at (Last run.value)
+    module _ {c : Option (ℕ × ℕ)} (ec : c ≡ char_at source text run.next) where
+      pub part_finds_last : c ≡ None → Parted source text most lo hi at (Last run.value)
       part_finds_last q = rw is_value_lem (part_last ran.read right (at_end (char_end source text run.next ec q)))
 
-      module _ {b j : ℕ} (q : c ≡ Byte b j) where
+      module _ {b j : ℕ} (q : c ≡ Some (b, j)) where
         pub part_finds_other : (b ≡ 44 → ⊥) → Parted source text most lo hi at No
         unfolding comma
         part_finds_other h = at_other (char_byte source text run.next ec q).splits (ne_eqb b 44 h)

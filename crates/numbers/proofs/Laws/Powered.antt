@@ -1,6 +1,6 @@
 -- What stands behind a mantissa: the end of the word, or a mark and a power.
 use Rattle.std.proofs.Math.Path.{◌≡◌, refl, sym, ap}
-use Rattle.std.proofs.Common.{◌∙◌, arith, rules}
+use Rattle.std.proofs.Common.{◌∙◌, arith, rules, Option, Some, None, ℕ}
 use mathlib.Core.List.{List, [], ◌∷◌, ◌++◌, append-nil}
 use Rattle.std.specs.Prelude.{Bool, ◌||◌, ℕ, ◌≤◌, eqb, ℤ, ◌-ℤ◌}
 use Rattle.std.proofs.Math.Bool.{true, false}
@@ -9,8 +9,6 @@ use Rattle.lists.proofs.Laws.Booleans.{clash}
 use Rattle.grammar.specs.Bytes.{blank}
 use Rattle.grammar.specs.Look.{Word}
 use Rattle.lists.specs.Lists.{all}
-use Rattle.nodes.specs.declared.Char.{Char}
-use Rattle.nodes.specs.declared.Char.TheVariants.{Byte, End}
 use Rattle.numbers.specs.Numbers.{digit, digits, value, parts, on_first, power_mark, Sign, minus, unsigned, with_sign, mantissa}
 use Rattle.numbers.specs.Numbers.{places, power_parts, written_power, power, scaled, scaled_value}
 use Rattle.numbers.proofs.Laws.Cuts.{parts_some, parts_end, parts_cut, parts_join, digit_no_mark}
@@ -27,8 +25,6 @@ use Rattle.numbers.specs.Answers.{sign_if}
 use Rattle.numbers.specs.declared.Source.{Source}
 use Rattle.numbers.specs.declared.Lead.{Lead}
 use Rattle.numbers.specs.declared.Decimal.{Decimal}
-use Rattle.numbers.specs.declared.Spelling.{Spelling}
-use Rattle.numbers.specs.declared.Spelling.TheVariants.{Reads, Fails}
 
 -- a mantissa alone, and one before a part that is a power
 module _ (m : Word) (right : mantissa m ≡ true) where
@@ -63,7 +59,7 @@ same_decimal e f = rw (e, f) refl
 module _ (source : Source) (text : List ℕ) (at : ℕ) (a : ℤ) (n : ℕ) where
   -- the word ends here
   ended : n ≤ 15 → {p : ℤ} → p ≡ with_sign (sign_if true) n → word_ends (stream source text at) ≡ true
-      → Powered source text at a n (Reads (record { amount = a; power = p }) at)
+      → Powered source text at a n (Some ((record { amount = a; power = p }), at))
   unfolding pure_decimal pure_value scaled_value power written_power sign_if
   ended few {p} e w = record {
     reading = λ {s} {m} k.
@@ -74,23 +70,23 @@ module _ (source : Source) (text : List ℕ) (at : ℕ) (a : ℤ) (n : ℕ) wher
         reads [] (ap scaled q ∙ alone m k.right n k.placed (omega arith)) v none refl w;
   }
 
-  module _ {c : Char} (ec : c ≡ char_at source text at) where
-    pub powered_end : c ≡ End → n ≤ 15 → {p : ℤ} → p ≡ with_sign (sign_if true) n
-        → Powered source text at a n (Reads (record { amount = a; power = p }) at)
+  module _ {c : Option (ℕ × ℕ)} (ec : c ≡ char_at source text at) where
+    pub powered_end : c ≡ None → n ≤ 15 → {p : ℤ} → p ≡ with_sign (sign_if true) n
+        → Powered source text at a n (Some ((record { amount = a; power = p }), at))
     unfolding word_ends
     powered_end e few h = ended few h (ap word_ends (char_end source text at ec e))
 
-    module _ {b j : ℕ} (e : c ≡ Byte b j) where
+    module _ {b j : ℕ} (e : c ≡ Some (b, j)) where
       next_is : stream source text at ≡ b ∷ stream source text j
       next_is = (char_byte source text at ec e).splits
 
       pub powered_blank : {t : Bool} → t ≡ blank b → t ≡ true → n ≤ 15 → {p : ℤ} → p ≡ with_sign (sign_if true) n
-          → Powered source text at a n (Reads (record { amount = a; power = p }) at)
+          → Powered source text at a n (Some ((record { amount = a; power = p }), at))
       unfolding word_ends
       powered_blank q k few h = ended few h (ap word_ends next_is ∙ sym q ∙ k)
 
       module _ {t : Bool} (q : t ≡ blank b) (k : t ≡ false) {u : Bool} (eu : u ≡ power_mark b) where
-        pub powered_other : u ≡ false → Powered source text at a n Fails
+        pub powered_other : u ≡ false → Powered source text at a n None
         unfolding pure_decimal parts on_first
         powered_other h = record {
           reading = λ {s} {m} f.
@@ -137,7 +133,7 @@ module _ (source : Source) (text : List ℕ) (at : ℕ) (a : ℤ) (n : ℕ) wher
                     λ r. clash (cc),
                   )
 
-          pub powered_mark : {r : Spelling} → Raised source text lead.next (sign_if lead.negative) a n r → Powered source text at a n r
+          pub powered_mark : {r : Option (Decimal × ℕ)} → Raised source text lead.next (sign_if lead.negative) a n r → Powered source text at a n r
           powered_mark p = record {
             reading = λ f. onward (b ∷ l.front) (agree f) (more (sym q ∙ k) l.no_blank) (next_is ∙ ap (λ z. b ∷ z) l.splits)
                 p.reading;

@@ -154,4 +154,4 @@ module _ {text : List ℕ} {at q : ℕ} (h : Quick text at q) (n : q ≡ 0 → �
   pub telling_fits : at + q % 16 < 2 ^ 64
   telling_fits = h.fits n
 
-pub ruleset telling-on = (telling, telling_fits, rules)
+pub ruleset telling_on = (telling, telling_fits, rules)

@@ -1,6 +1,6 @@
 -- The digits of a power: what their reader finds.
 use Rattle.std.proofs.Math.Path.{◌≡◌, refl, ap}
-use Rattle.std.proofs.Common.{sym, ◌∙◌, arith, rules}
+use Rattle.std.proofs.Common.{sym, ◌∙◌, arith, rules, Option, Some, None, ℤ}
 use Rattle.std.specs.Prelude.{List, Bool, true, not, ℕ, ◌+◌, ◌-◌, ◌^◌, ◌≤◌, ◌<◌, ℤ, ◌-ℤ◌, length}
 use Rattle.std.proofs.Math.Bool.{false}
 use Rattle.std.proofs.Math.IntN.{pos}
@@ -17,10 +17,7 @@ use Rattle.numbers.proofs.Laws.Integers.{power_is, power_no}
 use Rattle.numbers.specs.Answers.{power_in}
 use Rattle.numbers.specs.declared.Source.{Source}
 use Rattle.numbers.specs.declared.Run.{Run}
-use Rattle.numbers.specs.declared.Exponent.{Exponent}
-use Rattle.numbers.specs.declared.Exponent.TheVariants as exponents
 use Rattle.numbers.specs.declared.Decimal.{Decimal}
-use Rattle.numbers.specs.declared.Spelling.TheVariants.{Reads, Fails}
 
 pub two : (2 ≤ 15) × (0 < 10 ^ (15 - 2))
 two = omega arith
@@ -35,18 +32,18 @@ module _ (source : Source) (text : List ℕ) (at : ℕ) {run : Run} (er : run �
       omega (arith, number_below 0 0 ran.read ran.all_digits (omega arith), ran.valued)
 
   module _ (s : Sign) (a : ℤ) (n : ℕ) where
-    wrong : digits 1 2 (word ran) ≡ false → Raised source text at s a n Fails
+    wrong : digits 1 2 (word ran) ≡ false → Raised source text at s a n None
     unfolding power_digits
     wrong h = record { reading = fails (word ran) (cut ran).rest (rw h refl) (word_uncut ran) (word_splits ran) (cut ran).ends }
 
-    pub raised_none : run.count ≡ 0 → Raised source text at s a n Fails
+    pub raised_none : run.count ≡ 0 → Raised source text at s a n None
     raised_none z = wrong (word_empty ran z)
 
     module _ {t : Bool} (e : t ≡ word_ends (stream source text run.next)) where
-      pub raised_on : not t ≡ true → Raised source text at s a n Fails
+      pub raised_on : not t ≡ true → Raised source text at s a n None
       raised_on h = wrong (word_on ran e h)
 
-      module _ (some : run.count ≡ 0 → ⊥) (h : not t ≡ false) {p : Exponent} (ep : p ≡ power_in (with_sign s run.value -ℤ pos n)) where
+      module _ (some : run.count ≡ 0 → ⊥) (h : not t ≡ false) {p : Option ℤ} (ep : p ≡ power_in (with_sign s run.value -ℤ pos n)) where
         right : digits 1 2 ran.read ≡ true
         right = digits_are 1 2 ran.read ran.all_digits (omega (arith, ran.counted)) ran.few
 
@@ -60,13 +57,13 @@ module _ (source : Source) (text : List ℕ) (at : ℕ) {run : Run} (er : run �
         ends : word_ends (stream source text run.next) ≡ true
         ends = sym e ∙ not-false t h
 
-        pub raised_past : p ≡ exponents.No → Raised source text at s a n Fails
+        pub raised_past : p ≡ None → Raised source text at s a n None
         unfolding power_digits
         raised_past q =
             let k : in_power 45 (with_sign s (value ran.read) -ℤ pos n) ≡ false = power_no _ (ep ∙ ap power_in is) q in
             record { reading = fails ran.read (stream source text run.next) (rw (right, k) refl) uncut ran.splits ends }
 
-        pub raised_read : {x : ℤ} → p ≡ exponents.Is x → Raised source text at s a n (Reads (record { amount = a; power = x }) run.next)
+        pub raised_read : {x : ℤ} → p ≡ Some x → Raised source text at s a n (Some ((record { amount = a; power = x }), run.next))
         unfolding power_digits power_value
         raised_read {x} q =
             let k = power_is (with_sign s (value ran.read) -ℤ pos n) (ep ∙ ap power_in is) q in

@@ -1,5 +1,5 @@
 -- The turns of the loops that read decoded bytes: a letter, a run of digits, a run of blanks.
-use Rattle.std.specs.Prelude.{◌≡◌, refl, List, Bool, true, false, not, ℕ, suc, ◌+◌, ◌*◌, ◌-◌, ◌^◌, ◌≤◌, ◌<◌, leb}
+use Rattle.std.specs.Prelude.{◌≡◌, refl, List, Bool, true, false, not, ℕ, suc, ◌+◌, ◌*◌, ◌-◌, ◌^◌, ◌≤◌, ◌<◌, leb, Option, Some, None}
 use Rattle.std.proofs.Math.Path.{sym}
 use Rattle.std.proofs.Common.{◌∙◌, rules}
 use Rattle.std.proofs.Math.Bool.{and-false}
@@ -9,8 +9,6 @@ use Rattle.grammar.specs.Bytes.{blank}
 use Rattle.nodes.specs.Texts.{left, text_step}
 use Rattle.nodes.proofs.Laws.TextSteps.{text_skip}
 use Rattle.nodes.specs.Values.{decoded_at}
-use Rattle.nodes.specs.declared.Char.{Char}
-use Rattle.nodes.specs.declared.Char.TheVariants.{Byte, End}
 use Rattle.nodes.specs.declared.Text.{Text}
 use Rattle.nodes.specs.declared.Text.TheVariants.{Stop, Skip, Letter}
 use Rattle.numbers.specs.Numbers.{digit}
@@ -26,7 +24,7 @@ pub seek_start : {text : List ℕ} {at : ℕ} → Seeking text at at
 seek_start = record { same = refl }
 
 module _ {text : List ℕ} {at i : ℕ} (go : Seeking text at i) {a : Text} (e : a ≡ text_step text i) where
-  pub seek_stop : a ≡ Stop → End ≡ letter_at text at
+  pub seek_stop : a ≡ Stop → None ≡ letter_at text at
   seek_stop k = sym (go.same ∙ letter_stop text i (sym e ∙ k))
 
   module _ {j : ℕ} (k : a ≡ Skip j) where
@@ -36,26 +34,26 @@ module _ {text : List ℕ} {at i : ℕ} (go : Seeking text at i) {a : Text} (e :
     pub seek_less : left text j < left text i
     seek_less = (text_skip text i e k).ahead
 
-  pub seek_letter : {b j : ℕ} → a ≡ Letter b j → Byte b j ≡ letter_at text at
+  pub seek_letter : {b j : ℕ} → a ≡ Letter b j → Some (b, j) ≡ letter_at text at
   seek_letter k = sym (go.same ∙ letter_byte text i (sym e ∙ k))
 
 pub ruleset seeking = (seek_start, seek_stop, seek_skip, seek_less, seek_letter, rules)
 
 -- a byte of either source
-pub char_value : (text : List ℕ) (at : ℕ) (s : Source) {q : ℕ} → s ≡ Value q → {c : Char} → c ≡ decoded_at text at q → c ≡ char_at s text at
+pub char_value : (text : List ℕ) (at : ℕ) (s : Source) {q : ℕ} → s ≡ Value q → {c : Option (ℕ × ℕ)} → c ≡ decoded_at text at q → c ≡ char_at s text at
 unfolding char_at
 char_value text at s e h = rw e h
 
-pub char_contents : (text : List ℕ) (at : ℕ) (s : Source) → s ≡ Contents → {c : Char} → c ≡ letter_at text at → c ≡ char_at s text at
+pub char_contents : (text : List ℕ) (at : ℕ) (s : Source) → s ≡ Contents → {c : Option (ℕ × ℕ)} → c ≡ letter_at text at → c ≡ char_at s text at
 unfolding char_at
 char_contents text at s e h = rw e h
 
 -- the end of a word
-pub ends_end : (text : List ℕ) (at : ℕ) (s : Source) {c : Char} → c ≡ char_at s text at → c ≡ End → true ≡ word_ends (stream s text at)
+pub ends_end : (text : List ℕ) (at : ℕ) (s : Source) {c : Option (ℕ × ℕ)} → c ≡ char_at s text at → c ≡ None → true ≡ word_ends (stream s text at)
 unfolding word_ends
 ends_end text at s e k = rw (char_end s text at e k) refl
 
-pub ends_byte : (text : List ℕ) (at : ℕ) (s : Source) {c : Char} → c ≡ char_at s text at → {b j : ℕ} → c ≡ Byte b j → {t : Bool}
+pub ends_byte : (text : List ℕ) (at : ℕ) (s : Source) {c : Option (ℕ × ℕ)} → c ≡ char_at s text at → {b j : ℕ} → c ≡ Some (b, j) → {t : Bool}
     → t ≡ blank b → t ≡ word_ends (stream s text at)
 unfolding word_ends
 ends_byte text at s e k h = rw (char_byte s text at e k).splits h
@@ -94,17 +92,17 @@ module _ {source : Source} {text : List ℕ} {most before at n k i : ℕ} (go : 
     pub running_times : n * 10 < 2 ^ 64
     running_times = omega (arith, small)
 
-  module _ (left : k < most) {c : Char} (e : c ≡ char_at source text i) where
+  module _ (left : k < most) {c : Option (ℕ × ℕ)} (e : c ≡ char_at source text i) where
     turn : digits_at source text most before 0 at
         ≡ digits_by c (record { value = n; count = k; next = i })
         (λ b j. digits_at source text (most - (k + 1)) (n * 10 + (b - 48)) (k + 1) j)
     turn = let m : most - k ≡ suc (most - (k + 1)) = omega arith in go.same ∙ rw (m, run_suc source text (most - (k + 1)) n k i, e) refl
 
-    pub running_end : c ≡ End → record { value = n; count = k; next = i } ≡ digits_at source text most before 0 at
+    pub running_end : c ≡ None → record { value = n; count = k; next = i } ≡ digits_at source text most before 0 at
     unfolding digits_by
     running_end q = sym (turn ∙ rw q refl)
 
-    module _ {b j : ℕ} (q : c ≡ Byte b j) where
+    module _ {b j : ℕ} (q : c ≡ Some (b, j)) where
       other : digit b ≡ false → record { value = n; count = k; next = i } ≡ digits_at source text most before 0 at
       unfolding digits_by
       other d = sym (turn ∙ rw (q, d) refl)
@@ -140,7 +138,7 @@ pub record Passing (text : List ℕ) (at i : ℕ) : Type 0 where
 pub pass_start : {text : List ℕ} {at : ℕ} → Passing text at at
 pass_start = record { same = refl }
 
-module _ {text : List ℕ} {at i : ℕ} (go : Passing text at i) {c : Char} (e : c ≡ letter_at text i) where
+module _ {text : List ℕ} {at i : ℕ} (go : Passing text at i) {c : Option (ℕ × ℕ)} (e : c ≡ letter_at text i) where
   from : c ≡ char_at Contents text i
   unfolding char_at
   from = e
@@ -148,11 +146,11 @@ module _ {text : List ℕ} {at i : ℕ} (go : Passing text at i) {c : Char} (e :
   stays : leading blank (stream Contents text i) ≡ 0 → i ≡ behind Contents text (leading blank (stream Contents text at)) at
   stays z = sym (go.same ∙ rw (z, behind_none Contents text i) refl)
 
-  pub pass_end : c ≡ End → i ≡ behind Contents text (leading blank (stream Contents text at)) at
+  pub pass_end : c ≡ None → i ≡ behind Contents text (leading blank (stream Contents text at)) at
   unfolding leading
   pass_end q = stays (rw (char_end Contents text i from q) refl)
 
-  module _ {b j : ℕ} (q : c ≡ Byte b j) where
+  module _ {b j : ℕ} (q : c ≡ Some (b, j)) where
     pub pass_other : {t : Bool} → t ≡ blank b → not t ≡ true → i ≡ behind Contents text (leading blank (stream Contents text at)) at
     unfolding leading
     pass_other {t} h k = stays (rw ((char_byte Contents text i from q).splits, sym h ∙ not-true t k) refl)

@@ -1,6 +1,7 @@
 -- Decimals: the sign in front, and the whole value of an attribute.
 use Rattle.std.proofs.Math.Path.{◌≡◌, refl, sym, ap}
-use Rattle.std.proofs.Common.{◌∙◌, arith, inl, inr, ⊎_elim, rules, ne_eqb}
+use Rattle.std.proofs.Common.{◌∙◌, arith, inl, inr, ⊎_elim, rules, ne_eqb, Option, Some, None, ℕ}
+use Rattle.std.proofs.lemmas.Option.{some_pair_parts}
 use mathlib.Core.List.{List, [], ◌∷◌, ◌++◌, append-nil}
 use Rattle.std.specs.Prelude.{Bool, true, false, ℕ, suc, ◌+◌, ◌≤◌, ◌⊎◌, length, get_or}
 use Rattle.lists.proofs.Laws.Booleans.{clash}
@@ -8,8 +9,6 @@ use Rattle.grammar.specs.Bytes.{blank}
 use Rattle.grammar.specs.Look.{Word}
 use Rattle.lists.specs.Lists.{all}
 use Rattle.nodes.specs.Values.{value_there}
-use Rattle.nodes.specs.declared.Char.{Char}
-use Rattle.nodes.specs.declared.Char.TheVariants.{Byte, End}
 use Rattle.numbers.specs.Numbers.{digits, parts, power_mark, plus, unsigned, decimal_parts, mantissa}
 use Rattle.numbers.specs.Numbers.{scaled, decimal, decimal_value}
 use Rattle.numbers.specs.Cuts.{none, more}
@@ -24,9 +23,6 @@ use Rattle.numbers.specs.declared.Source.{Source}
 use Rattle.numbers.specs.declared.Source.TheVariants.{Value}
 use Rattle.numbers.specs.declared.Lead.{Lead}
 use Rattle.numbers.specs.declared.Decimal.{Decimal}
-use Rattle.numbers.specs.declared.Spelling.{Spelling}
-use Rattle.numbers.specs.declared.Spelling.TheVariants.{Reads, Fails}
-use Rattle.numbers.specs.declared.Decimals.TheVariants as decimals
 
 no_decimal_lem : decimal [] ≡ false
 unfolding decimal unsigned scaled mantissa decimal_parts parts digits all
@@ -43,8 +39,8 @@ unfolding unsigned
 bare_end [] y e = refl
 bare_end (a ∷ x) y e = clash (cc)
 
-module _ (source : Source) (text : List ℕ) (at : ℕ) {c : Char} (ec : c ≡ char_at source text at) where
-  pub sign_end : c ≡ End → SignLeads source text at (record { negative = false; next = at })
+module _ (source : Source) (text : List ℕ) (at : ℕ) {c : Option (ℕ × ℕ)} (ec : c ≡ char_at source text at) where
+  pub sign_end : c ≡ None → SignLeads source text at (record { negative = false; next = at })
   unfolding sign_if
   sign_end e = record {
     front = [];
@@ -54,7 +50,7 @@ module _ (source : Source) (text : List ℕ) (at : ℕ) {c : Char} (ec : c ≡ c
     signs = λ x y s. bare_end x y (sym (char_end source text at ec e) ∙ s);
   }
 
-  module _ {b j : ℕ} (e : c ≡ Byte b j) where
+  module _ {b j : ℕ} (e : c ≡ Some (b, j)) where
     ahead : stream source text at ≡ b ∷ stream source text j
     ahead = (char_byte source text at ec e).splits
 
@@ -96,16 +92,16 @@ signed_form : (t : Bool) (w x : Word) → unsigned true w ≡ record { sign = si
 unfolding decimal decimal_value pure_decimal pure_value
 signed_form t w x e = (rw e refl, λ h. rw e refl)
 
-pub sign_read : {source : Source} {text : List ℕ} {at : ℕ} {lead : Lead} → SignLeads source text at lead → {r : Spelling}
+pub sign_read : {source : Source} {text : List ℕ} {at : ℕ} {lead : Lead} → SignLeads source text at lead → {r : Option (Decimal × ℕ)}
     → Pure source text lead.next (sign_if lead.negative) r → Spelled source text at r
 sign_read l p = record {
   reading = onward l.front (λ x y e. signed_form _ (l.front ++ x) x (l.signs x y e)) l.no_blank l.splits p.reading;
 }
 
-pub ruleset reading-signs = (sign_read, rules)
+pub ruleset reading_signs = (sign_read, rules)
 
 -- the whole value
-refused : (w : Word) → decimal w ≡ false → decimals.No ≡ decimal_in w
+refused : (w : Word) → decimal w ≡ false → None ≡ decimal_in w
 unfolding decimal_in
 refused w e = sym (rw e refl)
 
@@ -115,30 +111,30 @@ not_ended x [] n h = ap decimal (append-nil x) ∙ ⊎_elim (λ f. f) (λ f. abs
 not_ended x (b ∷ y) n h = decimal_blank x b y n
 
 module _ (text : List ℕ) (at : ℕ) where
-  pub decimal_past : length text ≤ at → decimals.No ≡ decimal_in (value_there text at)
+  pub decimal_past : length text ≤ at → None ≡ decimal_in (value_there text at)
   decimal_past h = refused (value_there text at) (ap decimal (past text at h) ∙ no_decimal_lem)
 
-  module _ {r : Spelling} (p : Spelled (Value (get_or text at 0)) text (at + 1) r) where
-    pub decimal_fails : r ≡ Fails → decimals.No ≡ decimal_in (value_there text at)
+  module _ {r : Option (Decimal × ℕ)} (p : Spelled (Value (get_or text at 0)) text (at + 1) r) where
+    pub decimal_fails : r ≡ None → None ≡ decimal_in (value_there text at)
     decimal_fails e = go p.reading e
       where
-        go : {x : Spelling} → Reading (Value (get_or text at 0)) text (at + 1) decimal decimal_value x → x ≡ Fails
-            → decimals.No ≡ decimal_in (value_there text at)
+        go : {x : Option (Decimal × ℕ)} → Reading (Value (get_or text at 0)) text (at + 1) decimal decimal_value x → x ≡ None
+            → None ≡ decimal_in (value_there text at)
         go (fails x y f u s n) q = refused (value_there text at) (ap decimal (there text at ∙ s) ∙ not_ended x y n (inl f))
         go (reads x f d u s n) q = let z : ◌≡◌ {A = ℕ} 0 1 = cc in absurd (omega arith)
 
-    module _ {d : Decimal} {j : ℕ} (e : r ≡ Reads d j) {c : Char} (ec : c ≡ char_at (Value (get_or text at 0)) text j) where
-      pub decimal_more : {b k : ℕ} → c ≡ Byte b k → decimals.No ≡ decimal_in (value_there text at)
+    module _ {d : Decimal} {j : ℕ} (e : r ≡ Some (d, j)) {c : Option (ℕ × ℕ)} (ec : c ≡ char_at (Value (get_or text at 0)) text j) where
+      pub decimal_more : {b k : ℕ} → c ≡ Some (b, k) → None ≡ decimal_in (value_there text at)
       decimal_more {b} {k} q = go p.reading e
         where
           next_is : stream (Value (get_or text at 0)) text j ≡ b ∷ stream (Value (get_or text at 0)) text k
           next_is = (char_byte (Value (get_or text at 0)) text j ec q).splits
 
-          go : {x : Spelling} → Reading (Value (get_or text at 0)) text (at + 1) decimal decimal_value x → x ≡ Reads d j
-              → decimals.No ≡ decimal_in (value_there text at)
+          go : {x : Option (Decimal × ℕ)} → Reading (Value (get_or text at 0)) text (at + 1) decimal decimal_value x → x ≡ Some (d, j)
+              → None ≡ decimal_in (value_there text at)
           go (fails x y f u s n) q = let z : ◌≡◌ {A = ℕ} 0 1 = cc in absurd (omega arith)
           go (reads x {j = i} f v u s n) q =
-              let w : i ≡ j = cc in
+              let w = (some_pair_parts _ _ _ _ q).1 in
               let l : stream (Value (get_or text at 0)) text i ≡ b ∷ stream (Value (get_or text at 0)) text k =
               ap (stream (Value (get_or text at 0)) text) w ∙ next_is in
               refused (value_there text at)
@@ -147,19 +143,20 @@ module _ (text : List ℕ) (at : ℕ) where
               (inr λ z. (let y : length (stream (Value (get_or text at 0)) text i)
               ≡ suc (length (stream (Value (get_or text at 0)) text k)) = ap length l in omega arith)))
 
-      pub decimal_is : c ≡ End → decimals.Is d ≡ decimal_in (value_there text at)
+      pub decimal_is : c ≡ None → Some d ≡ decimal_in (value_there text at)
       unfolding decimal_in
       decimal_is q = go p.reading e
         where
-          go : {x : Spelling} → Reading (Value (get_or text at 0)) text (at + 1) decimal decimal_value x → x ≡ Reads d j
-              → decimals.Is d ≡ decimal_in (value_there text at)
+          go : {x : Option (Decimal × ℕ)} → Reading (Value (get_or text at 0)) text (at + 1) decimal decimal_value x → x ≡ Some (d, j)
+              → Some d ≡ decimal_in (value_there text at)
           go (fails x y f u s n) h = let z : ◌≡◌ {A = ℕ} 0 1 = cc in absurd (omega arith)
           go (reads x {j = i} {d = v} f m u s n) h =
-              let w : i ≡ j = cc in
-              let k : v ≡ d = cc in
+              let parts = some_pair_parts _ _ _ _ h in
+              let k = parts.0 in
+              let w = parts.1 in
               let l : stream (Value (get_or text at 0)) text i ≡ [] = ap (stream (Value (get_or text at 0)) text) w
               ∙ char_end (Value (get_or text at 0)) text j ec q in
               let is : value_there text at ≡ x = there text at ∙ s ∙ ap (λ y. x ++ y) l ∙ append-nil x in
-              sym (rw (is, f) (ap decimals.Is (sym m ∙ k)))
+              sym (rw (is, f) (ap Some (sym m ∙ k)))
 
-pub ruleset decimals-of = (decimal_past, decimal_fails, decimal_more, decimal_is, rules)
+pub ruleset decimals_of = (decimal_past, decimal_fails, decimal_more, decimal_is, rules)

@@ -1,7 +1,8 @@
 -- The sixteen decimals: powers of ten, the test of one, the walk over all.
-use Rattle.std.specs.Prelude.{◌≡◌, refl, List, [], ◌∷◌, ◌++◌, Bool, true, false, ◌&&◌, drop, not}
+use Rattle.std.specs.Prelude.{◌≡◌, refl, List, [], ◌∷◌, ◌++◌, Bool, true, false, ◌&&◌, drop, not, Option, Some, None, ℕ}
 use Rattle.std.proofs.Math.Path.{sym}
 use Rattle.std.proofs.Common.{ap, ◌∙◌, le-leb, pow-suc, add-one, rules, ne_eqb}
+use Rattle.std.proofs.lemmas.Option.{some_pair_parts}
 use Rattle.std.proofs.Math.Bool.{and-false, and-true}
 use Prim.Native.Nat.{ℕ, zero, suc, ◌+◌, ◌*◌, ◌-◌, ◌^◌, ◌≤◌, ◌<◌}
 use native.Mathlib.Omega.{arith}
@@ -13,8 +14,6 @@ use Rattle.numbers.specs.Sixteen.{right_at}
 use Rattle.std.proofs.lemmas.Bool.{lt-leb, not-true, not-false}
 use Rattle.grammar.specs.Bytes.{blank}
 use Rattle.nodes.specs.Texts.{says_at}
-use Rattle.nodes.specs.declared.Char.{Char}
-use Rattle.nodes.specs.declared.Char.TheVariants.{Byte, End}
 use Rattle.numbers.specs.Numbers.{parts, digits, unsigned, decimal_parts, mantissa, scaled}
 use Rattle.numbers.proofs.Laws.Cuts.{words_none, first_word, powers}
 use Rattle.numbers.specs.Cuts.{Uncut, none, more}
@@ -24,8 +23,6 @@ use Rattle.numbers.proofs.Laws.Listed.{word_ahead}
 use Rattle.numbers.specs.Spelled.{Reading, reads, fails, Spelled}
 use Rattle.numbers.proofs.Laws.InValue.{zero_value}
 use Rattle.numbers.specs.declared.Source.TheVariants.{Contents}
-use Rattle.numbers.specs.declared.Spelling.{Spelling}
-use Rattle.numbers.specs.declared.Spelling.TheVariants.{Reads, Fails}
 
 unfoldable pub sixteen_from : ℕ → List Word → Bool
 sixteen_from zero [] = true
@@ -174,16 +171,16 @@ module _ {text : List ℕ} {at left i : ℕ} (go : Checking text at left i) {fro
   here = go.same ∙ ap (sixteen_from left) starts.same_words
 
   -- the end
-  module _ (none_left : left ≤ 0) {c : Char} (ec : c ≡ letter_at text from) where
+  module _ (none_left : left ≤ 0) {c : Option (ℕ × ℕ)} (ec : c ≡ letter_at text from) where
     now_at : c ≡ char_at Contents text from
     unfolding char_at
     now_at = ec
 
-    pub checking_end : c ≡ End → true ≡ sixteen (says_at text at)
+    pub checking_end : c ≡ None → true ≡ sixteen (says_at text at)
     unfolding sixteen_from
     checking_end e = let z : left ≡ 0 = omega arith in sym (here ∙ rw (z, char_end Contents text from now_at e, words_none) refl)
 
-    pub checking_over : {b j : ℕ} → c ≡ Byte b j → false ≡ sixteen (says_at text at)
+    pub checking_over : {b j : ℕ} → c ≡ Some (b, j) → false ≡ sixteen (says_at text at)
     unfolding sixteen_from
     checking_over {b} {j} e =
         let z : left ≡ 0 = omega arith in
@@ -192,8 +189,8 @@ module _ {text : List ℕ} {at left i : ℕ} (go : Checking text at left i) {fro
         sym (here ∙ rw (z, s, f.are) refl)
 
   -- a decimal
-  module _ (some_left : 0 < left) {r : Spelling} (p : Spelled Contents text from r) where
-    pub checking_fails : r ≡ Fails → false ≡ sixteen (says_at text at)
+  module _ (some_left : 0 < left) {r : Option (Decimal × ℕ)} (p : Spelled Contents text from r) where
+    pub checking_fails : r ≡ None → false ≡ sixteen (says_at text at)
     unfolding word_ends
     checking_fails e = sym (here ∙ failing p.reading e)
       where
@@ -206,12 +203,12 @@ module _ {text : List ℕ} {at left i : ℕ} (go : Checking text at left i) {fro
         by [] (b ∷ y) f u s n = let z : ◌≡◌ {A = ℕ} 0 1 = (let q = starts.no_blank b y s in cc) in absurd (omega arith)
         by (a ∷ x) y f u s n = rw (m, s, word_ahead a x y u n) (wrong (left - 1) (a ∷ x) (words y) f)
 
-        failing : {z : Spelling} → Reading Contents text from decimal decimal_value z → z ≡ Fails
+        failing : {z : Option (Decimal × ℕ)} → Reading Contents text from decimal decimal_value z → z ≡ None
             → sixteen_from left (words (stream Contents text from)) ≡ false
         failing (fails x y f u s n) q = by x y f u s n
         failing (reads x f d u s n) q = let z : ◌≡◌ {A = ℕ} 0 1 = cc in absurd (omega arith)
 
-    module _ {d : Decimal} {j : ℕ} (e : r ≡ Reads d j) where
+    module _ {d : Decimal} {j : ℕ} (e : r ≡ Some (d, j)) where
       module _ {t : Bool} (et : t ≡ right_at (left - 1) d) where
         one : sixteen (says_at text at) ≡ (t && sixteen_from (left - 1) (words (stream Contents text j)))
         one = here ∙ read p.reading e
@@ -230,10 +227,10 @@ module _ {text : List ℕ} {at left i : ℕ} (go : Checking text at left i) {fro
                 ∙ (step (left - 1) t (y ∷ x) (words (stream Contents text k)) f q
                 ∙ ap (λ z. t && sixteen_from (left - 1) (words (stream Contents text z))) b)
 
-            read : {z : Spelling} → Reading Contents text from decimal decimal_value z → z ≡ Reads d j
+            read : {z : Option (Decimal × ℕ)} → Reading Contents text from decimal decimal_value z → z ≡ Some (d, j)
                 → sixteen_from left (words (stream Contents text from)) ≡ (t && sixteen_from (left - 1) (words (stream Contents text j)))
             read (fails x y f u s n) q = let z : ◌≡◌ {A = ℕ} 0 1 = cc in absurd (omega arith)
-            read (reads x {j = k} {d = v} f h u s n) q = let a : v ≡ d = cc in let b : k ≡ j = cc in by x k v f h u s n a b
+            read (reads x {j = k} {d = v} f h u s n) q = let p = some_pair_parts _ _ _ _ q in by x k v f h u s n p.0 p.1
 
         pub checking_wrong : not t ≡ true → false ≡ sixteen (says_at text at)
         checking_wrong h = sym (one ∙ rw (not-true t h) refl)

@@ -1,5 +1,5 @@
 -- Decimals without their sign: digits with or without a point, and what stands behind them.
-use Rattle.std.specs.Prelude.{◌≡◌, ℕ, ◌+◌, ◌-◌, ◌^◌, ◌≤◌, ◌<◌, ℤ, drop}
+use Rattle.std.specs.Prelude.{◌≡◌, ℕ, ◌+◌, ◌-◌, ◌^◌, ◌≤◌, ◌<◌, ℤ, drop, Option, Some, None}
 use Rattle.std.proofs.Math.Path.{refl, sym, ap}
 use Rattle.std.proofs.Common.{◌∙◌, arith, rules}
 use mathlib.Core.List.{List, [], ◌∷◌, ◌++◌, append_assoc, append-nil}
@@ -10,8 +10,6 @@ use Rattle.lists.proofs.Laws.Booleans.{clash}
 use Rattle.grammar.specs.Bytes.{blank}
 use Rattle.grammar.specs.Document.{together}
 use Rattle.grammar.specs.Look.{Word}
-use Rattle.nodes.specs.declared.Char.{Char}
-use Rattle.nodes.specs.declared.Char.TheVariants.{Byte, End}
 use Rattle.numbers.specs.Numbers.{number, value, parts, point, Sign, with_sign, decimal_parts, mantissa}
 use Rattle.numbers.specs.Numbers.{places}
 use Rattle.numbers.proofs.Laws.Cuts.{uncut_join, parts_end, digits_are, number_below, powers}
@@ -26,8 +24,7 @@ use Rattle.numbers.proofs.Laws.Ahead.{uncut_point, uncut_blank, first_part, othe
 use Rattle.numbers.proofs.Laws.Ahead.{before_mark, stop_mark, wrong_front}
 use Rattle.numbers.specs.declared.Source.{Source}
 use Rattle.numbers.specs.declared.Run.{Run}
-use Rattle.numbers.specs.declared.Spelling.{Spelling}
-use Rattle.numbers.specs.declared.Spelling.TheVariants.{Fails}
+use Rattle.numbers.specs.declared.Decimal.{Decimal}
 
 below_same : {v n k m : ℕ} → v ≡ n → k ≡ m → n < 10 ^ m → v < 10 ^ k
 below_same p q h = rw (p, q) h
@@ -54,7 +51,7 @@ module _ (source : Source) (text : List ℕ) (at : ℕ) {run : Run} (er : run �
   no_blank = uncut_blank 15 ran.read ran.all_digits ran.few
 
   module _ (s : Sign) where
-    pub pure_none : run.count ≡ 0 → Pure source text at s Fails
+    pub pure_none : run.count ≡ 0 → Pure source text at s None
     unfolding pure_decimal mantissa
     pure_none z =
         let f = first_part 15 ran.read ran.all_digits ran.few (before_mark ran).first (stop_mark ran) in
@@ -71,7 +68,7 @@ module _ (source : Source) (text : List ℕ) (at : ℕ) {run : Run} (er : run �
 
       -- without a point: what stops the digits is none, nor a digit
       module _ {a : ℤ} (ea : a ≡ with_sign s run.value) where
-        alone : ((b : ℕ) (x : Word) → stream source text run.next ≡ b ∷ x → point b ≡ false) → {r : Spelling}
+        alone : ((b : ℕ) (x : Word) → stream source text run.next ≡ b ∷ x → point b ≡ false) → {r : Option (Decimal × ℕ)}
             → Powered source text run.next a 0 r → Pure source text at s r
         unfolding mantissa places value decimal_parts
         alone h p = record {
@@ -86,11 +83,11 @@ module _ (source : Source) (text : List ℕ) (at : ℕ) {run : Run} (er : run �
           }));
         }
 
-        module _ {c : Char} (ec : c ≡ char_at source text run.next) where
-          pub pure_end : c ≡ End → {r : Spelling} → Powered source text run.next a 0 r → Pure source text at s r
+        module _ {c : Option (ℕ × ℕ)} (ec : c ≡ char_at source text run.next) where
+          pub pure_end : c ≡ None → {r : Option (Decimal × ℕ)} → Powered source text run.next a 0 r → Pure source text at s r
           pure_end e p = alone (λ b x q. let z = char_end source text run.next ec e in clash (cc)) p
 
-          pub pure_other : {b j : ℕ} → c ≡ Byte b j → (b ≡ 46 → ⊥) → {r : Spelling} → Powered source text run.next a 0 r
+          pub pure_other : {b j : ℕ} → c ≡ Some (b, j) → (b ≡ 46 → ⊥) → {r : Option (Decimal × ℕ)} → Powered source text run.next a 0 r
               → Pure source text at s r
           unfolding point
           pure_other {b} {j} e n p = alone (λ i x q.
@@ -98,7 +95,7 @@ module _ (source : Source) (text : List ℕ) (at : ℕ) {run : Run} (er : run �
               let z : b ≡ i = cc in
               ne_eqb i 46 λ k. n (z ∙ k)) p
 
-      pub pure_point : {c : Char} → c ≡ char_at source text run.next → {b j : ℕ} → c ≡ Byte b j → b ≡ 46 → {r : Spelling}
+      pub pure_point : {c : Option (ℕ × ℕ)} → c ≡ char_at source text run.next → {b j : ℕ} → c ≡ Some (b, j) → b ≡ 46 → {r : Option (Decimal × ℕ)}
           → Pointed source text j run.value run.count s r → Pure source text at s r
       unfolding pointed blank value
       pure_point ec {b} {j} e h p =

@@ -1,5 +1,5 @@
 -- What is proved of Spelled.
-use Rattle.std.specs.Prelude.{◌≡◌, refl, List, [], ◌∷◌, ◌++◌, Bool, true, false, ℕ}
+use Rattle.std.specs.Prelude.{◌≡◌, refl, List, [], ◌∷◌, ◌++◌, Bool, true, false, ℕ, Option}
 use Rattle.std.proofs.Common.{sym, ap, ◌∙◌, append_assoc}
 use Rattle.grammar.specs.Bytes.{blank}
 use Rattle.grammar.specs.Look.{Word}
@@ -8,13 +8,12 @@ use Rattle.numbers.specs.Cuts.{Uncut, none, more}
 use Rattle.numbers.specs.Stream.{stream, word_ends}
 use Rattle.numbers.specs.declared.Source.{Source}
 use Rattle.numbers.specs.declared.Decimal.{Decimal}
-use Rattle.numbers.specs.declared.Spelling.{Spelling}
 use Rattle.numbers.specs.Spelled.{Reading, fails, reads, Cut}
 
 -- WHAT IS FOUND BEHIND A BEGINNING, by tests that agree with those of the whole, is found from the beginning on.
 pub onward : {source : Source} {text : List ℕ} {at j : ℕ} {right right₁ : Word → Bool} {valued valued₁ : Word → Decimal} (u : Word)
     → ((x y : Word) → stream source text j ≡ x ++ y → (right (u ++ x) ≡ right₁ x) × (right₁ x ≡ true → valued (u ++ x) ≡ valued₁ x))
-    → Uncut blank u → stream source text at ≡ u ++ stream source text j → {r : Spelling} → Reading source text j right₁ valued₁ r
+    → Uncut blank u → stream source text at ≡ u ++ stream source text j → {r : Option (Decimal × ℕ)} → Reading source text j right₁ valued₁ r
     → Reading source text at right valued r
 onward {source} {text} u same k e (reads x {j = i} f d c s n) =
     let q = same x (stream source text i) s in

@@ -1,6 +1,7 @@
 -- What stands at a place is the first of what is ahead; what a run of digits, or of blanks, takes from it.
-use Rattle.std.specs.Prelude.{◌≡◌, refl, List, [], ◌∷◌, ◌++◌, Bool, true, false, cond, ℕ, zero, suc, ◌+◌, ◌*◌, ◌-◌, ◌≤◌, ◌<◌, length}
+use Rattle.std.specs.Prelude.{◌≡◌, refl, List, [], ◌∷◌, ◌++◌, Bool, true, false, cond, ℕ, zero, suc, ◌+◌, ◌*◌, ◌-◌, ◌≤◌, ◌<◌, length, Option, Some, None}
 use Rattle.std.proofs.Common.{sym, ap, ◌∙◌, arith}
+use Rattle.std.proofs.lemmas.Option.{some_pair_parts}
 use Rattle.lists.proofs.Laws.Booleans.{clash}
 use Rattle.grammar.specs.Bytes.{blank}
 use Rattle.grammar.specs.Look.{Word}
@@ -8,8 +9,6 @@ use Rattle.lists.specs.Lists.{all}
 use Rattle.nodes.proofs.Laws.NextBytes.{decoded_byte, decoded_end}
 use Rattle.nodes.specs.Texts.{says_at, left, text_step}
 use Rattle.nodes.proofs.Laws.TextSteps.{Steps, text_letter, text_skip, text_stop}
-use Rattle.nodes.specs.declared.Char.{Char}
-use Rattle.nodes.specs.declared.Char.TheVariants.{Byte, End}
 use Rattle.nodes.specs.declared.Text.{Text}
 use Rattle.nodes.specs.declared.Text.TheVariants.{Stop, Skip, Letter}
 use Rattle.numbers.specs.Numbers.{digit, number, words}
@@ -46,11 +45,11 @@ letter_enough (suc n) (suc m) text i h k =
     go (Skip j) e ih = let s = text_skip text i refl e in
         ih j (omega (arith, s.ahead)) (omega (arith, s.ahead))
 
-pub letter_stop : (text : List ℕ) (i : ℕ) → text_step text i ≡ Stop → letter_at text i ≡ End
+pub letter_stop : (text : List ℕ) (i : ℕ) → text_step text i ≡ Stop → letter_at text i ≡ None
 unfolding letter_at letter_by
 letter_stop text i e = within_suc (left text i) text i ∙ rw e refl
 
-pub letter_byte : (text : List ℕ) (i : ℕ) {b j : ℕ} → text_step text i ≡ Letter b j → letter_at text i ≡ Byte b j
+pub letter_byte : (text : List ℕ) (i : ℕ) {b j : ℕ} → text_step text i ≡ Letter b j → letter_at text i ≡ Some (b, j)
 unfolding letter_at letter_by
 letter_byte text i e = within_suc (left text i) text i ∙ rw e refl
 
@@ -61,18 +60,18 @@ letter_skip text i {j} e =
     within_suc (left text i) text i ∙ rw e
     (letter_enough (left text i) (suc (left text j)) text j s.ahead (omega arith))
 
-abbrev LetterSays : List ℕ → ℕ → Char → Type 0
-LetterSays text i End = says_at text i ≡ []
-LetterSays text i (Byte b j) = Moves Contents text i b j
+abbrev LetterSays : List ℕ → ℕ → Option (ℕ × ℕ) → Type 0
+LetterSays text i None = says_at text i ≡ []
+LetterSays text i (Some (b, j)) = Moves Contents text i b j
 
 letter_says : (n : ℕ) (text : List ℕ) (i : ℕ) → left text i < n → LetterSays text i (letter_within n text i)
 unfolding letter_by stream left_in
 letter_says zero text i h = absurd (omega arith)
 letter_says (suc n) text i h = rw (within_suc n text i) (go (text_step text i) refl λ j l. letter_says n text j l)
   where
-    further : (j : ℕ) → Steps text i [] j → (c : Char) → LetterSays text j c → LetterSays text i c
-    further j s End k = s.splits ∙ k
-    further j s (Byte b m) k = record { ahead = omega (arith, s.ahead, k.ahead); splits = s.splits ∙ k.splits }
+    further : (j : ℕ) → Steps text i [] j → (c : Option (ℕ × ℕ)) → LetterSays text j c → LetterSays text i c
+    further j s None k = s.splits ∙ k
+    further j s (Some (b, m)) k = record { ahead = omega (arith, s.ahead, k.ahead); splits = s.splits ∙ k.splits }
 
     go : (x : Text) → text_step text i ≡ x → ((j : ℕ) → left text j < n → LetterSays text j (letter_within n text j))
         → LetterSays text i (letter_by x (letter_within n text))
@@ -81,23 +80,23 @@ letter_says (suc n) text i h = rw (within_suc n text i) (go (text_step text i) r
     go (Skip j) e ih = let s = text_skip text i refl e in
         further j s (letter_within n text j) (ih j (omega (arith, s.ahead)))
 
-letter_moves : (text : List ℕ) (i : ℕ) (c : Char) → LetterSays text i c → {b j : ℕ} → c ≡ Byte b j → Moves Contents text i b j
-letter_moves text i End h e = clash (cc)
-letter_moves text i (Byte b j) h {b = b₁} {j = j₁} e = let p : b ≡ b₁ = cc in let q : j ≡ j₁ = cc in rw (p, q) at h
+letter_moves : (text : List ℕ) (i : ℕ) (c : Option (ℕ × ℕ)) → LetterSays text i c → {b j : ℕ} → c ≡ Some (b, j) → Moves Contents text i b j
+letter_moves text i None h e = clash (cc)
+letter_moves text i (Some (b, j)) h {b = b₁} {j = j₁} e = let p = some_pair_parts _ _ _ _ e in rw (p.0, p.1) at h
 
-letter_ends : (text : List ℕ) (i : ℕ) (c : Char) → LetterSays text i c → c ≡ End → says_at text i ≡ []
-letter_ends text i End h e = h
-letter_ends text i (Byte b j) h e = clash (cc)
+letter_ends : (text : List ℕ) (i : ℕ) (c : Option (ℕ × ℕ)) → LetterSays text i c → c ≡ None → says_at text i ≡ []
+letter_ends text i None h e = h
+letter_ends text i (Some (b, j)) h e = clash (cc)
 
 -- THE NEXT BYTE, of either source
-pub char_byte : (source : Source) (text : List ℕ) (i : ℕ) {c : Char} → c ≡ char_at source text i → {b j : ℕ} → c ≡ Byte b j
+pub char_byte : (source : Source) (text : List ℕ) (i : ℕ) {c : Option (ℕ × ℕ)} → c ≡ char_at source text i → {b j : ℕ} → c ≡ Some (b, j)
     → Moves source text i b j
 unfolding char_at letter_at stream left_in
 char_byte (Value q) text i e z = let d = decoded_byte text q i e z in
     record { ahead = omega (arith, d.ahead, d.inside); splits = d.splits }
 char_byte Contents text i e z = letter_moves text i (letter_at text i) (letter_says (suc (left text i)) text i (omega arith)) (sym e ∙ z)
 
-pub char_end : (source : Source) (text : List ℕ) (i : ℕ) {c : Char} → c ≡ char_at source text i → c ≡ End → stream source text i ≡ []
+pub char_end : (source : Source) (text : List ℕ) (i : ℕ) {c : Option (ℕ × ℕ)} → c ≡ char_at source text i → c ≡ None → stream source text i ≡ []
 unfolding char_at letter_at stream
 char_end (Value q) text i e z = decoded_end text q i e z
 char_end Contents text i e z = letter_ends text i (letter_at text i) (letter_says (suc (left text i)) text i (omega arith)) (sym e ∙ z)
@@ -108,7 +107,7 @@ pub behind_suc : (source : Source) (text : List ℕ) (n i : ℕ)
 unfolding behind
 behind_suc source text n i = refl
 
-pub behind_one : (source : Source) (text : List ℕ) (i : ℕ) {b j : ℕ} → char_at source text i ≡ Byte b j → (n : ℕ)
+pub behind_one : (source : Source) (text : List ℕ) (i : ℕ) {b j : ℕ} → char_at source text i ≡ Some (b, j) → (n : ℕ)
     → behind source text (suc n) i ≡ behind source text n j
 unfolding behind_by
 behind_one source text i e n = behind_suc source text n i ∙ rw e refl
@@ -145,7 +144,7 @@ nothing_ran source text most n k i h = record {
   stops = h;
 }
 
-one_ran : (source : Source) (text : List ℕ) (m n k i b j : ℕ) (r : Run) → char_at source text i ≡ Byte b j → digit b ≡ true
+one_ran : (source : Source) (text : List ℕ) (m n k i b j : ℕ) (r : Run) → char_at source text i ≡ Some (b, j) → digit b ≡ true
     → Ran source text m (n * 10 + (b - 48)) (k + 1) j r → Ran source text (suc m) n k i r
 unfolding all number
 one_ran source text m n k i b j r e d h =
@@ -177,7 +176,7 @@ unfolding digits_at digits_by
 digits_law source text zero n k i = nothing_ran source text 0 n k i λ b x e l. absurd (omega arith)
 digits_law source text (suc m) n k i = go (char_at source text i) refl λ n₁ k₁ j. digits_law source text m n₁ k₁ j
   where
-    tested : (b j : ℕ) → char_at source text i ≡ Byte b j → (t : Bool) → digit b ≡ t
+    tested : (b j : ℕ) → char_at source text i ≡ Some (b, j) → (t : Bool) → digit b ≡ t
         → Ran source text m (n * 10 + (b - 48)) (k + 1) j (digits_at source text m (n * 10 + (b - 48)) (k + 1) j)
         → Ran source text (suc m) n k i (cond t (digits_at source text m (n * 10 + (b - 48)) (k + 1) j)
         (record { value = n; count = k; next = i }))
@@ -186,11 +185,11 @@ digits_law source text (suc m) n k i = go (char_at source text i) refl λ n₁ k
         let s = char_byte source text i refl e in
         nothing_ran source text (suc m) n k i λ c x q l. (let z : b ≡ c = first_is (sym s.splits ∙ q) in rw z at d)
 
-    go : (c : Char) → char_at source text i ≡ c → ((n₁ k₁ j : ℕ) → Ran source text m n₁ k₁ j (digits_at source text m n₁ k₁ j))
+    go : (c : Option (ℕ × ℕ)) → char_at source text i ≡ c → ((n₁ k₁ j : ℕ) → Ran source text m n₁ k₁ j (digits_at source text m n₁ k₁ j))
         → Ran source text (suc m) n k i (digits_by c (record { value = n; count = k; next = i })
         (λ b j. digits_at source text m (n * 10 + (b - 48)) (k + 1) j))
-    go End e ih = nothing_ran source text (suc m) n k i λ b x q l. (let s = char_end source text i refl e in clash (cc))
-    go (Byte b j) e ih = tested b j e (digit b) refl (ih (n * 10 + (b - 48)) (k + 1) j)
+    go None e ih = nothing_ran source text (suc m) n k i λ b x q l. (let s = char_end source text i refl e in clash (cc))
+    go (Some (b, j)) e ih = tested b j e (digit b) refl (ih (n * 10 + (b - 48)) (k + 1) j)
 
 -- A RUN OF BLANKS: the words ahead stay, and what is ahead begins with none
 pub record Blanked (text : List ℕ) (i j : ℕ) : Type 0 where
@@ -214,11 +213,11 @@ blanked (suc n) text i e = step (char_at Contents text i) refl λ j k. blanked n
     counted b w true h k = let z : suc (leading blank w) ≡ suc n = sym (rw h refl) ∙ k in (h, omega arith)
     counted b w false h k = let z : ◌≡◌ {A = ℕ} 0 (suc n) = sym (rw h refl) ∙ k in absurd (omega arith)
 
-    step : (c : Char) → char_at Contents text i ≡ c
+    step : (c : Option (ℕ × ℕ)) → char_at Contents text i ≡ c
         → ((j : ℕ) → leading blank (stream Contents text j) ≡ n → Blanked text j (behind Contents text n j))
         → Blanked text i (behind Contents text (suc n) i)
-    step End q ih = let z : ◌≡◌ {A = ℕ} 0 (suc n) = sym (ap (leading blank) (char_end Contents text i refl q)) ∙ e in absurd (omega arith)
-    step (Byte b j) q ih =
+    step None q ih = let z : ◌≡◌ {A = ℕ} 0 (suc n) = sym (ap (leading blank) (char_end Contents text i refl q)) ∙ e in absurd (omega arith)
+    step (Some (b, j)) q ih =
         let s = char_byte Contents text i refl q in
         let f = counted b (stream Contents text j) (blank b) refl (sym (ap (leading blank) s.splits) ∙ e) in
         let h = ih j f.1 in

@@ -1,7 +1,7 @@
 -- Each answer is exactly the meaning's number: an answer is given where the form is right, with the number that is written, and nowhere
 -- else; and there is one only.
 use Rattle.std.proofs.Math.Path.{◌≡◌, refl}
-use Rattle.std.proofs.Common.{sym, ap, ◌∙◌, append-nil, pow-suc, mul_assoc, mul_comm, add-mul, arith}
+use Rattle.std.proofs.Common.{sym, ap, ◌∙◌, append-nil, pow-suc, mul_assoc, mul_comm, add-mul, arith, Some, None}
 use Rattle.std.specs.Prelude.{◌↔◌, [], ◌∷◌, ◌++◌, Bool, ℕ, ◌+◌, ◌*◌, ◌-◌, ◌^◌, ℤ, length}
 use Rattle.std.proofs.Math.Bool.{true, false, cond}
 use Rattle.grammar.specs.Document.{together}
@@ -14,58 +14,54 @@ use Rattle.numbers.proofs.Laws.Cuts.{parts_end, parts_cut, digits_uncut, digit_n
 use Rattle.numbers.specs.Answers.{whole_in, between_in, lengths_of, three_in, exponent_in, decimal_in}
 use Rattle.numbers.specs.declared.Lengths.{Lengths}
 use Rattle.numbers.specs.declared.Decimal.{Decimal}
-use Rattle.numbers.specs.declared.Whole.TheVariants as wholes
-use Rattle.numbers.specs.declared.Three.TheVariants as threes
-use Rattle.numbers.specs.declared.Exponent.TheVariants as exponents
-use Rattle.numbers.specs.declared.Decimals.TheVariants as decimals
 
 -- a promise `r ≡ f text at ..` leaves one answer
 pub one_answer : {A : Type 0} {x r s : A} → r ≡ x → s ≡ x → r ≡ s
 one_answer p q = p ∙ sym q
 
 module _ (lo hi : ℕ) (w : Word) (n : ℕ) where
-  pub whole_exactly : (whole_in lo hi w ≡ wholes.Is n) ↔ ((whole lo hi w ≡ true) × (value w ≡ n))
+  pub whole_exactly : (whole_in lo hi w ≡ Some n) ↔ ((whole lo hi w ≡ true) × (value w ≡ n))
   unfolding whole_in
   whole_exactly = (λ e. there (whole lo hi w) refl e, λ h. rw (h.0, h.1) refl)
     where
-      there : (t : Bool) → whole lo hi w ≡ t → cond t (wholes.Is (value w)) wholes.No ≡ wholes.Is n → (whole lo hi w ≡ true) × (value w ≡ n)
+      there : (t : Bool) → whole lo hi w ≡ t → cond t (Some (value w)) None ≡ Some n → (whole lo hi w ≡ true) × (value w ≡ n)
       there true q e = (q, cc)
       there false q e = let z : ◌≡◌ {A = ℕ} 0 1 = cc in absurd (omega arith)
 
-  pub between_exactly : (between_in lo hi w ≡ wholes.Is n) ↔ ((dimension_list w ≡ true) × (count (between lo hi) (comma_values w) ≡ n))
+  pub between_exactly : (between_in lo hi w ≡ Some n) ↔ ((dimension_list w ≡ true) × (count (between lo hi) (comma_values w) ≡ n))
   unfolding between_in
   between_exactly = (λ e. there (dimension_list w) refl e, λ h. rw (h.0, h.1) refl)
     where
-      there : (t : Bool) → dimension_list w ≡ t → cond t (wholes.Is (count (between lo hi) (comma_values w))) wholes.No ≡ wholes.Is n
+      there : (t : Bool) → dimension_list w ≡ t → cond t (Some (count (between lo hi) (comma_values w))) None ≡ Some n
           → (dimension_list w ≡ true) × (count (between lo hi) (comma_values w) ≡ n)
       there true q e = (q, cc)
       there false q e = let z : ◌≡◌ {A = ℕ} 0 1 = cc in absurd (omega arith)
 
-pub three_exactly : (a b c : ℕ) (w : Word) (l : Lengths) → (three_in a b c w ≡ threes.Are l)
+pub three_exactly : (a b c : ℕ) (w : Word) (l : Lengths) → (three_in a b c w ≡ Some l)
     ↔ ((volume_dimensions a b c w ≡ true) × (lengths_of (comma_values w) ≡ l))
 unfolding three_in
 three_exactly a b c w l = (λ e. there (volume_dimensions a b c w) refl e, λ h. rw (h.0, h.1) refl)
   where
-    there : (t : Bool) → volume_dimensions a b c w ≡ t → cond t (threes.Are (lengths_of (comma_values w))) threes.No ≡ threes.Are l
+    there : (t : Bool) → volume_dimensions a b c w ≡ t → cond t (Some (lengths_of (comma_values w))) None ≡ Some l
         → (volume_dimensions a b c w ≡ true) × (lengths_of (comma_values w) ≡ l)
     there true q e = (q, cc)
     there false q e = let z : ◌≡◌ {A = ℕ} 0 1 = cc in absurd (omega arith)
 
-pub exponent_exactly : (most : ℕ) (w : Word) (n : ℤ) → (exponent_in most w ≡ exponents.Is n)
+pub exponent_exactly : (most : ℕ) (w : Word) (n : ℤ) → (exponent_in most w ≡ Some n)
     ↔ ((exponent most w ≡ true) × (exponent_value w ≡ n))
 unfolding exponent_in
 exponent_exactly most w n = (λ e. there (exponent most w) refl e, λ h. rw (h.0, h.1) refl)
   where
-    there : (t : Bool) → exponent most w ≡ t → cond t (exponents.Is (exponent_value w)) exponents.No ≡ exponents.Is n
+    there : (t : Bool) → exponent most w ≡ t → cond t (Some (exponent_value w)) None ≡ Some n
         → (exponent most w ≡ true) × (exponent_value w ≡ n)
     there true q e = (q, cc)
     there false q e = let z : ◌≡◌ {A = ℕ} 0 1 = cc in absurd (omega arith)
 
-pub decimal_exactly : (w : Word) (d : Decimal) → (decimal_in w ≡ decimals.Is d) ↔ ((decimal w ≡ true) × (decimal_value w ≡ d))
+pub decimal_exactly : (w : Word) (d : Decimal) → (decimal_in w ≡ Some d) ↔ ((decimal w ≡ true) × (decimal_value w ≡ d))
 unfolding decimal_in
 decimal_exactly w d = (λ e. there (decimal w) refl e, λ h. rw (h.0, h.1) refl)
   where
-    there : (t : Bool) → decimal w ≡ t → cond t (decimals.Is (decimal_value w)) decimals.No ≡ decimals.Is d → (decimal w ≡ true)
+    there : (t : Bool) → decimal w ≡ t → cond t (Some (decimal_value w)) None ≡ Some d → (decimal w ≡ true)
         × (decimal_value w ≡ d)
     there true q e = (q, cc)
     there false q e = let z : ◌≡◌ {A = ℕ} 0 1 = cc in absurd (omega arith)

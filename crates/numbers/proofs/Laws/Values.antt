@@ -1,5 +1,5 @@
 -- Values of attributes: whole numbers, three lengths, dimension lists, exponents.
-use Rattle.std.specs.Prelude.{◌≡◌, refl, List, [], ◌∷◌, true, false, ℕ, ◌+◌, ◌≤◌, ◌<◌, length, get_or}
+use Rattle.std.specs.Prelude.{◌≡◌, refl, List, [], ◌∷◌, true, false, ℕ, ◌+◌, ◌≤◌, ◌<◌, length, get_or, Some, None}
 use Rattle.std.proofs.Math.Path.{sym}
 use Rattle.std.proofs.Common.{ap, ◌∙◌, arith, rules, drop_of_length-le}
 use Rattle.lists.proofs.Laws.Booleans.{clash}
@@ -17,7 +17,6 @@ use Rattle.numbers.specs.declared.Source.{Source}
 use Rattle.numbers.specs.declared.Source.TheVariants.{Value}
 use Rattle.numbers.specs.declared.Part.{Part}
 use Rattle.numbers.specs.declared.Part.TheVariants.{Comma, Last, No}
-use Rattle.numbers.specs.declared.Whole.TheVariants as wholes
 
 -- where a value is read: behind its quote
 pub there : (text : List ℕ) (at : ℕ) → value_there text at ≡ stream (Value (get_or text at 0)) text (at + 1)
@@ -84,25 +83,25 @@ pub is_numeral : (lo hi : ℕ) (w : Word) → whole lo hi w ≡ numeral 7 lo hi 
 unfolding whole numeral
 is_numeral lo hi w = refl
 
-no_whole : (lo hi : ℕ) (w : Word) → numeral 7 lo hi w ≡ false → wholes.No ≡ whole_in lo hi w
+no_whole : (lo hi : ℕ) (w : Word) → numeral 7 lo hi w ≡ false → None ≡ whole_in lo hi w
 unfolding whole_in
 no_whole lo hi w h = sym (rw (is_numeral lo hi w, h) refl)
 
 module _ (text : List ℕ) (at lo hi : ℕ) where
-  pub whole_past : length text ≤ at → wholes.No ≡ whole_in lo hi (value_there text at)
+  pub whole_past : length text ≤ at → None ≡ whole_in lo hi (value_there text at)
   unfolding whole_in whole digits all
   whole_past h = sym (rw (past text at h) refl)
 
   module _ {r : Part} (p : Parted (Value (get_or text at 0)) text 7 lo hi (at + 1) r) where
-    pub whole_is : {n : ℕ} → r ≡ Last n → wholes.Is n ≡ whole_in lo hi (value_there text at)
+    pub whole_is : {n : ℕ} → r ≡ Last n → Some n ≡ whole_in lo hi (value_there text at)
     unfolding whole_in
     whole_is e = let k = whole_last (says_last p e) in
         sym (rw (there text at, is_numeral lo hi (stream (Value (get_or text at 0)) text (at + 1)), k.0, k.1) refl)
 
-    pub whole_is_comma : {n j : ℕ} → r ≡ Comma n j → wholes.No ≡ whole_in lo hi (value_there text at)
+    pub whole_is_comma : {n j : ℕ} → r ≡ Comma n j → None ≡ whole_in lo hi (value_there text at)
     whole_is_comma e = rw (there text at) (no_whole lo hi _ (whole_comma (says_comma p e)))
 
-    pub whole_is_no : r ≡ No → wholes.No ≡ whole_in lo hi (value_there text at)
+    pub whole_is_no : r ≡ No → None ≡ whole_in lo hi (value_there text at)
     whole_is_no e = rw (there text at) (no_whole lo hi _ (whole_no (says_no p e)))
 
 pub ruleset wholing = (whole_past, whole_is, whole_is_comma, whole_is_no, rules)

@@ -1,15 +1,12 @@
 -- WALKING A LIST: what each answer of `next_number` says of the words that are ahead, and that the n-th number handed out is the n-th of
 -- the list.
-use Rattle.std.specs.Prelude.{◌≡◌, refl, List, [], ◌∷◌, Bool, true, false, cond, ℕ, zero, suc, ◌+◌, ◌^◌, ◌≤◌, ◌<◌, length, drop}
+use Rattle.std.specs.Prelude.{◌≡◌, refl, List, [], ◌∷◌, Bool, true, false, cond, ℕ, zero, suc, ◌+◌, ◌^◌, ◌≤◌, ◌<◌, length, drop, Option, Some, None}
 use Rattle.std.proofs.Common.{sym, ap, ◌∙◌, arith}
 use Rattle.lists.proofs.Laws.Booleans.{clash}
 use Rattle.grammar.specs.Bytes.{blank}
 use Rattle.grammar.specs.Look.{Word}
 use Rattle.lists.specs.Lists.{those}
 use Rattle.nodes.specs.Texts.{says_at, left}
-use Rattle.nodes.specs.declared.Char.{Char}
-use Rattle.nodes.specs.declared.Char.TheVariants.{Byte}
-use Rattle.nodes.specs.declared.Char.TheVariants as chars
 use Rattle.numbers.specs.Numbers.{digits, value, parts, on_first, filled, words}
 use Rattle.numbers.proofs.Laws.Cuts.{parts_some, words_none, words_blank, digits_split, value_below, powers}
 use Rattle.numbers.specs.Stream.{char_at, stream, left_in, behind, leading}
@@ -81,10 +78,10 @@ behind_law source text zero i h = (record {
 })
 behind_law source text (suc n) i h = go (char_at source text i) refl λ j k. behind_law source text n j k
   where
-    go : (c : Char) → char_at source text i ≡ c → ((j : ℕ) → n ≤ length (stream source text j) → Behind source text n j)
+    go : (c : Option (ℕ × ℕ)) → char_at source text i ≡ c → ((j : ℕ) → n ≤ length (stream source text j) → Behind source text n j)
         → Behind source text (suc n) i
-    go chars.End e ih = let z : length (stream source text i) ≡ 0 = ap length (char_end source text i refl e) in absurd (omega arith)
-    go (Byte b j) e ih =
+    go None e ih = let z : length (stream source text i) ≡ 0 = ap length (char_end source text i refl e) in absurd (omega arith)
+    go (Some (b, j)) e ih =
         let m = char_byte source text i refl e in
         let q : length (stream source text i) ≡ suc (length (stream source text j)) = ap length m.splits in
         let k = ih j (omega arith) in

@@ -1,9 +1,8 @@
 -- What is proved of Opening.
-use Rattle.std.specs.Prelude.{◌≡◌, Bool, not, ◌||◌, ◌&&◌, ℕ, ◌+◌, ◌≤◌, ◌<◌, leb, length}
+use Rattle.std.specs.Prelude.{◌≡◌, Bool, not, ◌||◌, ◌&&◌, ℕ, ◌+◌, ◌≤◌, ◌<◌, leb, length, Option, Some, None}
 use Rattle.std.proofs.Math.Path.{refl, sym, ap}
 use Rattle.std.proofs.Common.{◌∙◌, true≢false, add-one, drop_of_length-le, drop-cons, rules, lt-ltb, le-ltb, le-leb, eq-eqb, ne_eqb, leb-true}
 use mathlib.Core.List.{List, [], ◌∷◌, append-nil}
-use Rattle.std.proofs.Math.Option.{Option, some}
 use Rattle.std.proofs.Math.Bool.{true, false, cond}
 use native.Mathlib.Omega.{arith}
 use Rattle.std.proofs.Math.Dec.{eqb, ltb}
@@ -17,8 +16,6 @@ use Rattle.grammar.specs.Parser.{parse}
 use Rattle.nodes.specs.Places.{Stands, the}
 use Rattle.nodes.specs.Children.{first_child, next}
 use Rattle.nodes.proofs.Laws.Walk.{kids, Walk, walk_children, kids_children, walk_none, turn_at, turn_splits}
-use Rattle.nodes.specs.declared.Kid.{Kid}
-use Rattle.nodes.specs.declared.Kid.TheVariants.{Child, Done}
 use Rattle.cifti.specs.Rows.{cifti}
 use Rattle.cifti.specs.Maps.{map_elements, maps_of}
 use Rattle.cifti.specs.Conditions as C
@@ -121,14 +118,14 @@ module _ (text lengths : List ℕ) where
     header_long h = rw (fine, h)
 
     module _ (short : text_too_long (length text) ≡ false) where
-      pub header_unwritten : parse text ≡ Option.none → header_number text lengths ≡ 3
+      pub header_unwritten : parse text ≡ None → header_number text lengths ≡ 3
       unfolding conditions_of_header C.first no_document is_some
       header_unwritten h = rw (fine, short, h)
 
-      module _ (e : Element) (p : parse text ≡ some e) where
+      module _ (e : Element) (p : parse text ≡ Some e) where
         pub header_document : header_number text lengths
-            ≡ root_number e (C.first (8 when C.of_maps (C.dimensions_wrong lengths) (some e)
-            ∷ 9 when C.of_maps (C.length_wrong lengths) (some e) ∷ []))
+            ≡ root_number e (C.first (8 when C.of_maps (C.dimensions_wrong lengths) (Some e)
+            ∷ 9 when C.of_maps (C.length_wrong lengths) (Some e) ∷ []))
         unfolding conditions_of_header no_document is_some there
         header_document =
             ap (λ d. C.first (conditions_of_header lengths (length text) d)) p
@@ -194,12 +191,12 @@ module _ {text : List ℕ} {r n : ℕ} (j : JudgedCifti text r n) where
       good_here : Good cifti (the text r)
       good_here = good_root (the text r) shaped numbers_fine
 
-      pub root_passes : {m : ℕ} {kid : Kid} → kid ≡ first_child text r → kid ≡ Child m → (o : Opening) → o.number ≡ 0 → o.matrix ≡ m
+      pub root_passes : {m : ℕ} {kid : Option ℕ} → kid ≡ first_child text r → kid ≡ Some m → (o : Opening) → o.number ≡ 0 → o.matrix ≡ m
           → RootFound text r o
       unfolding kid_place
       root_passes {m} {kid} e h o u v =
           let w : Walk text (first_child text r) = walk_children j.stands in
-          let is_child : first_child text r ≡ Child m = sym e ∙ h in
+          let is_child : first_child text r ≡ Some m = sym e ∙ h in
           let t = turn_at w is_child in
           let only = root_child good_here in
           let same : the text m ∷ kids text (next text m) ≡ only.one ∷ [] = sym (turn_splits w is_child) ∙ kids_children j.stands
@@ -221,7 +218,7 @@ module _ {text : List ℕ} {r n : ℕ} (j : JudgedCifti text r n) where
             only = λ _. rw v (matrix_one (the text r) (the text m) list (rw here only.name));
           }
 
-      pub root_bare : {kid : Kid} → kid ≡ first_child text r → kid ≡ Done → (o : Opening) → RootFound text r o
+      pub root_bare : {kid : Option ℕ} → kid ≡ first_child text r → kid ≡ None → (o : Opening) → RootFound text r o
       root_bare e h o =
           let w : Walk text (first_child text r) = walk_children j.stands in
           let none : kids text (first_child text r) ≡ [] = walk_none w (sym e ∙ h) in

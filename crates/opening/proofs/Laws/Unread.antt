@@ -1,5 +1,5 @@
 -- The turns of the walk down the levels of condition 5.
-use Rattle.std.specs.Prelude.{◌≡◌, refl, List, Bool, true, false}
+use Rattle.std.specs.Prelude.{◌≡◌, refl, List, Bool, true, false, Option, Some, None, ℕ}
 use Rattle.std.proofs.Common.{sym, ◌∙◌, arith, rules}
 use Prim.Native.Nat.{ℕ, zero, suc, ◌-◌, ◌<◌, ◌≤◌}
 use Rattle.lists.specs.Lists.{any}
@@ -10,8 +10,6 @@ use Rattle.nodes.specs.Places.{Stands, the}
 use Rattle.nodes.specs.Children.{first_child, next}
 use Rattle.nodes.proofs.Laws.Children.{left}
 use Rattle.nodes.specs.Names.{named}
-use Rattle.nodes.specs.declared.Kid.{Kid}
-use Rattle.nodes.specs.declared.Kid.TheVariants.{Child, Done}
 use Rattle.cifti.specs.Conditions.{kind_not_read}
 use Rattle.maps.specs.Unread.{not_read}
 use Rattle.maps.proofs.Laws.Unread.{any_not_read, Seeking, seek_start, seek_done, seek_stands, seek_less, seek_other, seek_found}
@@ -32,7 +30,7 @@ module _ (text : List ℕ) (at n : ℕ) {b : Bool} where
       go zero z = absurd (z refl)
       go (suc n) z = e
 
-pub ruleset level-names = (name_map, name_matrix, rules)
+pub ruleset level_names = (name_map, name_matrix, rules)
 
 -- the loop over children, one level down
 level_down : (n : ℕ) (e : Element) → (n ≡ 0 → ⊥) → level_not_read n e ≡ any (level_not_read (n - 1)) (children (level_name (n - 1)) e)
@@ -40,7 +38,7 @@ unfolding level_not_read
 level_down zero e z = absurd (z refl)
 level_down (suc n) e z = let q : suc n - 1 ≡ n = omega arith in rw q
 
-pub record Levelling (n : ℕ) (text : List ℕ) (at : ℕ) (kid : Kid) : Type 0 where
+pub record Levelling (n : ℕ) (text : List ℕ) (at : ℕ) (kid : Option ℕ) : Type 0 where
   pub above : n ≡ 0 → ⊥
   pub seeking : Seeking (level_name (n - 1)) (level_not_read (n - 1)) text at kid
 
@@ -48,35 +46,35 @@ pub level_map : {n : ℕ} → n ≡ 0 → (e : Element) {b : Bool} → b ≡ not
 unfolding level_not_read
 level_map z e h = rw z h
 
-pub level_start : {n : ℕ} → (n ≡ 0 → ⊥) → {text : List ℕ} {at : ℕ} → Stands text at → {kid : Kid} → kid ≡ first_child text at
+pub level_start : {n : ℕ} → (n ≡ 0 → ⊥) → {text : List ℕ} {at : ℕ} → Stands text at → {kid : Option ℕ} → kid ≡ first_child text at
     → Levelling n text at kid
 level_start z st e = record { above = z; seeking = seek_start _ _ st e }
 
-module _ {n : ℕ} {text : List ℕ} {at : ℕ} {kid : Kid} (go : Levelling n text at kid) where
+module _ {n : ℕ} {text : List ℕ} {at : ℕ} {kid : Option ℕ} (go : Levelling n text at kid) where
   pub level_room : 1 ≤ n
   level_room = let z = go.above in omega arith
 
   pub level_falls : {t : ℕ} → n ≡ t → n - 1 < t
   level_falls e = let z = go.above in omega arith
 
-  pub level_done : kid ≡ Done → false ≡ level_not_read n (the text at)
+  pub level_done : kid ≡ None → false ≡ level_not_read n (the text at)
   level_done e = seek_done _ _ go.seeking e ∙ sym (level_down n (the text at) go.above)
 
-  module _ {k : ℕ} (is_child : kid ≡ Child k) where
+  module _ {k : ℕ} (is_child : kid ≡ Some k) where
     pub level_stands : Stands text k
     level_stands = seek_stands _ _ go.seeking is_child
 
-    pub level_less : {kid₁ : Kid} → kid₁ ≡ next text k → left text kid₁ < left text kid
+    pub level_less : {kid₁ : Option ℕ} → kid₁ ≡ next text k → left text kid₁ < left text kid
     level_less e = seek_less _ _ go.seeking is_child e
 
     module _ {b : Bool} (nm : b ≡ named text k (ascii (level_name (n - 1)))) where
-      pub level_other : b ≡ false → {kid₁ : Kid} → kid₁ ≡ next text k → Levelling n text at kid₁
+      pub level_other : b ≡ false → {kid₁ : Option ℕ} → kid₁ ≡ next text k → Levelling n text at kid₁
       level_other f e = record { above = go.above; seeking = seek_other _ _ go.seeking is_child nm f e }
 
       pub level_found : b ≡ true → {c : Bool} → c ≡ level_not_read (n - 1) (the text k) → c ≡ true → true ≡ level_not_read n (the text at)
       level_found t q r = seek_found _ _ go.seeking is_child nm t q r ∙ sym (level_down n (the text at) go.above)
 
-      pub level_missed : b ≡ true → {c : Bool} → c ≡ level_not_read (n - 1) (the text k) → c ≡ false → {kid₁ : Kid} → kid₁ ≡ next text k
+      pub level_missed : b ≡ true → {c : Bool} → c ≡ level_not_read (n - 1) (the text k) → c ≡ false → {kid₁ : Option ℕ} → kid₁ ≡ next text k
           → Levelling n text at kid₁
       level_missed t q r e = record { above = go.above; seeking = seek_missed _ _ go.seeking is_child nm t q r e }
 

@@ -1,8 +1,7 @@
 -- DOCUMENTS WITH THEIR MODELS IN ANOTHER ORDER: their maps, the number of refusal, the answer and the table; map names and labels.
-use Rattle.std.specs.Prelude.{◌≡◌, List, [], false, eqb, ℤ, length}
+use Rattle.std.specs.Prelude.{◌≡◌, List, [], false, eqb, ℤ, length, Some}
 use Rattle.std.proofs.Math.Path.{refl, ap}
 use Rattle.std.proofs.Common.{◌∙◌}
-use Rattle.std.proofs.Math.Option.{some}
 use Prim.Native.Nat.{ℕ, zero, suc}
 use Prim.Native.String.{String}
 use Rattle.std.proofs.Math.ListN.{get_or}
@@ -95,58 +94,58 @@ five h = any_beside (has "IndicesMapToDataType" "CIFTI_INDEX_TYPE_PARCELS")
     (λ e f r. has_same "IndicesMapToDataType" "CIFTI_INDEX_TYPE_PARCELS" r) (map_elements_lem h)
 
 module _ {e f : Element} (h : ModelsReordered e f) where
-  header_reordered : (lengths : List ℕ) (size : ℕ) → conditions_of_header lengths size (some e) ≡ conditions_of_header lengths size (some f)
+  header_reordered : (lengths : List ℕ) (size : ℕ) → conditions_of_header lengths size (Some e) ≡ conditions_of_header lengths size (Some f)
   unfolding conditions_of_header no_document of_maps there is_some
   header_reordered lengths size =
       rw (four h, five h, six h, seven h, eight (maps_twins h) lengths, nine (maps_twins h) lengths) refl
 
-  table_reordered : (room work : ℕ) → conditions_of_table room work (some e) ≡ conditions_of_table room work (some f)
+  table_reordered : (room work : ℕ) → conditions_of_table room work (Some e) ≡ conditions_of_table room work (Some f)
   unfolding conditions_of_table of_maps there
   table_reordered room work =
       let t = maps_twins h in rw (ten t, eleven t, twelve t, thirteen t room work, fourteen t) refl
 
-  labels_reordered : conditions_of_labels (some e) ≡ conditions_of_labels (some f)
+  labels_reordered : conditions_of_labels (Some e) ≡ conditions_of_labels (Some f)
   unfolding conditions_of_labels of_maps there
   labels_reordered = let t = maps_twins h in rw (twenty_four t, twenty_five t) refl
 
   pub refusal_reordered : (lengths : List ℕ) (size room work : ℕ)
-      → refusal lengths size room work (some e) ≡ refusal lengths size room work (some f)
+      → refusal lengths size room work (Some e) ≡ refusal lengths size room work (Some f)
   unfolding refusal conditions
   refusal_reordered lengths size room work = rw (header_reordered lengths size, table_reordered room work, labels_reordered) refl
 
-  answer_by_lem : (number : ℕ) → answer_by number (some e) ≡ answer_by number (some f)
+  answer_by_lem : (number : ℕ) → answer_by number (Some e) ≡ answer_by number (Some f)
   unfolding answer_by maps_in
   answer_by_lem zero = accepted_twins (maps_twins h)
   answer_by_lem (suc n) = refl
 
   pub answer_reordered : (lengths : List ℕ) (room work size : ℕ)
-      → answer_to lengths room work size (some e) ≡ answer_to lengths room work size (some f)
+      → answer_to lengths room work size (Some e) ≡ answer_to lengths room work size (Some f)
   unfolding answer_to
   answer_reordered lengths room work size =
-      rw (refusal_reordered lengths size room work) (answer_by_lem (refusal lengths size room work (some f)))
+      rw (refusal_reordered lengths size room work) (answer_by_lem (refusal lengths size room work (Some f)))
 
   -- where nothing is refused, 11 is not: each index is in one range
-  ranges_right : (lengths : List ℕ) (size room work : ℕ) → refusal lengths size room work (some e) ≡ 0 → ranges_wrong (maps_of e) ≡ false
+  ranges_right : (lengths : List ℕ) (size room work : ℕ) → refusal lengths size room work (Some e) ≡ 0 → ranges_wrong (maps_of e) ≡ false
   unfolding conditions conditions_of_header conditions_of_table conditions_of_labels of_maps there
-  ranges_right lengths size room work z = row_fails (rows_past 10 (refusal_none lengths size room work (some e) z))
+  ranges_right lengths size room work z = row_fails (rows_past 10 (refusal_none lengths size room work (Some e) z))
 
-  records_by_lem : (lengths : List ℕ) (size room work n : ℕ) → refusal lengths size room work (some e) ≡ n → (records : List ℕ)
-      → records_by n (some e) records ≡ records_by n (some f) records
+  records_by_lem : (lengths : List ℕ) (size room work n : ℕ) → refusal lengths size room work (Some e) ≡ n → (records : List ℕ)
+      → records_by n (Some e) records ≡ records_by n (Some f) records
   unfolding records_by maps_in
   records_by_lem lengths size room work zero z records =
       ap (λ s. filled_with s records) (stretches_twins (maps_twins h) (ranges_right lengths size room work z))
   records_by_lem lengths size room work (suc n) z records = refl
 
   pub records_reordered : (lengths records : List ℕ) (work size : ℕ)
-      → records_after lengths records work size (some e) ≡ records_after lengths records work size (some f)
+      → records_after lengths records work size (Some e) ≡ records_after lengths records work size (Some f)
   unfolding records_after
   records_reordered lengths records work size =
-      records_by_lem lengths size (length records) work (refusal lengths size (length records) work (some e)) refl records
-      ∙ ap (λ n. records_by n (some f) records) (refusal_reordered lengths size (length records) work)
+      records_by_lem lengths size (length records) work (refusal lengths size (length records) work (Some e)) refl records
+      ∙ ap (λ n. records_by n (Some f) records) (refusal_reordered lengths size (length records) work)
 
   -- ---- Map names: 18, and the part.
   pub name_refusal_reordered : (lengths : List ℕ) (d i size : ℕ)
-      → name_refusal lengths size d i (some e) ≡ name_refusal lengths size d i (some f)
+      → name_refusal lengths size d i (Some e) ≡ name_refusal lengths size d i (Some f)
   unfolding name_refusal of_maps there
   name_refusal_reordered lengths d i size = rw (header_reordered lengths size, no_name_twins (maps_twins h) d i) refl
 
@@ -157,49 +156,49 @@ module _ {e f : Element} (h : ModelsReordered e f) where
   on_dimension made blind d = lists_beside made blind
       (those_beside (λ m. any (eqb d) (dimensions_of m)) (λ m n r. ap (any (eqb d)) (dimensions_same r)) (map_elements_lem h))
 
-  part_by_lem : (number d i : ℕ) → part_by number d i (some e) ≡ part_by number d i (some f)
+  part_by_lem : (number d i : ℕ) → part_by number d i (Some e) ≡ part_by number d i (Some f)
   unfolding part_by names_on
   part_by_lem zero d i = ap (λ l. get_or l i []) (on_dimension (λ m. each within_of (each_in (children "MapName") (children "NamedMap" m)))
       (λ m n r. ap (λ l. each within_of (each_in (children "MapName") l)) (names_stay r)) d)
   part_by_lem (suc n) d i = refl
 
-  pub name_part_reordered : (lengths : List ℕ) (d i size : ℕ) → name_part lengths size d i (some e) ≡ name_part lengths size d i (some f)
+  pub name_part_reordered : (lengths : List ℕ) (d i size : ℕ) → name_part lengths size d i (Some e) ≡ name_part lengths size d i (Some f)
   unfolding name_part
-  name_part_reordered lengths d i size = rw (name_refusal_reordered lengths d i size) (part_by_lem (name_refusal lengths size d i (some f)) d i)
+  name_part_reordered lengths d i size = rw (name_refusal_reordered lengths d i size) (part_by_lem (name_refusal lengths size d i (Some f)) d i)
 
   -- ---- Labels: 24, 25, 18 and then 17 or 19; the keys, and the part of a name.
-  labels_before : (lengths : List ℕ) (d i size : ℕ) → labels_refusals lengths size d i (some e) ≡ labels_refusals lengths size d i (some f)
+  labels_before : (lengths : List ℕ) (d i size : ℕ) → labels_refusals lengths size d i (Some e) ≡ labels_refusals lengths size d i (Some f)
   unfolding labels_refusals of_maps there
   labels_before lengths d i size = rw (header_reordered lengths size, labels_reordered, no_table_twins (maps_twins h) d i) refl
 
   pub keys_refusal_reordered : (lengths : List ℕ) (d i room size : ℕ)
-      → keys_refusal lengths size d i room (some e) ≡ keys_refusal lengths size d i room (some f)
+      → keys_refusal lengths size d i room (Some e) ≡ keys_refusal lengths size d i room (Some f)
   unfolding keys_refusal keys_short of_maps there
   keys_refusal_reordered lengths d i room size = rw (labels_before lengths d i size, keys_twins (maps_twins h) d i) refl
 
-  keys_by_lem : (number d i : ℕ) → keys_by number d i (some e) ≡ keys_by number d i (some f)
+  keys_by_lem : (number d i : ℕ) → keys_by number d i (Some e) ≡ keys_by number d i (Some f)
   unfolding keys_by maps_in
   keys_by_lem zero d i = keys_twins (maps_twins h) d i
   keys_by_lem (suc n) d i = refl
 
   pub keys_given_reordered : (lengths : List ℕ) (d i room size : ℕ)
-      → keys_given lengths size d i room (some e) ≡ keys_given lengths size d i room (some f)
+      → keys_given lengths size d i room (Some e) ≡ keys_given lengths size d i room (Some f)
   unfolding keys_given
   keys_given_reordered lengths d i room size =
-      rw (keys_refusal_reordered lengths d i room size) (keys_by_lem (keys_refusal lengths size d i room (some f)) d i)
+      rw (keys_refusal_reordered lengths d i room size) (keys_by_lem (keys_refusal lengths size d i room (Some f)) d i)
 
   pub label_refusal_reordered : (lengths : List ℕ) (d i : ℕ) (key : ℤ) (size : ℕ)
-      → label_refusal lengths size d i key (some e) ≡ label_refusal lengths size d i key (some f)
+      → label_refusal lengths size d i key (Some e) ≡ label_refusal lengths size d i key (Some f)
   unfolding label_refusal no_key of_maps there
   label_refusal_reordered lengths d i key size = rw (labels_before lengths d i size, keys_twins (maps_twins h) d i) refl
 
-  label_by_lem : (number d i : ℕ) (key : ℤ) → label_by number d i key (some e) ≡ label_by number d i key (some f)
+  label_by_lem : (number d i : ℕ) (key : ℤ) → label_by number d i key (Some e) ≡ label_by number d i key (Some f)
   unfolding label_by labels_on tables_on
   label_by_lem zero d i key = ap (λ l. get_or (get_or (each (names_with key) l) i []) 0 []) (on_dimension tables_in (λ m n r. tables_same r) d)
   label_by_lem (suc n) d i key = refl
 
   pub label_part_reordered : (lengths : List ℕ) (d i : ℕ) (key : ℤ) (size : ℕ)
-      → label_part lengths size d i key (some e) ≡ label_part lengths size d i key (some f)
+      → label_part lengths size d i key (Some e) ≡ label_part lengths size d i key (Some f)
   unfolding label_part
   label_part_reordered lengths d i key size =
-      rw (label_refusal_reordered lengths d i key size) (label_by_lem (label_refusal lengths size d i key (some f)) d i key)
+      rw (label_refusal_reordered lengths d i key size) (label_by_lem (label_refusal lengths size d i key (Some f)) d i key)

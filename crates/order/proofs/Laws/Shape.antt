@@ -1,9 +1,8 @@
 -- CONDITIONS 6 AND 7 DO NOT SEE THE ORDER of models: no row of CIFTI asks for an order.
-use Rattle.std.specs.Prelude.{◌≡◌, Bool, true, false, ◌&&◌, ◌||◌, ℕ, length}
+use Rattle.std.specs.Prelude.{◌≡◌, Bool, true, false, ◌&&◌, ◌||◌, ℕ, length, Option, Some, None}
 use Rattle.std.proofs.Math.Path.{refl, sym, ap, ap₂}
 use Rattle.std.proofs.Common.{◌∙◌}
 use mathlib.Core.List.{List, [], ◌∷◌}
-use Rattle.std.proofs.Math.Option.{Option, some}
 use Rattle.std.proofs.Math.Bool.{not}
 use Rattle.std.proofs.lemmas.Bool.{false≢true}
 use Prim.Native.String.{String}
@@ -142,8 +141,8 @@ module _ {K : Type 0} (rows : K → Row K) (test : Row K → List Attribute → 
   child_walk under r e f h = rw (kind_same r h) (go (kind_of r f))
     where
       go : (o : Option K) → if_there (λ k. everywhere rows test k e) o ≡ if_there (λ k. everywhere rows test k f) o
-      go Option.none = refl
-      go (some k) = under e f h k
+      go None = refl
+      go (Some k) = under e f h k
 
   walk_map : (e f : Element) → MapReordered e f → (k : K) → everywhere rows test k e ≡ everywhere rows test k f
   walk_map = walk_changed (λ c d r. sorted_unordered r) (λ k c d r. all_permuted (at_child rows test k) (elements_permuted r))

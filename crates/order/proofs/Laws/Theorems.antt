@@ -1,9 +1,8 @@
 -- W11: THE ORDER OF MODELS DOES NOT MATTER. Two texts that pass 2 and 3, the document of the one being that of the other with the models of
 -- its maps in another order, get the same answer, refusals too, for the same lengths and slices lent. Nothing else is asked of them.
-use Rattle.std.specs.Prelude.{◌≡◌, refl, List, ℕ, ◌≤◌, ℤ}
+use Rattle.std.specs.Prelude.{◌≡◌, refl, List, ℕ, ◌≤◌, ℤ, Option, Some}
 use Rattle.std.proofs.Math.Path.{sym, ap}
 use Rattle.std.proofs.Common.{◌∙◌}
-use Rattle.std.proofs.Math.Option.{Option, some}
 use Rattle.std.proofs.Math.ListN.{length}
 use Rattle.grammar.specs.Document.{Element}
 use Rattle.grammar.specs.Grammar.{Writes}
@@ -32,10 +31,10 @@ use Rattle.order.proofs.Laws.Documents.{keys_refusal_reordered, keys_given_reord
 -- ---- A term that sees neither the order of models nor the bytes between the tags nor the size of a text that is not too long.
 
 module _ {A : Type 0} (term : ℕ → Option Element → A) (unseeing : Unseeing term) where
-  of_document : (n : ℕ) (e g : Element) → erased g ≡ erased e → term n (some g) ≡ term n (some e)
-  of_document n e g h = sym (unseeing.bytes n g) ∙ ap (λ x. term n (some x)) (plain_same g e h) ∙ unseeing.bytes n e
+  of_document : (n : ℕ) (e g : Element) → erased g ≡ erased e → term n (Some g) ≡ term n (Some e)
+  of_document n e g h = sym (unseeing.bytes n g) ∙ ap (λ x. term n (Some x)) (plain_same g e h) ∙ unseeing.bytes n e
 
-  answers_reordered : {e f : Element} → ((n : ℕ) → term n (some e) ≡ term n (some f)) → {x y : List ℕ} {a b : A}
+  answers_reordered : {e f : Element} → ((n : ℕ) → term n (Some e) ≡ term n (Some f)) → {x y : List ℕ} {a b : A}
       → WritesDocument (erased e) x → WritesDocument (erased f) y → length x ≤ 16777216 → length y ≤ 16777216
       → Answers x (term (length x)) a → Answers y (term (length y)) b → a ≡ b
   answers_reordered {e} {f} same {x} {y} h k m n r q =
@@ -104,7 +103,7 @@ module _ {e f : Element} (o : ModelsReordered e f) {x y : List ℕ} (h : Writes 
   part_reordered {lengths} {d} {i} r q =
       answers_of r.asked h
       ∙ name_part_reordered o lengths d i (length x)
-      ∙ ap (λ a. part_by a d i (some f)) ((name_unseeing lengths d i).size (length x) (length y) m n f)
+      ∙ ap (λ a. part_by a d i (Some f)) ((name_unseeing lengths d i).size (length x) (length y) m n f)
       ∙ sym (answers_of q.asked k)
 
   pub label_text_reordered : {lengths : List ℕ} {d i : ℕ} {key : ℤ} {s t : List ℕ}
@@ -113,7 +112,7 @@ module _ {e f : Element} (o : ModelsReordered e f) {x y : List ℕ} (h : Writes 
   label_text_reordered {lengths} {d} {i} {key} r q =
       answers_of r.asked h
       ∙ label_part_reordered o lengths d i key (length x)
-      ∙ ap (λ a. label_by a d i key (some f)) ((label_unseeing lengths d i key).size (length x) (length y) m n f)
+      ∙ ap (λ a. label_by a d i key (Some f)) ((label_unseeing lengths d i key).size (length x) (length y) m n f)
       ∙ sym (answers_of q.asked k)
 
 -- ---- EVERY ORDER: for a text that passes 2 and 3 and each other order of its models, a text of as many bytes writes the document in that

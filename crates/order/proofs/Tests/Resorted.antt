@@ -1,7 +1,6 @@
 -- THE RELATION IS NOT EMPTY: three models, a run and another element between them, the first and the last exchanged; and case A of document
 -- 01 with its two models exchanged, as texts.
-use Rattle.std.specs.Prelude.{refl, List, [], ◌∷◌, ◌++◌, ℕ}
-use Rattle.std.proofs.Math.Option.{Option, some}
+use Rattle.std.specs.Prelude.{refl, List, [], ◌∷◌, ◌++◌, ℕ, Option, Some, None}
 use Prim.Native.String.{String}
 use Rattle.lists.specs.Lists.{lists}
 use Rattle.lists.specs.Permuted as P
@@ -54,8 +53,8 @@ turned_a =
 
 -- the root of a document that is there
 abbrev root_in : Option Element → Element
-root_in Option.none = blank_model
-root_in (some e) = e
+root_in None = blank_model
+root_in (Some e) = e
 
 pub case_a_reordered : ModelsReordered (root_in (parse case_a)) (root_in (parse turned_a))
 unfolding computing models_blank is_brain_model looks lists

@@ -27,4 +27,4 @@ module _ {text lengths : List ℕ} {d i : ℕ} where
         let n : r.length ≡ (r.start + r.length) - r.start = omega arith in
         subst (λ (m : ℕ). NamePart text lengths d i (take m (drop r.start text))) n p.named
 
-pub ruleset naming-map = (name_placed, name_number, name_inside, name_part_lem, rules)
+pub ruleset naming_map = (name_placed, name_number, name_inside, name_part_lem, rules)

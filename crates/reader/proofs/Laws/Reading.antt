@@ -1,8 +1,7 @@
 -- THE WHOLE: conditions 1 to 9, then 10 to 14, 24 and 25, then the table and the answer.
-use Rattle.std.specs.Prelude.{◌≡◌, List, [], ◌++◌, cond, ℕ, zero, suc, ◌+◌, eqb, ltb, length, replicate}
+use Rattle.std.specs.Prelude.{◌≡◌, List, [], ◌++◌, cond, ℕ, zero, suc, ◌+◌, eqb, ltb, length, replicate, Some}
 use Rattle.std.proofs.Math.Path.{refl}
 use Rattle.std.proofs.Common.{sym, ap, ◌∙◌, rules}
-use Rattle.std.proofs.Math.Option.{some}
 use borrow.Author.Tests.{ne_eqb, ltb-false}
 use Rattle.lists.specs.Lists.{there, total, greatest}
 use Rattle.lists.proofs.Laws.Booleans.{or_left}
@@ -38,7 +37,7 @@ number_by text lengths records work = first_append (conditions_of_header lengths
     (conditions_of_table (length records) (length work) (parse text) ++ conditions_of_labels (parse text)) refl
 
 later_by : (room work : ℕ) (e : Element)
-    → C.first (conditions_of_table room work (some e) ++ conditions_of_labels (some e)) ≡ table_rule room work (maps_of e)
+    → C.first (conditions_of_table room work (Some e) ++ conditions_of_labels (Some e)) ≡ table_rule room work (maps_of e)
 unfolding conditions_of_table conditions_of_labels of_maps there table_rule
 later_by room work e = refl
 

@@ -221,15 +221,15 @@ module _ (a : Sought) where
   unfolding sought_index
   index_nowhere e = sym (ap sought_index e)
 
-pub ruleset told-numbers = (number_is, number_bad, number_nothing)
+pub ruleset told_numbers = (number_is, number_bad, number_nothing)
 
-pub ruleset told-types = (type_is, type_bad, type_nothing)
+pub ruleset told_types = (type_is, type_bad, type_nothing)
 
-pub ruleset told-structures = (structure_is, structure_bad, structure_nothing)
+pub ruleset told_structures = (structure_is, structure_bad, structure_nothing)
 
-pub ruleset sought-numbers = (sought_at, sought_bad, sought_nowhere)
+pub ruleset sought_numbers = (sought_at, sought_bad, sought_nowhere)
 
-pub ruleset sought-indices = (index_at, index_bad, index_nowhere)
+pub ruleset sought_indices = (index_at, index_bad, index_nowhere)
 
 -- ---- Making.
 

@@ -1,8 +1,7 @@
 -- The turns of the functions on attributes, and an element's own part.
-use Rattle.std.specs.Prelude.{◌≡◌, refl, List, Bool, true, false, not}
+use Rattle.std.specs.Prelude.{◌≡◌, refl, List, Bool, true, false, not, Option, Some, None, ℕ}
 use Rattle.std.proofs.Math.Path.{ap, sym}
 use Rattle.std.proofs.Common.{◌∙◌, arith}
-use Rattle.std.proofs.Math.Option.{Option, some}
 use Prim.Native.Nat.{ℕ, zero, suc, ◌+◌, ◌-◌, ◌<◌, ◌≤◌}
 use borrow.Author.Tests.{not-true, not-false}
 use Rattle.lists.specs.Lists.{all, count_up, there, if_there}
@@ -17,8 +16,6 @@ use Rattle.nodes.specs.Attributes.{place, keys}
 use Rattle.nodes.proofs.Laws.AttributesSteps.{Held, missing, held, lookup_is, attribute_law}
 use Rattle.nodes.specs.Values.{value_there}
 use Rattle.nodes.proofs.Laws.NextBytes.{value_law}
-use Rattle.nodes.specs.declared.Found.{Found}
-use Rattle.nodes.specs.declared.Found.TheVariants.{At, Nothing}
 use Rattle.schema.specs.Table.{word_at, form_at, kind_cell, attribute_cell, attribute_by, attribute_at, attributes_of_kind, attributes_from}
 use Rattle.schema.specs.Table.{attributes_to, text_at}
 use Rattle.schema.specs.Faults.{fault, sooner}
@@ -34,52 +31,52 @@ value_in_law : {text : List ℕ} {at : ℕ} (s : String) → Stands text at
 value_in_law {text} {at} s st = rw (← lookup_is s (attributes_of (the text at))) (attribute_law (ascii s) st)
 
 -- what the reader of attributes found is what the document has
-module _ {text : List ℕ} {at : ℕ} (st : Stands text at) (s : String) {x : List ℕ} (ex : x ≡ ascii s) {f : Found} (a : f ≡ place text at x)
+module _ {text : List ℕ} {at : ℕ} (st : Stands text at) (s : String) {x : List ℕ} (ex : x ≡ ascii s) {f : Option ℕ} (a : f ≡ place text at x)
   where
     found : Held text f (value_in s (attributes_of (the text at)))
     found = rw (a, ex) (value_in_law s st)
 
-    pub found_none : f ≡ Nothing → value_in s (attributes_of (the text at)) ≡ Option.none
+    pub found_none : f ≡ None → value_in s (attributes_of (the text at)) ≡ None
     found_none e = go (rw e at found)
       where
-        go : {o : Option Word} → Held text Nothing o → o ≡ Option.none
+        go : {o : Option Word} → Held text None o → o ≡ None
         go missing = refl
 
-    pub found_some : {v : ℕ} → f ≡ At v → value_in s (attributes_of (the text at)) ≡ some (value_there text v)
+    pub found_some : {v : ℕ} → f ≡ Some v → value_in s (attributes_of (the text at)) ≡ Some (value_there text v)
     found_some {v} e = go (rw e at found)
       where
-        go : {o : Option Word} → Held text (At v) o → o ≡ some (value_there text v)
-        go (held x) = ap some (sym (value_law x))
+        go : {o : Option Word} → Held text (Some v) o → o ≡ Some (value_there text v)
+        go (held x) = ap Some (sym (value_law x))
 
 -- AN ATTRIBUTE'S FAULT
 module _ (l : List Attribute) (s : String) (f : Form) where
-  there_shaped : (n : ℕ) {v : Word} → value_in s l ≡ some v → attribute_shaped l (attribute_by n s f) ≡ is_word f v
+  there_shaped : (n : ℕ) {v : Word} → value_in s l ≡ Some v → attribute_shaped l (attribute_by n s f) ≡ is_word f v
   unfolding attribute_shaped attribute_by there if_there
   there_shaped zero e = rw e
   there_shaped (suc n) e = rw e
 
-  there_numbered : (n : ℕ) {v : Word} → value_in s l ≡ some v → attribute_numbered l (attribute_by n s f) ≡ is_number f v
+  there_numbered : (n : ℕ) {v : Word} → value_in s l ≡ Some v → attribute_numbered l (attribute_by n s f) ≡ is_number f v
   unfolding attribute_numbered attribute_by if_there
   there_numbered zero e = rw e
   there_numbered (suc n) e = rw e
 
-  none_needed : (n : ℕ) → n ≡ 0 → value_in s l ≡ Option.none
+  none_needed : (n : ℕ) → n ≡ 0 → value_in s l ≡ None
       → 6 ≡ fault (attribute_shaped l (attribute_by n s f)) (attribute_numbered l (attribute_by n s f))
   unfolding attribute_shaped attribute_numbered attribute_by there if_there fault
   none_needed n z e = rw (z, e)
 
-  none_free : (n : ℕ) → (n ≡ 0 → ⊥) → value_in s l ≡ Option.none
+  none_free : (n : ℕ) → (n ≡ 0 → ⊥) → value_in s l ≡ None
       → 0 ≡ fault (attribute_shaped l (attribute_by n s f)) (attribute_numbered l (attribute_by n s f))
   unfolding attribute_shaped attribute_numbered attribute_by if_there fault
   none_free zero z e = absurd (z refl)
   none_free (suc n) z e = rw e
 
 module _ (t l : List ℕ) {text : List ℕ} {at a : ℕ} (p : Known text at a) {c : ℕ} (ce : c ≡ attribute_cell t a 0) {x : List ℕ}
-    (ex : x ≡ ascii (word_at t l c)) {f : Found} (pl : f ≡ place text at x) where
+    (ex : x ≡ ascii (word_at t l c)) {f : Option ℕ} (pl : f ≡ place text at x) where
   spelt : x ≡ ascii (word_at t l (attribute_cell t a 0))
   spelt = ex ∙ rw ce
 
-  module _ (e : f ≡ Nothing) {n : ℕ} (ne : n ≡ attribute_cell t a 2) where
+  module _ (e : f ≡ None) {n : ℕ} (ne : n ≡ attribute_cell t a 2) where
     pub attribute_missing : n ≡ 0 → 6 ≡ attribute_fault t l a (the text at)
     unfolding attribute_at
     attribute_missing z = none_needed _ _ _ (attribute_cell t a 2) (sym ne ∙ z) (found_none p.stands _ spelt pl e)
@@ -88,7 +85,7 @@ module _ (t l : List ℕ) {text : List ℕ} {at a : ℕ} (p : Known text at a) {
     unfolding attribute_at
     attribute_spared z = none_free _ _ _ (attribute_cell t a 2) (λ q. z (ne ∙ q)) (found_none p.stands _ spelt pl e)
 
-  pub attribute_there : {v : ℕ} → f ≡ At v → {g r : ℕ} → g ≡ attribute_cell t a 1 → r ≡ value_fault t l g (value_there text v)
+  pub attribute_there : {v : ℕ} → f ≡ Some v → {g r : ℕ} → g ≡ attribute_cell t a 1 → r ≡ value_fault t l g (value_there text v)
       → r ≡ attribute_fault t l a (the text at)
   unfolding attribute_at
   attribute_there {v} e {g} i k =

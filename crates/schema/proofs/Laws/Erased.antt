@@ -1,9 +1,8 @@
 -- The walk does not look at the bytes between the tags as written: it answers the same on the document without them.
-use Rattle.std.specs.Prelude.{◌≡◌, Bool, ◌&&◌, ℕ}
+use Rattle.std.specs.Prelude.{◌≡◌, Bool, ◌&&◌, ℕ, Option, Some, None}
 use Rattle.std.proofs.Math.Path.{refl}
 use Rattle.std.proofs.Common.{ap, ap₂, ◌∙◌}
 use mathlib.Core.List.{List, [], ◌∷◌}
-use Rattle.std.proofs.Math.Option.{Option, some}
 use Prim.Native.String.{String}
 use Rattle.lists.specs.Lists.{all, any, count, each, is_some, if_there}
 use Rattle.lists.proofs.Laws.Lists.{any_same, all_same, count_same, any_each, all_each, count_each, length_each}
@@ -99,8 +98,8 @@ module _ {K : Type 0} (rows : K → Row K) (test : Row K → List Attribute → 
   child_same : (e : Element) → ((k : K) → everywhere rows test k (plain e) ≡ everywhere rows test k e)
       → (o : Option K) → if_there (λ k. everywhere rows test k (plain e)) o ≡ if_there (λ k. everywhere rows test k e) o
   unfolding if_there
-  child_same e h Option.none = refl
-  child_same e h (some k) = h k
+  child_same e h None = refl
+  child_same e h (Some k) = h k
 
   mutual
     unfolding everywhere plain

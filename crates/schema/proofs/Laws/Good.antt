@@ -1,9 +1,8 @@
 -- A DOCUMENT THAT PASSES BOTH TESTS OF THE WALK, going down: what each element of a kind is then known to hold.
-use Rattle.std.specs.Prelude.{◌≡◌, Bool, ◌&&◌, cond, ℕ, ◌+◌, ◌<◌, length, get_or}
+use Rattle.std.specs.Prelude.{◌≡◌, Bool, ◌&&◌, cond, ℕ, ◌+◌, ◌<◌, length, get_or, Option, Some, None}
 use Rattle.std.proofs.Math.Path.{refl}
 use Rattle.std.proofs.Common.{sym, ◌∙◌, arith}
 use mathlib.Core.List.{List, [], ◌∷◌}
-use Rattle.std.proofs.Math.Option.{Option, some}
 use Rattle.std.proofs.Math.Bool.{true, false}
 use Rattle.std.proofs.lemmas.Bool.{false≢true}
 use Prim.Native.String.{String}
@@ -24,7 +23,7 @@ use Rattle.schema.specs.Good.{Good, One}
 
 -- a child that its parent's rows know, good as what they take it for
 pub data GoodAs {K : Type 0} (rows : K → Row K) (r : List (ChildRow K)) (e : Element) : Type 0 where
-  good_as : {k : K} → kind_of r e ≡ some k → Good rows k e → GoodAs rows r e
+  good_as : {k : K} → kind_of r e ≡ Some k → Good rows k e → GoodAs rows r e
 
 pub data AllGood {K : Type 0} (rows : K → Row K) (r : List (ChildRow K)) : List Element → Type 0 where
   none_left : AllGood rows r []
@@ -57,8 +56,8 @@ module _ {K : Type 0} {rows : K → Row K} where
     where
       go : (o : Option K) → kind_of r e ≡ o → is_some o ≡ true → if_there (λ k. everywhere rows shaped k e) o ≡ true
           → if_there (λ k. everywhere rows numbered k e) o ≡ true → GoodAs rows r e
-      go Option.none q a b c = absurd (false≢true a)
-      go (some k) q a b c = good_as q (record { shape = b; number = c })
+      go None q a b c = absurd (false≢true a)
+      go (Some k) q a b c = good_as q (record { shape = b; number = c })
 
   all_good_lem : (r : List (ChildRow K)) (l : List Element) → all (λ e. is_some (kind_of r e)) l ≡ true
       → all (at_child rows shaped r) l ≡ true → all (at_child rows numbered r) l ≡ true → AllGood rows r l
@@ -108,8 +107,8 @@ unfolding attribute_shaped attribute_numbered is_word is_number there if_there o
 required_number l s p h n = go (value_in s l) h n
   where
     go : (o : Option Word) → there (λ w. true) o ≡ true → if_there p o ≡ true → p (or_empty o) ≡ true
-    go Option.none a b = absurd (false≢true a)
-    go (some v) a b = b
+    go None a b = absurd (false≢true a)
+    go (Some v) a b = b
 
 pub required_word : (l : List Attribute) (s : String) (ws : List String) → attribute_shaped l (required s (word ws)) ≡ true
     → any (λ x. is x (or_empty (value_in s l))) ws ≡ true
@@ -117,8 +116,8 @@ unfolding attribute_shaped is_word there or_empty
 required_word l s ws h = go (value_in s l) h
   where
     go : (o : Option Word) → there (λ w. any (λ x. is x w) ws) o ≡ true → any (λ x. is x (or_empty o)) ws ≡ true
-    go Option.none a = absurd (false≢true a)
-    go (some v) a = a
+    go None a = absurd (false≢true a)
+    go (Some v) a = a
 
 -- ---- A row's attributes by place: what is known of the i-th.
 

@@ -1,5 +1,5 @@
 -- Attributes by their names: every one is listed. The walk over keys is that of nodes.
-use Rattle.std.specs.Prelude.{◌≡◌, refl, List, ℕ, zero, suc, ◌+◌, ◌-◌, ◌≤◌, ◌<◌, Bool, true, false, not, ◌&&◌, ◌||◌, ltb, length, drop}
+use Rattle.std.specs.Prelude.{◌≡◌, refl, List, ℕ, zero, suc, ◌+◌, ◌-◌, ◌≤◌, ◌<◌, Bool, true, false, not, ◌&&◌, ◌||◌, ltb, length, drop, Option, Some, None}
 use Rattle.std.proofs.Common.{ap, ◌∙◌, rules}
 use Rattle.std.proofs.Math.Path.{sym}
 use Prim.Native.String.{String}
@@ -13,10 +13,7 @@ use Rattle.steps.specs.Noted.{part}
 use Rattle.steps.specs.Keys as tokens-keys
 use Rattle.steps.proofs.Laws.Keys as laws-of-tokens-keys
 use Rattle.steps.specs.Keys.{keyed}
-use Rattle.steps.specs.declared.Step.{Step}
-use Rattle.steps.specs.declared.Step.TheVariants.{To, No}
 use Rattle.steps.specs.declared.attributes.Key as token-key
-use Rattle.steps.specs.declared.attributes.Key.TheVariants as key_is
 use Rattle.nodes.specs.Places.{Stands, the}
 use Rattle.nodes.specs.Attributes.{Key, keys_at_lem, keys}
 use Rattle.nodes.proofs.Laws.AttributesSteps.{Hold, no_key, one_key, keys_law}
@@ -69,43 +66,43 @@ module _ {r : List AttributeRow} {text : List ℕ} {at i : ℕ} (go : Listing r 
     unfolding all
     listing_end e = stops (rw (keys_end text i eb (not-false b e)))
 
-    module _ (goes : not b ≡ true) {k : token-key.Key} (ek : k ≡ keyed (length text) (tokens-keys.key_at (drop i text))) where
+    module _ (goes : not b ≡ true) {k : Option token-key.Key} (ek : k ≡ keyed (length text) (tokens-keys.key_at (drop i text))) where
       on : b ≡ false
       on = not-true b goes
 
-      pub listing_none : k ≡ key_is.No → AllListed r text at true i
+      pub listing_none : k ≡ None → AllListed r text at true i
       unfolding all
       listing_none z = stops (rw (keys_none text i eb on ek z))
 
-      module _ {from to end : ℕ} (z : k ≡ key_is.Is from to end) {o : Bool} (eo : o ≡ name_listed r (part from to text)) where
+      module _ {spot : token-key.Key} (z : k ≡ Some spot) {o : Bool} (eo : o ≡ name_listed r (part spot.from spot.to text)) where
         pub listing_other : not o ≡ true → AllListed r text at false i
         unfolding all key_listed
         listing_other h = stops (rw (keys_more text i eb on ek z, sym eo ∙ not-true o h))
 
-        module _ (h : not o ≡ false) {x : Step} (ex : x ≡ stepped (length text) (value_at (drop end text))) where
-          pub listing_stuck : x ≡ No → AllListed r text at true i
+        module _ (h : not o ≡ false) {x : Option ℕ} (ex : x ≡ stepped (length text) (value_at (drop spot.end text))) where
+          pub listing_stuck : x ≡ None → AllListed r text at true i
           unfolding all key_listed
           listing_stuck w = stops (rw (keys_stuck text i eb on ek z ex w, sym eo ∙ not-false o h))
 
-          pub listing_on : {j : ℕ} → x ≡ To j → Listing r text at j
+          pub listing_on : {j : ℕ} → x ≡ Some j → Listing r text at j
           unfolding all key_listed
           listing_on w = record {
             same_all = go.same_all ∙ rw (keys_go text i eb on ek z ex w, sym eo ∙ not-false o h);
             same_tag = go.same_tag ∙ keys_tag text i eb on ek z ex w;
           }
 
-pub listing_less : (text : List ℕ) (i : ℕ) {b : Bool} → b ≡ ends closing (drop i text) → not b ≡ true → {k : token-key.Key}
+pub listing_less : (text : List ℕ) (i : ℕ) {b : Bool} → b ≡ ends closing (drop i text) → not b ≡ true → {k : Option token-key.Key}
     → k ≡ keyed (length text) (tokens-keys.key_at (drop i text))
-    → {from to end : ℕ} → k ≡ key_is.Is from to end → {x : Step} → x ≡ stepped (length text) (value_at (drop end text)) → {j : ℕ}
-    → x ≡ To j → length text - j < length text - i
+    → {spot : token-key.Key} → k ≡ Some spot → {x : Option ℕ} → x ≡ stepped (length text) (value_at (drop spot.end text)) → {j : ℕ}
+    → x ≡ Some j → length text - j < length text - i
 listing_less text i {b} eb on ek z ex w = keys_fall text i eb (not-true b on) ek z ex w
 
-pub key_ahead : (text : List ℕ) (i : ℕ) {k : token-key.Key} → k ≡ keyed (length text) (tokens-keys.key_at (drop i text))
-    → {from to end : ℕ} → k ≡ key_is.Is from to end → from ≤ to
+pub key_ahead : (text : List ℕ) (i : ℕ) {k : Option token-key.Key} → k ≡ keyed (length text) (tokens-keys.key_at (drop i text))
+    → {spot : token-key.Key} → k ≡ Some spot → spot.from ≤ spot.to
 key_ahead text i ek z = let f = laws-of-tokens-keys.key_found text i ek z in f.name.ahead f.gap.inside
 
-pub key_inside : (text : List ℕ) (i : ℕ) {k : token-key.Key} → k ≡ keyed (length text) (tokens-keys.key_at (drop i text))
-    → {from to end : ℕ} → k ≡ key_is.Is from to end → to ≤ length text
+pub key_inside : (text : List ℕ) (i : ℕ) {k : Option token-key.Key} → k ≡ keyed (length text) (tokens-keys.key_at (drop i text))
+    → {spot : token-key.Key} → k ≡ Some spot → spot.to ≤ length text
 key_inside text i ek z = (laws-of-tokens-keys.key_found text i ek z).name.inside
 
 pub ruleset listing = (

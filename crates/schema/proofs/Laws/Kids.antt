@@ -1,8 +1,7 @@
 -- The fault of an element's children, and of the whole: the frame first.
-use Rattle.std.specs.Prelude.{◌≡◌, refl, List, [], ◌∷◌, true, false, ℕ}
+use Rattle.std.specs.Prelude.{◌≡◌, refl, List, [], ◌∷◌, true, false, ℕ, Some, None}
 use Rattle.std.proofs.Common.{ap, ◌∙◌}
 use Rattle.std.proofs.Math.Path.{sym}
-use Rattle.std.proofs.Math.Option.{Option, some}
 use Rattle.lists.specs.Lists.{all, if_there, is_some}
 use Rattle.grammar.specs.Document.{Element}
 use Rattle.grammar.specs.Look.{elements, contents_of}
@@ -25,12 +24,12 @@ pub kids_none : (t l : List ℕ) (k : ℕ) → kids_fault t l k [] ≡ 0
 unfolding kids_fault all fault
 kids_none t l k = refl
 
-pub kids_stranger : (t l : List ℕ) (k : ℕ) (e : Element) (es : List Element) → kind_of (lines_of_kind t l k) e ≡ Option.none
+pub kids_stranger : (t l : List ℕ) (k : ℕ) (e : Element) (es : List Element) → kind_of (lines_of_kind t l k) e ≡ None
     → kids_fault t l k (e ∷ es) ≡ 6
 unfolding kids_fault kid_shaped all is_some fault
 kids_stranger t l k e es h = rw h
 
-pub kids_one : (t l : List ℕ) (k : ℕ) (e : Element) (es : List Element) (c : ℕ) → kind_of (lines_of_kind t l k) e ≡ some c
+pub kids_one : (t l : List ℕ) (k : ℕ) (e : Element) (es : List Element) (c : ℕ) → kind_of (lines_of_kind t l k) e ≡ Some c
     → kids_fault t l k (e ∷ es) ≡ sooner (fault_of t l c e) (kids_fault t l k es)
 unfolding kids_fault kid_shaped all is_some at_child if_there fault_of
 kids_one t l k e es c h =

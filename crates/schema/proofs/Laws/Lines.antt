@@ -1,8 +1,7 @@
 -- The turns of the functions on the lines of children.
-use Rattle.std.specs.Prelude.{◌≡◌, List, Bool, leb, ltb, length, drop}
+use Rattle.std.specs.Prelude.{◌≡◌, List, Bool, leb, ltb, length, drop, Option, Some, None, ℕ}
 use Rattle.std.proofs.Math.Path.{refl, sym}
 use Rattle.std.proofs.Common.{ap, ◌∙◌, drop-drop, rules}
-use Rattle.std.proofs.Math.Option.{Option, some}
 use Rattle.std.proofs.Math.Bool.{true, false, not, cond}
 use Prim.Native.Nat.{ℕ, zero, suc, ◌+◌, ◌-◌, ◌<◌, ◌≤◌}
 use Prim.Native.String.{String}
@@ -19,16 +18,12 @@ use Rattle.steps.specs.Step.{stepped, Went}
 use Rattle.steps.proofs.Laws.Step.{fell, went}
 use Rattle.steps.proofs.Laws.Leaves.{name_tails}
 use Rattle.steps.specs.Noted.{part}
-use Rattle.steps.specs.declared.Step.{Step}
-use Rattle.steps.specs.declared.Step.TheVariants.{To, No}
 use Rattle.schema.specs.Schema.{Case, row_place, kind_of, kind_by, kind_chosen, kind_among, or_else}
 use Rattle.nodes.specs.Places.{Stands, the}
 use Rattle.nodes.proofs.Laws.ReadSteps.{spelled}
 use Rattle.nodes.proofs.Laws.Names.{ending_name}
 use Rattle.nodes.specs.Attributes.{place}
 use Rattle.nodes.specs.Values.{value_there}
-use Rattle.nodes.specs.declared.Found.{Found}
-use Rattle.nodes.specs.declared.Found.TheVariants.{At, Nothing}
 use Rattle.nodes.proofs.Laws.Names.{part_is}
 use Rattle.schema.specs.Words.{number_in}
 use Rattle.schema.specs.Table.{word_at, entry_word, line_cell, choice_cell, case_cell, case_at, cases_of, choice_by, line_at, lines_of_kind}
@@ -50,17 +45,17 @@ module _ {text : List ℕ} {at : ℕ} (st : Stands text at) where
   pub name_place : at + 1 ≤ length text
   name_place = let h = st.here in omega arith
 
-  module _ {x : Step} (ex : x ≡ stepped (length text) (name_at (drop (at + 1) text))) where
-    walked : {e : ℕ} → x ≡ To e → Went name_at text (at + 1) e
+  module _ {x : Option ℕ} (ex : x ≡ stepped (length text) (name_at (drop (at + 1) text))) where
+    walked : {e : ℕ} → x ≡ Some e → Went name_at text (at + 1) e
     walked {e} w = went name_at text (at + 1) e (name_tails (drop (at + 1) text)) (sym w ∙ ex)
 
-    pub name_ahead : {e : ℕ} → x ≡ To e → at + 1 ≤ e
+    pub name_ahead : {e : ℕ} → x ≡ Some e → at + 1 ≤ e
     name_ahead w = (walked w).ahead name_place
 
-    pub name_inside : {e : ℕ} → x ≡ To e → e ≤ length text
+    pub name_inside : {e : ℕ} → x ≡ Some e → e ≤ length text
     name_inside w = (walked w).inside
 
-    pub name_there : {e : ℕ} → x ≡ To e → {r : List ℕ} → r ≡ part (at + 1) e text → r ≡ name_of (the text at)
+    pub name_there : {e : ℕ} → x ≡ Some e → {r : List ℕ} → r ≡ part (at + 1) e text → r ≡ name_of (the text at)
     name_there w k =
         let o = walked w in
         let a = o.reads in
@@ -68,13 +63,13 @@ module _ {text : List ℕ} {at : ℕ} (st : Stands text at) where
         let z : o.value ≡ name_of (the text at) = cc in
         k ∙ part_is o name_place ∙ z
 
-    pub name_never : x ≡ No → {r : List ℕ} → r ≡ name_of (the text at)
+    pub name_never : x ≡ None → {r : List ℕ} → r ≡ name_of (the text at)
     name_never w =
         let f = fell (length text) (name_at (drop (at + 1) text)) (sym w ∙ ex) in
         let b = named_reads.1 in
         let z : ◌≡◌ {A = ℕ} 0 1 = cc in absurd (omega arith)
 
-pub ruleset naming-element = (name_place, name_ahead, name_inside, name_there, name_never, rules)
+pub ruleset naming_element = (name_place, name_ahead, name_inside, name_there, name_never, rules)
 
 -- THE LINE OF A CHILD
 place_is : (t l : List ℕ) (e : Element) (n i : ℕ) → row_place (count_up (line_at t l) i n) e ≡ line_place t l (name_of e) i n
@@ -110,11 +105,11 @@ module _ (f : ℕ → String) (w : Word) where
           rw z (g (omega arith))
 
 -- A CHOSEN KIND
-pub kind_some : (c : ℕ) → c < 4294967296 → kind_or_none c ≡ some c
+pub kind_some : (c : ℕ) → c < 4294967296 → kind_or_none c ≡ Some c
 unfolding kind_or_none
 kind_some c h = rw (lt-ltb c 4294967296 h)
 
-pub kind_none : (c : ℕ) → 4294967296 ≤ c → kind_or_none c ≡ Option.none
+pub kind_none : (c : ℕ) → 4294967296 ≤ c → kind_or_none c ≡ None
 unfolding kind_or_none
 kind_none c h = rw (le-ltb c 4294967296 h)
 
@@ -144,21 +139,21 @@ module _ {t l : List ℕ} {x : Word} {from to i : ℕ} (go : Choosing t l x from
     unfolding kind_among case_at
     choosing_on o = record { same_kind = go.same_kind ∙ rw (up_one (case_at t l) i to h, sym said ∙ o) }
 
-pub ruleset choosing-kind = (choosing_start, choosing_end, choosing_hit, choosing_on, rules)
+pub ruleset choosing_kind = (choosing_start, choosing_end, choosing_hit, choosing_on, rules)
 
 module _ (t l : List ℕ) {text : List ℕ} {at c : ℕ} (p : Known text at c) {w : ℕ} (ew : w ≡ choice_cell t c 0) {x : List ℕ}
-    (ex : x ≡ ascii (word_at t l w)) {f : Found} (a : f ≡ place text at x) where
+    (ex : x ≡ ascii (word_at t l w)) {f : Option ℕ} (a : f ≡ place text at x) where
   abbrev by_choice : Option ℕ
   by_choice = kind_chosen (cases_of t l c) (value_in (word_at t l (choice_cell t c 0)) (attributes_of (the text at)))
 
   spelt : x ≡ ascii (word_at t l (choice_cell t c 0))
   spelt = ex ∙ rw ew
 
-  pub chosen_missing : f ≡ Nothing → kind_or_none 4294967296 ≡ by_choice
+  pub chosen_missing : f ≡ None → kind_or_none 4294967296 ≡ by_choice
   unfolding kind_chosen
   chosen_missing e = kind_none 4294967296 (omega arith) ∙ rw (found_none p.stands (word_at t l (choice_cell t c 0)) spelt a e)
 
-  pub chosen_there : {v : ℕ} → f ≡ At v → {from : ℕ} → from ≡ choice_cell t c 1 → {to : ℕ} → to ≡ choice_cell t c 2
+  pub chosen_there : {v : ℕ} → f ≡ Some v → {from : ℕ} → from ≡ choice_cell t c 1 → {to : ℕ} → to ≡ choice_cell t c 2
       → (r : ℕ) → kind_or_none r ≡ kind_among (count_up (case_at t l) from (to - from)) (value_there text v) → kind_or_none r ≡ by_choice
   unfolding kind_chosen cases_of
   chosen_there e g h r k = k ∙ rw (found_some p.stands (word_at t l (choice_cell t c 0)) spelt a e, g, h)
@@ -221,7 +216,7 @@ module _ (t l : List ℕ) {text : List ℕ} {at line : ℕ} (p : Known text at l
   unfolding which_at
   line_chosen h k q r u = u ∙ rw q (sym (rw (← ec) (which_chosen t l c (line_cell t line 3) (the text at) h)))
 
-pub ruleset of-line = (line_always, line_choice, line_small, line_chosen, known_small, rules)
+pub ruleset of_line = (line_always, line_choice, line_small, line_chosen, known_small, rules)
 
 -- IN TURN
 module _ (t : List ℕ) {kind from line : ℕ} (p : TurnAsked kind from line) {o : ℕ} (e : o ≡ kind_cell t kind 5) where
@@ -256,19 +251,19 @@ pub ruleset turning = (turn_free, turn_tested, turning_known, turning_behind, ru
 -- THE KIND OF A CHILD
 kind_place_lem : (t l : List ℕ) (e : Element) (n i : ℕ)
     → kind_of (count_up (line_at t l) i n) e
-    ≡ cond (ltb (line_place t l (name_of e) i n) n) (kind_by (which_at t l (i + line_place t l (name_of e) i n)) e) Option.none
+    ≡ cond (ltb (line_place t l (name_of e) i n) n) (kind_by (which_at t l (i + line_place t l (name_of e) i n)) e) None
 unfolding kind_of count_up line_at number_in entry_word
 kind_place_lem t l e zero i = refl
 kind_place_lem t l e (suc n) i =
     go (is (word_at t l (line_cell t i 0)) (name_of e)) (line_place t l (name_of e) (suc i) n) (kind_place_lem t l e n (suc i))
   where
-    go : (b : Bool) (p : ℕ) → kind_of (count_up (line_at t l) (suc i) n) e ≡ cond (ltb p n) (kind_by (which_at t l (suc i + p)) e) Option.none
+    go : (b : Bool) (p : ℕ) → kind_of (count_up (line_at t l) (suc i) n) e ≡ cond (ltb p n) (kind_by (which_at t l (suc i + p)) e) None
         → cond b (kind_by (which_at t l i) e) (kind_of (count_up (line_at t l) (suc i) n) e)
-        ≡ cond (ltb (cond b 0 (suc p)) (suc n)) (kind_by (which_at t l (i + cond b 0 (suc p))) e) Option.none
+        ≡ cond (ltb (cond b 0 (suc p)) (suc n)) (kind_by (which_at t l (i + cond b 0 (suc p))) e) None
     go true p h = let z : i + 0 ≡ i = omega arith in rw (z, lt-ltb 0 (suc n) (omega arith))
     go false p h = let z : i + suc p ≡ suc i + p = omega arith in h ∙ rw (z, less_suc p n)
 
-none_either : {A : Type 0} (b : Bool) → ◌≡◌ {A = Option A} (cond b Option.none Option.none) Option.none
+none_either : {A : Type 0} (b : Bool) → ◌≡◌ {A = Option A} (cond b None None) None
 none_either true = refl
 none_either false = refl
 
@@ -287,11 +282,11 @@ module _ {t l text : List ℕ} {at kind from line to : ℕ} (p : Lined t l text 
       let z : line - from ≡ line_place t l (name_of (the text at)) from (to - from) = omega arith in
       rw (← p.starts, ← p.ends, z) (place_is t l (the text at) (to - from) from)
 
-  kind_is : kind_of (lines_of_kind t l kind) (the text at) ≡ cond (ltb spot (to - from)) (kind_by (which_at t l line) (the text at)) Option.none
+  kind_is : kind_of (lines_of_kind t l kind) (the text at) ≡ cond (ltb spot (to - from)) (kind_by (which_at t l line) (the text at)) None
   unfolding lines_of_kind spot
   kind_is = rw (at_line, ← p.starts, ← p.ends) (kind_place_lem t l (the text at) (to - from) from)
 
-  pub lined_none : to ≤ line → (last : ℕ) → kind_next t l kind last (the text at) ≡ Option.none
+  pub lined_none : to ≤ line → (last : ℕ) → kind_next t l kind last (the text at) ≡ None
   unfolding kind_next
   lined_none h last =
       let z : to - from ≤ spot = omega (arith, at_line) in
@@ -330,4 +325,4 @@ module _ {t l text : List ℕ} {at kind from line to : ℕ} (p : Lined t l text 
       unfolding kind_next
       child_some k r q = record { is_kind = q ∙ sym (rw (turn_is, k) (kind_is ∙ rw (lt-ltb spot (to - from) inside))); inside = λ _. h }
 
-pub ruleset of-child = (child_none, child_turning, child_of_line, child_late, child_some, rules)
+pub ruleset of_child = (child_none, child_turning, child_of_line, child_late, child_some, rules)

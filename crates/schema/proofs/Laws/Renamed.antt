@@ -1,9 +1,8 @@
 -- Rows over other names of kinds say the same.
-use Rattle.std.specs.Prelude.{◌≡◌, Bool, ◌&&◌, ℕ, suc}
+use Rattle.std.specs.Prelude.{◌≡◌, Bool, ◌&&◌, ℕ, suc, Option, Some, None}
 use Rattle.std.proofs.Math.Path.{refl, ap}
 use Rattle.std.proofs.Common.{ap₂, ◌∙◌}
 use mathlib.Core.List.{List, [], ◌∷◌}
-use Rattle.std.proofs.Math.Option.{Option, some}
 use Rattle.std.proofs.Math.Bool.{cond, true, false}
 use Rattle.lists.specs.Lists.{each, is_some, if_there}
 use Rattle.lists.proofs.Laws.Lists.{all_same, all_each, each_each, each_same}
@@ -16,8 +15,8 @@ use Rattle.schema.specs.Schema.{child_shaped, row_place, in_order_of, orderly, c
 
 module _ {J K : Type 0} (f : J → K) where
   some_named : Option J → Option K
-  some_named Option.none = Option.none
-  some_named (some k) = some (f k)
+  some_named None = None
+  some_named (Some k) = Some (f k)
 
   among_named : (l : List (Case J)) (v : Word) → kind_among (each (case_named f) l) v ≡ some_named (kind_among l v)
   unfolding kind_among case_named each some_named
@@ -25,19 +24,19 @@ module _ {J K : Type 0} (f : J → K) where
   among_named (s ⇒ k ∷ l) v = go (is s v) (among_named l v)
     where
       go : (b : Bool) → kind_among (each (case_named f) l) v ≡ some_named (kind_among l v)
-          → cond b (some (f k)) (kind_among (each (case_named f) l) v) ≡ some_named (cond b (some k) (kind_among l v))
+          → cond b (Some (f k)) (kind_among (each (case_named f) l) v) ≡ some_named (cond b (Some k) (kind_among l v))
       go true h = refl
       go false h = h
 
   chosen_named : (l : List (Case J)) (o : Option Word) → kind_chosen (each (case_named f) l) o ≡ some_named (kind_chosen l o)
   unfolding kind_chosen some_named
-  chosen_named l Option.none = refl
-  chosen_named l (some v) = among_named l v
+  chosen_named l None = refl
+  chosen_named l (Some v) = among_named l v
 
   else_named : (k : J) (o : Option J) → or_else (f k) (some_named o) ≡ some_named (or_else k o)
   unfolding or_else some_named
-  else_named k Option.none = refl
-  else_named k (some j) = refl
+  else_named k None = refl
+  else_named k (Some j) = refl
 
   by_named : (w : Which J) (e : Element) → kind_by (which_named f w) e ≡ some_named (kind_by w e)
   unfolding kind_by which_named some_named
@@ -59,8 +58,8 @@ module _ {J K : Type 0} (f : J → K) where
 
   some_same : (o : Option J) → is_some (some_named o) ≡ is_some o
   unfolding is_some some_named
-  some_same Option.none = refl
-  some_same (some k) = refl
+  some_same None = refl
+  some_same (Some k) = refl
 
   child_named_lem : (l : List Element) (r : ChildRow J) → child_shaped l (child_named f r) ≡ child_shaped l r
   unfolding child_shaped child_named
@@ -112,8 +111,8 @@ module _ {J K : Type 0} (f : J → K) where
     if_named : (e : Element) → ((j : J) → everywhere rows₁ test₁ (f j) e ≡ everywhere rows test j e) → (o : Option J)
         → if_there (λ k. everywhere rows₁ test₁ k e) (some_named o) ≡ if_there (λ j. everywhere rows test j e) o
     unfolding if_there some_named
-    if_named e h Option.none = refl
-    if_named e h (some j) = h j
+    if_named e h None = refl
+    if_named e h (Some j) = h j
 
     mutual
       unfolding everywhere

@@ -50,7 +50,7 @@ module _ (t l : List ℕ) {x : Word} {from to i : ℕ} (go : Searching (word_at 
   pub word_on : b ≡ false → Searching (word_at t l) x from to (i + 1)
   word_on = onward go h word_said
 
-pub ruleset searching-words = (search_start, search_end, word_hit, word_on, rules)
+pub ruleset searching_words = (search_start, search_end, word_hit, word_on, rules)
 
 -- among the words of entries
 module _ (t l : List ℕ) (p n : ℕ) {x : Word} {from to i : ℕ} (go : Searching (entry_word t l p n) x from to i) (h : i < to) {c : ℕ}
@@ -71,7 +71,7 @@ entry_cell p h = record { narrow = p.narrow; known = let u = p.known in omega ar
 pub entry_next : {n to i c : ℕ} → Cell n to c → i < to → i + 1 < 18446744073709551616
 entry_next p h = let u = p.known in omega arith
 
-pub ruleset searching-entries = (search_start, search_end, entry_hit, entry_on, entry_cell, entry_next, rules)
+pub ruleset searching_entries = (search_start, search_end, entry_hit, entry_on, entry_cell, entry_next, rules)
 
 -- WHAT THE PLACE SAYS
 pub less_suc : (p n : ℕ) → ltb p n ≡ ltb (suc p) (suc n)

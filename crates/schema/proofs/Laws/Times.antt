@@ -1,8 +1,7 @@
 -- How often the lines are met.
-use Rattle.std.specs.Prelude.{◌≡◌, refl, List, Bool, true, false, ◌||◌, cond, not, ℕ, ◌+◌, ◌-◌, ◌<◌, ◌≤◌, eqb, leb, ltb, get_or, set, length}
+use Rattle.std.specs.Prelude.{◌≡◌, refl, List, Bool, true, false, ◌||◌, cond, not, ℕ, ◌+◌, ◌-◌, ◌<◌, ◌≤◌, eqb, leb, ltb, get_or, set, length, Option}
 use Rattle.std.proofs.Common.{ap, ◌∙◌, arith, length-set, get_or-set_same, get_or-set_other, rules}
 use Rattle.std.proofs.Math.Path.{sym}
-use Rattle.std.proofs.Math.Option.{Option}
 use borrow.Author.Tests.{eqb-true, eqb-false, ltb-true, ltb-false, ne_eqb, lt-ltb, le-ltb, not-true, not-false}
 use Rattle.lists.specs.Lists.{all, count_up}
 use Rattle.lists.proofs.Laws.Tables.{up_one, up_done}

@@ -1,8 +1,7 @@
 -- The turns of the walk over an element's children.
-use Rattle.std.specs.Prelude.{◌≡◌, List, [], ◌∷◌, Bool, ◌||◌, ◌&&◌, cond, ℕ, zero, suc, ◌+◌, ◌-◌, ◌<◌, ◌≤◌, eqb, leb, get_or, length, drop}
+use Rattle.std.specs.Prelude.{◌≡◌, List, [], ◌∷◌, Bool, ◌||◌, ◌&&◌, cond, ℕ, zero, suc, ◌+◌, ◌-◌, ◌<◌, ◌≤◌, eqb, leb, get_or, length, drop, Option, None, Some}
 use Rattle.std.proofs.Math.Path.{refl, ap, sym}
 use Rattle.std.proofs.Common.{◌∙◌, true≢false, ne_eqb, leb-true, rules}
-use Rattle.std.proofs.Math.Option.{Option, some}
 use Rattle.std.proofs.Math.Bool.{true, false, not}
 use native.Mathlib.Omega.{arith}
 use Rattle.lists.specs.Lists.{all, any, count}
@@ -26,7 +25,6 @@ use Rattle.nodes.proofs.Laws.Ahead.{in_tag_first}
 use Rattle.nodes.proofs.Laws.AheadElements.{Facing, facing, facing_first, Met, Over, facing_child, facing_end, facing_stray, left_ahead}
 use Rattle.nodes.proofs.Laws.AheadElements.{facing_left, behind_leaves, behind_says}
 use Rattle.nodes.proofs.Laws.Walk.{Walk, Turn, kids, walk_children, kids_children, walk_none, turn_at, turn_splits, turn_falls, left_fits}
-use Rattle.nodes.specs.declared.Kid.{Kid}
 use Rattle.nodes.specs.declared.ahead.Ahead.{Ahead}
 use Rattle.nodes.specs.declared.ahead.Ahead.TheVariants as ahead-is
 use Rattle.grammar.specs.Read.{Read}
@@ -56,7 +54,7 @@ pub record Walking (t l text : List ℕ) (at kind from to : ℕ) (words : Bool) 
   pub stops : to ≡ lines_to t kind
   pub timed : Timed from to
   pub words_so : words ≡ not (eqb (text_at t kind) 0)
-  pub kid : Kid
+  pub kid : Option ℕ
   pub blanks : Bool
   pub leaves : Read (Unit {0})
   pub facing : Facing text words blanks leaves kid next
@@ -277,7 +275,7 @@ module _ {t l text : List ℕ} {at kind from to : ℕ} {words : Bool} {worst : �
       counted : Counted t l kind from to tally (elements (contents_of (the text at))) (the text k ∷ kids text (next text k))
       counted = rw splits at go.counted
 
-      stranger : kind_of (lines_of_kind t l kind) (the text k) ≡ Option.none → 6 ≡ fault_of t l kind (the text at)
+      stranger : kind_of (lines_of_kind t l kind) (the text k) ≡ None → 6 ≡ fault_of t l kind (the text at)
       stranger z = six_whole t l kind (the text at)
           (go.faults ∙ rw (splits, kids_stranger t l kind (the text k) (kids text (next text k)) z)
           (sooner_turned go.faulty is_six ∙ six_first go.faulty))
@@ -303,12 +301,12 @@ module _ {t l text : List ℕ} {at kind from to : ℕ} {words : Bool} {worst : �
         pub walking_inner : Known text k tally₁.kind
         walking_inner = record { stands = turn.stands; known = omega arith }
 
-        known : (in_turn (order_at t kind) tally.place place ≡ true) × (kind_of (lines_of_kind t l kind) (the text k) ≡ some tally₁.kind)
+        known : (in_turn (order_at t kind) tally.place place ≡ true) × (kind_of (lines_of_kind t l kind) (the text k) ≡ Some tally₁.kind)
         unfolding kind_next
         known = by (in_turn (order_at t kind) tally.place place) refl
           where
             by : (b : Bool) → in_turn (order_at t kind) tally.place place ≡ b
-                → (in_turn (order_at t kind) tally.place place ≡ true) × (kind_of (lines_of_kind t l kind) (the text k) ≡ some tally₁.kind)
+                → (in_turn (order_at t kind) tally.place place ≡ true) × (kind_of (lines_of_kind t l kind) (the text k) ≡ Some tally₁.kind)
             by true e = (e, sym (rw e at mt.kind_is) ∙ kind_some tally₁.kind small)
             by false e = never_some (sym (rw e at mt.kind_is) ∙ kind_some tally₁.kind small)
 

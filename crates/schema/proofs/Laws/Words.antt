@@ -1,5 +1,5 @@
 -- The number of a word of a form: by its front part, and by its rest.
-use Rattle.std.specs.Prelude.{◌≡◌, List, [], ◌∷◌, ◌++◌, Bool, true, false, ◌&&◌, eqb, drop, get_or}
+use Rattle.std.specs.Prelude.{◌≡◌, List, [], ◌∷◌, ◌++◌, Bool, true, false, ◌&&◌, eqb, drop, get_or, Option, Some, None, ℕ}
 use Rattle.std.proofs.Math.Path.{refl, ap₂}
 use Rattle.std.proofs.Common.{ap, sym, ◌∙◌, arith, rules, eq-eqb}
 use Rattle.std.proofs.Math.Bool.{cond}
@@ -12,8 +12,6 @@ use Rattle.grammar.specs.Parser.{same_bytes}
 use Rattle.nodes.specs.Values.{value_there, tells}
 use Rattle.nodes.specs.Fronts.{begins_at_lem}
 use Rattle.nodes.proofs.Laws.Fronts.{begins_so, begins_not}
-use Rattle.nodes.specs.declared.Found.{Found}
-use Rattle.nodes.specs.declared.Found.TheVariants.{At, Nothing}
 use Rattle.schema.specs.Words.{number_in}
 use Rattle.schema.specs.Letters.{lettered}
 use Rattle.schema.specs.Table.{word_at, front_at, fronted_at, form_cell, words_at}
@@ -67,20 +65,20 @@ module _ (t l : List ℕ) (front : ℕ) where
   no_number (suc n) from x h = ap₂ (λ b r. cond b 0 (suc r)) (is_not from x h) (no_number n (suc from) x h)
 
   -- THE PLACE of the value at a position: behind the front part that it begins with, or none
-  module _ (text : List ℕ) (v from to : ℕ) {w : List ℕ} (we : w ≡ ascii (front_at t l front)) {f : Found} (fe : f ≡ begins_at_lem text v w) where
-    pub place_behind : {i : ℕ} → f ≡ At i → {q : ℕ} → q ≡ get_or text v 0 → {p : ℕ}
+  module _ (text : List ℕ) (v from to : ℕ) {w : List ℕ} (we : w ≡ ascii (front_at t l front)) {f : Option ℕ} (fe : f ≡ begins_at_lem text v w) where
+    pub place_behind : {i : ℕ} → f ≡ Some i → {q : ℕ} → q ≡ get_or text v 0 → {p : ℕ}
         → p ≡ from + number_in (count_up (word_at t l) from (to - from)) (tells q (drop i text))
         → p ≡ from + number_in (count_up (fronted_at t l front) from (to - from)) (value_there text v)
     place_behind {i} h {q} e {p} k =
         k ∙ ap (λ n. from + n) (sym (rw (begins_so text v w fe h, we, ← e) (rest_number (to - from) from (tells q (drop i text)))))
 
-    nowhere : f ≡ Nothing → number_in (count_up (fronted_at t l front) from (to - from)) (value_there text v) ≡ to - from
+    nowhere : f ≡ None → number_in (count_up (fronted_at t l front) from (to - from)) (value_there text v) ≡ to - from
     nowhere h = no_number (to - from) from (value_there text v) (rw we at (begins_not text v w fe h))
 
-    pub place_none : f ≡ Nothing → from < to → to ≡ from + number_in (count_up (fronted_at t l front) from (to - from)) (value_there text v)
+    pub place_none : f ≡ None → from < to → to ≡ from + number_in (count_up (fronted_at t l front) from (to - from)) (value_there text v)
     place_none h k = let z = nowhere h in omega arith
 
-    pub place_empty : f ≡ Nothing → to ≤ from → from ≡ from + number_in (count_up (fronted_at t l front) from (to - from)) (value_there text v)
+    pub place_empty : f ≡ None → to ≤ from → from ≡ from + number_in (count_up (fronted_at t l front) from (to - from)) (value_there text v)
     place_empty h k = let z = nowhere h in omega arith
 
 pub ruleset placing = (place_behind, place_none, place_empty, rules)

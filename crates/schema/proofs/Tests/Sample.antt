@@ -1,7 +1,6 @@
 -- A SAMPLE: a table that is not CIFTI's, its rows, and texts that are as they say or are not. It has an attribute that may be left out,
 -- children in order, a kind chosen by a word or else another, and a child that is needed where a name stands below.
-use Rattle.std.specs.Prelude.{◌≡◌, refl, List, [], ◌∷◌, ℕ}
-use Rattle.std.proofs.Math.Option.{Option, some}
+use Rattle.std.specs.Prelude.{◌≡◌, refl, List, [], ◌∷◌, ℕ, Option, Some, None}
 use Prim.Native.String.{String}
 use Rattle.lists.specs.Lists.{lists}
 use Rattle.grammar.specs.Bytes.{ascii}
@@ -95,8 +94,8 @@ goes_on = refl
 -- ---- Texts, and their faults; 3 where a text is no document.
 
 unfoldable verdict_of : Option Element → ℕ
-verdict_of Option.none = 3
-verdict_of (some e) = fault_of table letters 0 e
+verdict_of None = 3
+verdict_of (Some e) = fault_of table letters 0 e
 
 unfoldable verdict : String → ℕ
 verdict s = verdict_of (parse (ascii s))

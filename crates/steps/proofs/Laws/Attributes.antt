@@ -1,5 +1,5 @@
 -- Lists of attributes, at a position of the text: one law for each way through the code.
-use Rattle.std.specs.Prelude.{◌≡◌, refl, List, [], ◌∷◌, ◌++◌, ℕ, zero, suc, ◌+◌, ◌-◌, ◌≤◌, ◌<◌, Bool, true, false, not, ◌&&◌, ◌||◌, leb, ◌⊎◌, drop, get_or, set}
+use Rattle.std.specs.Prelude.{◌≡◌, refl, List, [], ◌∷◌, ◌++◌, ℕ, zero, suc, ◌+◌, ◌-◌, ◌≤◌, ◌<◌, Bool, true, false, not, ◌&&◌, ◌||◌, leb, ◌⊎◌, drop, get_or, set, Option, Some, None}
 use Rattle.std.proofs.Math.Path.{ap, sym}
 use Rattle.std.proofs.Common.{◌∙◌, append_assoc, append-nil, add-one, arith, le-leb, inl, inr, get_or-set_same, get_or-set_other}
 use Rattle.std.proofs.lemmas.Bool.{not-true, not-false, lt-leb}
@@ -18,10 +18,7 @@ use Rattle.steps.specs.Noted.{part, among, noted, Spans, Within}
 use Rattle.steps.specs.Keys.{named_at, keyed, Named}
 use Rattle.steps.proofs.Laws.Keys.{named_found, named_missed, named_fails, named_reads_it, named_ahead}
 use Rattle.steps.proofs.Laws.Keys.{name_there, attribute_eats}
-use Rattle.steps.specs.declared.Step.{Step}
-use Rattle.steps.specs.declared.Step.TheVariants.{To, No}
 use Rattle.steps.specs.declared.attributes.Key.{Key}
-use Rattle.steps.specs.declared.attributes.Key.TheVariants as key
 
 unfoldable pub names : List Attribute → List (List ℕ)
 names [] = []
@@ -221,26 +218,26 @@ attribute_went text i from to end k = record {
   );
 }
 
-module _ (text : List ℕ) (i : ℕ) {r : Key} (told : r ≡ keyed (length text) (named_at (drop i text))) {from to end : ℕ}
-    (here : r ≡ key.Is from to end) where
-  pub list_less : length text - end < length text - i
+module _ (text : List ℕ) (i : ℕ) {r : Option Key} (told : r ≡ keyed (length text) (named_at (drop i text))) {spot : Key}
+    (here : r ≡ Some spot) where
+  pub list_less : length text - spot.end < length text - i
   list_less =
-      let went = attribute_went text i from to end (named_found text i told here) in
-      let on : i < end = went_on went (attribute_eats (drop i text)) in
+      let went = attribute_went text i spot.from spot.to spot.end (named_found text i told here) in
+      let on : i < spot.end = went_on went (attribute_eats (drop i text)) in
       omega (arith, went.inside)
 
 module _ (text : List ℕ) (at : ℕ) (starts tos : List ℕ) (n i : ℕ) (go : Listing text at starts tos n i) where
-  abbrev Answer : Step → Type 0
+  abbrev Answer : Option ℕ → Type 0
   Answer r = r ≡ stepped (length text) (attributes_at (drop at text))
 
-  module _ {r : Key} (told : r ≡ keyed (length text) (named_at (drop i text))) {from to end : ℕ} (here : r ≡ key.Is from to end) where
-    pub list_within : Within text starts tos n from to
+  module _ {r : Option Key} (told : r ≡ keyed (length text) (named_at (drop i text))) {spot : Key} (here : r ≡ Some spot) where
+    pub list_within : Within text starts tos n spot.from spot.to
     list_within =
         let k = named_found text i told here in
-        record { spans = go.spans; ahead = named_ahead text i from to end k; inside = k.key.name.inside }
+        record { spans = go.spans; ahead = named_ahead text i spot.from spot.to spot.end k; inside = k.key.name.inside }
 
   module _ {t : Bool} (is : t ≡ ends closing (drop i text)) where
-    pub list_ends : not t ≡ false → Answer (To i)
+    pub list_ends : not t ≡ false → Answer (Some i)
     list_ends e =
         let stop = sym is ∙ not-false t e in
         let short : length go.done ≤ 16 = omega (arith, go.count, go.spans.few) in
@@ -251,40 +248,40 @@ module _ (text : List ℕ) (at : ℕ) (starts tos : List ℕ) (n i : ℕ) (go : 
       onward : list_from go.done (drop i text) ≡ bind (attribute_at_lem (drop i text)) (λ a r. list_from (go.done ++ (a ∷ [])) r)
       onward = from_go go.done (drop i text) (sym is ∙ not-true t e)
 
-      pub list_many : n ≡ 16 → Answer No
+      pub list_many : n ≡ 16 → Answer None
       list_many h =
           let full : 16 ≤ length go.done = omega (arith, go.count) in
           refuses (length text) (list_from go.done (drop i text))
           (onward ∙ bind_none (attribute_at_lem (drop i text)) _ λ a r. from_many go.done a r full) ∙ sym go.same_end
 
-      module _ {r : Key} (told : r ≡ keyed (length text) (named_at (drop i text))) where
-        pub list_bad : r ≡ key.No → Answer No
+      module _ {r : Option Key} (told : r ≡ keyed (length text) (named_at (drop i text))) where
+        pub list_bad : r ≡ None → Answer None
         unfolding bind
         list_bad k = refuses (length text) (list_from go.done (drop i text))
             (onward ∙ rw (named_fails text i (named_missed text i told k))) ∙ sym go.same_end
 
-        module _ {from to end : ℕ} (here : r ≡ key.Is from to end) {u : Bool}
-            (seen : u ≡ among (part from to text) (noted text starts tos n)) where
-          found : Named text i from to end
+        module _ {spot : Key} (here : r ≡ Some spot) {u : Bool}
+            (seen : u ≡ among (part spot.from spot.to text) (noted text starts tos n)) where
+          found : Named text i spot.from spot.to spot.end
           found = named_found text i told here
 
           fresh : Attribute
           fresh = attribute found.key.name.value found.value.value
 
-          behind : list_from go.done (drop i text) ≡ list_from (go.done ++ (fresh ∷ [])) (drop end text)
+          behind : list_from go.done (drop i text) ≡ list_from (go.done ++ (fresh ∷ [])) (drop spot.end text)
           unfolding bind fresh
-          behind = onward ∙ rw (named_reads_it text i from to end found)
+          behind = onward ∙ rw (named_reads_it text i spot.from spot.to spot.end found)
 
           seen_among : among found.key.name.value (names go.done) ≡ u
-          seen_among = rw (name_there text i from to end found, go.named) (sym seen)
+          seen_among = rw (name_there text i spot.from spot.to spot.end found, go.named) (sym seen)
 
-          pub list_twice : u ≡ true → Answer No
+          pub list_twice : u ≡ true → Answer None
           unfolding fresh
           list_twice k = refuses (length text) (list_from go.done (drop i text))
-              (behind ∙ from_twice go.done found.key.name.value found.value.value (drop end text) (seen_among ∙ k))
+              (behind ∙ from_twice go.done found.key.name.value found.value.value (drop spot.end text) (seen_among ∙ k))
               ∙ sym go.same_end
 
-          pub list_more : (n ≡ 16 → ⊥) → u ≡ false → Listing text at (set starts n from) (set tos n to) (n + 1) end
+          pub list_more : (n ≡ 16 → ⊥) → u ≡ false → Listing text at (set starts n spot.from) (set tos n spot.to) (n + 1) spot.end
           unfolding fresh
           list_more f k =
               let few = go.spans.few in
@@ -296,9 +293,9 @@ module _ (text : List ℕ) (at : ℕ) (starts tos : List ℕ) (n i : ℕ) (go : 
                 count = length-append go.done (fresh ∷ []) ∙ ap (λ m. m + 1) go.count;
                 apart = new found.key.name.value found.value.value go.done go.apart (seen_among ∙ k);
                 named = names_more go.done found.key.name.value found.value.value
-                    ∙ rw (go.named, name_there text i from to end found, noted_more text starts tos n from to fits₁ fits₂);
-                spans = spans_more text starts tos n from to fits₁ fits₂ go.spans f (named_ahead text i from to end found)
+                    ∙ rw (go.named, name_there text i spot.from spot.to spot.end found, noted_more text starts tos n spot.from spot.to fits₁ fits₂);
+                spans = spans_more text starts tos n spot.from spot.to fits₁ fits₂ go.spans f (named_ahead text i spot.from spot.to spot.end found)
                     found.key.name.inside;
-                room₁ = length-set starts n from ∙ go.room₁;
-                room₂ = length-set tos n to ∙ go.room₂;
+                room₁ = length-set starts n spot.from ∙ go.room₁;
+                room₂ = length-set tos n spot.to ∙ go.room₂;
               }

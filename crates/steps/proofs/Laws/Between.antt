@@ -1,5 +1,5 @@
 -- Characters, comments and CDATA between tags, as far as they go: one piece further, and over plain bytes at once.
-use Rattle.std.specs.Prelude.{◌≡◌, refl, List, [], ◌∷◌, ◌++◌, ℕ, ◌-◌, ◌<◌, Bool, not, eqb, drop}
+use Rattle.std.specs.Prelude.{◌≡◌, refl, List, [], ◌∷◌, ◌++◌, ℕ, ◌-◌, ◌<◌, Bool, not, eqb, drop, Option, Some, None}
 use Rattle.std.proofs.Common.{ap, sym, ◌∙◌, subst, arith, rules, length-append, length-drop, eqb-true}
 use Rattle.std.proofs.Math.Bool.{true, false}
 use Rattle.std.proofs.Math.ListN.{length}
@@ -17,8 +17,6 @@ use Rattle.steps.proofs.Laws.Step.{went, went_on, fell}
 use Rattle.steps.proofs.Laws.Leaves.{span_tails}
 use Rattle.steps.proofs.Laws.Feeds.{left_by, fed, feed_got}
 use Rattle.steps.proofs.Laws.Pieces.{return_text}
-use Rattle.steps.specs.declared.Step.{Step}
-use Rattle.steps.specs.declared.Step.TheVariants.{To, No}
 use Rattle.steps.specs.Row.{Piece, character, text_piece_at, piece_by, piece_at, pieces_at, pause, halts}
 use Rattle.steps.proofs.Laws.Row.{pieces_halt, pieces_go}
 use Rattle.steps.proofs.Laws.Row.{piece_tails, piece_eats}
@@ -114,7 +112,7 @@ abbrev pub Passing : List ℕ → ℕ → ℕ → Type 0
 Passing text at i = stopped_by (length text) (pieces_at (drop at text)) ≡ stopped_by (length text) (pieces_at (drop i text))
 
 module _ (text : List ℕ) (at i : ℕ) (inv : Passing text at i) {j : ℕ}
-    (q : To j ≡ stepped (length text) (span plain (drop i text))) {r : Step} (q₂ : r ≡ stepped (length text) (piece_at (drop j text))) where
+    (q : Some j ≡ stepped (length text) (span plain (drop i text))) {r : Option ℕ} (q₂ : r ≡ stepped (length text) (piece_at (drop j text))) where
   skipped : Went (span plain) text i j
   skipped = went (span plain) text i j (span_tails plain (drop i text)) q
 
@@ -125,7 +123,7 @@ module _ (text : List ℕ) (at i : ℕ) (inv : Passing text at i) {j : ℕ}
   skips : Passing text i j
   skips = ap (λ s. stopped_by (length text) (pieces_at s)) taken.0 ∙ between_plain (length text) taken.1 (drop j text)
 
-  module _ {k : ℕ} (e : r ≡ To k) where
+  module _ {k : ℕ} (e : r ≡ Some k) where
     read : Went piece_at text j k
     read = went piece_at text j k (piece_tails (drop j text)) (sym e ∙ q₂)
 
@@ -143,7 +141,7 @@ module _ (text : List ℕ) (at i : ℕ) (inv : Passing text at i) {j : ℕ}
       length-append skipped.value (drop j text),
     )
 
-  pub between_halt : r ≡ No → {x : Between} → x ≡ halted (look (drop j text)) j → x ≡ stopped_by (length text) (pieces_at (drop at text))
+  pub between_halt : r ≡ None → {x : Between} → x ≡ halted (look (drop j text)) j → x ≡ stopped_by (length text) (pieces_at (drop at text))
   between_halt e k =
       let here : length text - length (drop j text) ≡ j = omega (arith, length-drop j text, skipped.inside) in
       k ∙ ap (halted (look (drop j text))) (sym here)

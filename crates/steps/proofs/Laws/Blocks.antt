@@ -122,7 +122,7 @@ quick_block text at to ha hb hc hd =
       all_both (other 93) shown l,
     )
 
-pub ruleset quick-blocks = (quick_block, rules)
+pub ruleset quick_blocks = (quick_block, rules)
 
 -- BLOCK BY BLOCK
 pub through_start : (p : ℕ → Bool) (text : List ℕ) (at : ℕ) → Through p text at at
@@ -180,8 +180,8 @@ pub data_through : {text : List ℕ} {at i : ℕ} → Through quick text at i �
 data_through = quick_through data_plain quick_data
 
 -- behind the blocks, and before them
-pub ruleset far-spanning = (span_through, span_all, span_more, span_stops, rules)
+pub ruleset far_spanning = (span_through, span_all, span_more, span_stops, rules)
 
-pub ruleset far-data-spanning = (data_through, span_all, span_more, span_stops, rules)
+pub ruleset far_data_spanning = (data_through, span_all, span_more, span_stops, rules)
 
-pub ruleset near-spanning = (span_start, span_rest, span_more, span_stops, rules)
+pub ruleset near_spanning = (span_start, span_rest, span_more, span_stops, rules)

@@ -1,5 +1,5 @@
 -- Characters and references, at a position of the text: one law for each way through the code.
-use Rattle.std.specs.Prelude.{◌≡◌, List, [], ◌∷◌, ℕ, ◌+◌, ◌≤◌, ◌<◌, Bool, true, false, not, ◌&&◌, eqb, length, drop}
+use Rattle.std.specs.Prelude.{◌≡◌, List, [], ◌∷◌, ℕ, ◌+◌, ◌≤◌, ◌<◌, Bool, true, false, not, ◌&&◌, eqb, length, drop, Option, Some, None}
 use Rattle.std.proofs.Math.Path.{refl, sym}
 use Rattle.std.proofs.Common.{◌∙◌}
 use native.Mathlib.Omega.{arith}
@@ -16,8 +16,6 @@ use Rattle.steps.specs.Step.{stepped}
 use Rattle.steps.proofs.Laws.Step.{at_byte, at_end, arrives, refuses}
 use Rattle.steps.proofs.Laws.Until.{stepped_value}
 use Rattle.steps.specs.Leaves.{character_at, anything}
-use Rattle.steps.specs.declared.Step.{Step}
-use Rattle.steps.specs.declared.Step.TheVariants.{To, No}
 
 -- WORDS
 pub passed : {A : Type 0} → Read A → Bool
@@ -42,30 +40,30 @@ mark_fails k s e = go (mark k s) (sym (begins_passed k s) ∙ e)
     go fail h = refl
     go (got u r) h = clash (cc)
 
-stepped_passed : {A : Type 0} (n : ℕ) (m : Read A) {j : ℕ} → To j ≡ stepped n m → passed m ≡ true
+stepped_passed : {A : Type 0} (n : ℕ) (m : Read A) {j : ℕ} → Some j ≡ stepped n m → passed m ≡ true
 unfolding stepped passed
 stepped_passed n fail e = clash (cc)
 stepped_passed n (got a r) e = refl
 
-stepped_stuck : {A : Type 0} (n : ℕ) (m : Read A) → No ≡ stepped n m → passed m ≡ false
+stepped_stuck : {A : Type 0} (n : ℕ) (m : Read A) → None ≡ stepped n m → passed m ≡ false
 unfolding stepped passed
 stepped_stuck n fail e = refl
 stepped_stuck n (got a r) e = clash (cc)
 
-pub starts_so : (text : List ℕ) (at : ℕ) (word : List ℕ) {r : Step} {j : ℕ} → r ≡ stepped (length text) (mark word (drop at text))
-    → r ≡ To j → true ≡ begins word (drop at text)
+pub starts_so : (text : List ℕ) (at : ℕ) (word : List ℕ) {r : Option ℕ} {j : ℕ} → r ≡ stepped (length text) (mark word (drop at text))
+    → r ≡ Some j → true ≡ begins word (drop at text)
 starts_so text at word q e = sym (begins_passed word (drop at text) ∙ stepped_passed (length text) (mark word (drop at text)) (sym e ∙ q))
 
-pub starts_not : (text : List ℕ) (at : ℕ) (word : List ℕ) {r : Step} → r ≡ stepped (length text) (mark word (drop at text)) → r ≡ No
+pub starts_not : (text : List ℕ) (at : ℕ) (word : List ℕ) {r : Option ℕ} → r ≡ stepped (length text) (mark word (drop at text)) → r ≡ None
     → false ≡ begins word (drop at text)
 starts_not text at word q e = sym (begins_passed word (drop at text) ∙ stepped_stuck (length text) (mark word (drop at text)) (sym e ∙ q))
 
 -- THE BYTES BEHIND THE FIRST
 module _ (text : List ℕ) (at a : ℕ) where
-  abbrev Behind₂ : Step → Type 0
+  abbrev Behind₂ : Option ℕ → Type 0
   Behind₂ r = r ≡ stepped (length text) (rest_by two a (drop at text))
 
-  pub two_other : {t : Bool} → t ≡ lead2 a → not t ≡ true → Behind₂ No
+  pub two_other : {t : Bool} → t ≡ lead2 a → not t ≡ true → Behind₂ None
   unfolding rest_by bind test
   two_other {t} is e = refuses (length text) (rest_by two a (drop at text)) (rw (sym is ∙ not-true t e))
 
@@ -74,17 +72,17 @@ module _ (text : List ℕ) (at a : ℕ) where
     unfolding rest_by bind
     two_from = rw (test_complete (sym is ∙ not-false t e) (drop at text))
 
-    pub two_none : length text ≤ at → Behind₂ No
+    pub two_none : length text ≤ at → Behind₂ None
     unfolding byte bind
     two_none h = refuses (length text) (rest_by two a (drop at text)) (two_from ∙ rw (at_end text at h))
 
     module _ (h : at < length text) {u : Bool} (is₁ : u ≡ continues (get_or text at 0)) where
-      pub two_bad : not u ≡ true → Behind₂ No
+      pub two_bad : not u ≡ true → Behind₂ None
       unfolding bind
       two_bad k = refuses (length text) (rest_by two a (drop at text))
           (two_from ∙ rw (at_byte text at h, byte_other continues (get_or text at 0) (sym is₁ ∙ not-true u k) (drop (at + 1) text)))
 
-      pub two_good : not u ≡ false → Behind₂ (To (at + 1))
+      pub two_good : not u ≡ false → Behind₂ (Some (at + 1))
       unfolding bind
       two_good k = arrives text (rest_by two a (drop at text)) {a = get_or text at 0 ∷ []} (at + 1) (omega arith)
           (two_from ∙ rw (at_byte text at h, byte_complete continues (get_or text at 0) (sym is₁ ∙ not-false u k) (drop (at + 1) text)))
@@ -115,15 +113,15 @@ module _ (text : List ℕ) (at a : ℕ) where
   unfolding three_at rest_by three_ends
   three_is = refl
 
-  abbrev Behind₃ : Step → Type 0
+  abbrev Behind₃ : Option ℕ → Type 0
   Behind₃ r = r ≡ stepped (length text) (rest_by three a (drop at text))
 
-  pub three_none : length text ≤ at → Behind₃ No
+  pub three_none : length text ≤ at → Behind₃ None
   unfolding three_at
   three_none h = refuses (length text) (rest_by three a (drop at text)) (three_is ∙ byte_none (lead3 a) text at _ h)
 
   module _ (h : at < length text) {t : Bool} (is : t ≡ lead3 a (get_or text at 0)) where
-    pub three_bad : not t ≡ true → Behind₃ No
+    pub three_bad : not t ≡ true → Behind₃ None
     unfolding three_at
     three_bad e = refuses (length text) (rest_by three a (drop at text)) (three_is ∙ byte_bad (lead3 a) text at _ h is e)
 
@@ -131,12 +129,12 @@ module _ (text : List ℕ) (at a : ℕ) where
       three_on : three_at ≡ bind (byte continues (drop (at + 1) text)) (λ c r. three_ends (get_or text at 0) c r)
       three_on = three_is ∙ byte_good (lead3 a) text at _ h is e
 
-      pub three_short : length text ≤ at + 1 → Behind₃ No
+      pub three_short : length text ≤ at + 1 → Behind₃ None
       unfolding three_at
       three_short k = refuses (length text) (rest_by three a (drop at text)) (three_on ∙ byte_none continues text (at + 1) _ k)
 
       module _ (h₁ : at + 1 < length text) {u : Bool} (is₁ : u ≡ continues (get_or text (at + 1) 0)) where
-        pub three_broken : not u ≡ true → Behind₃ No
+        pub three_broken : not u ≡ true → Behind₃ None
         unfolding three_at
         three_broken k = refuses (length text) (rest_by three a (drop at text)) (three_on ∙ byte_bad continues text (at + 1) _ h₁ is₁ k)
 
@@ -144,11 +142,11 @@ module _ (text : List ℕ) (at a : ℕ) where
           three_last : three_at ≡ three_ends (get_or text at 0) (get_or text (at + 1) 0) (drop ((at + 1) + 1) text)
           three_last = three_on ∙ byte_good continues text (at + 1) _ h₁ is₁ k
 
-          pub three_no : v ≡ true → Behind₃ No
+          pub three_no : v ≡ true → Behind₃ None
           unfolding three_at three_ends test bind
           three_no l = refuses (length text) (rest_by three a (drop at text)) (three_last ∙ rw (sym is₂ ∙ l))
 
-          pub three_good : v ≡ false → Behind₃ (To (at + 2))
+          pub three_good : v ≡ false → Behind₃ (Some (at + 2))
           unfolding three_at three_ends test bind
           three_good l =
               let n : (at + 1) + 1 ≡ at + 2 = omega arith in
@@ -164,15 +162,15 @@ module _ (text : List ℕ) (at a : ℕ) where
   unfolding four_at rest_by
   four_is = refl
 
-  abbrev Behind₄ : Step → Type 0
+  abbrev Behind₄ : Option ℕ → Type 0
   Behind₄ r = r ≡ stepped (length text) (rest_by four a (drop at text))
 
-  pub four_none : length text ≤ at → Behind₄ No
+  pub four_none : length text ≤ at → Behind₄ None
   unfolding four_at
   four_none h = refuses (length text) (rest_by four a (drop at text)) (four_is ∙ byte_none (lead4 a) text at _ h)
 
   module _ (h : at < length text) {t : Bool} (is : t ≡ lead4 a (get_or text at 0)) where
-    pub four_bad : not t ≡ true → Behind₄ No
+    pub four_bad : not t ≡ true → Behind₄ None
     unfolding four_at
     four_bad e = refuses (length text) (rest_by four a (drop at text)) (four_is ∙ byte_bad (lead4 a) text at _ h is e)
 
@@ -181,12 +179,12 @@ module _ (text : List ℕ) (at a : ℕ) where
           (λ c r. bind (byte continues r) (λ d r₁. got (get_or text at 0 ∷ c ∷ d ∷ []) r₁))
       four_on = four_is ∙ byte_good (lead4 a) text at _ h is e
 
-      pub four_short : length text ≤ at + 1 → Behind₄ No
+      pub four_short : length text ≤ at + 1 → Behind₄ None
       unfolding four_at
       four_short k = refuses (length text) (rest_by four a (drop at text)) (four_on ∙ byte_none continues text (at + 1) _ k)
 
       module _ (h₁ : at + 1 < length text) {u : Bool} (is₁ : u ≡ continues (get_or text (at + 1) 0)) where
-        pub four_broken : not u ≡ true → Behind₄ No
+        pub four_broken : not u ≡ true → Behind₄ None
         unfolding four_at
         four_broken k = refuses (length text) (rest_by four a (drop at text)) (four_on ∙ byte_bad continues text (at + 1) _ h₁ is₁ k)
 
@@ -197,16 +195,16 @@ module _ (text : List ℕ) (at a : ℕ) where
           four_last : four_at ≡ bind (byte continues (drop (at + 2) text)) (λ d r. got (get_or text at 0 ∷ get_or text (at + 1) 0 ∷ d ∷ []) r)
           four_last = rw (← next) (four_on ∙ byte_good continues text (at + 1) _ h₁ is₁ k)
 
-          pub four_cut : length text ≤ at + 2 → Behind₄ No
+          pub four_cut : length text ≤ at + 2 → Behind₄ None
           unfolding four_at
           four_cut l = refuses (length text) (rest_by four a (drop at text)) (four_last ∙ byte_none continues text (at + 2) _ l)
 
           module _ (h₂ : at + 2 < length text) {v : Bool} (is₂ : v ≡ continues (get_or text (at + 2) 0)) where
-            pub four_no : not v ≡ true → Behind₄ No
+            pub four_no : not v ≡ true → Behind₄ None
             unfolding four_at
             four_no l = refuses (length text) (rest_by four a (drop at text)) (four_last ∙ byte_bad continues text (at + 2) _ h₂ is₂ l)
 
-            pub four_good : not v ≡ false → Behind₄ (To (at + 3))
+            pub four_good : not v ≡ false → Behind₄ (Some (at + 3))
             unfolding four_at
             four_good l =
                 let n : (at + 2) + 1 ≡ at + 3 = omega arith in
@@ -215,7 +213,7 @@ module _ (text : List ℕ) (at a : ℕ) where
                 arrives text (rest_by four a (drop at text)) (at + 3) (omega arith) q
 
 -- A CHARACTER
-pub character_none : (text : List ℕ) (at : ℕ) → length text ≤ at → No ≡ stepped (length text) (character_at (drop at text))
+pub character_none : (text : List ℕ) (at : ℕ) → length text ≤ at → None ≡ stepped (length text) (character_at (drop at text))
 unfolding character_at literal_at byte bind
 character_none text at h = refuses (length text) (character_at (drop at text)) (rw (at_end text at h))
 
@@ -234,37 +232,37 @@ module _ (text : List ℕ) (at : ℕ) (h : at < length text) where
     unfolding width width_by first_of
     one_is = rw (le-leb (get_or text at 0) 127 l)
 
-    pub one_good : t ≡ true → To (at + 1) ≡ stepped (length text) (character_at (drop at text))
+    pub one_good : t ≡ true → Some (at + 1) ≡ stepped (length text) (character_at (drop at text))
     unfolding rest_by bind first_of
     one_good e = arrives text (rest_by one (get_or text at 0) (drop (at + 1) text)) {a = []} (at + 1) (omega arith)
         (rw (test_complete (sym is ∙ e) (drop (at + 1) text))) ∙ sym (character_from ∙ rw one_is)
 
-    pub one_bad : t ≡ false → No ≡ stepped (length text) (character_at (drop at text))
+    pub one_bad : t ≡ false → None ≡ stepped (length text) (character_at (drop at text))
     unfolding rest_by bind first_of test
     one_bad e = refuses (length text) (rest_by one (get_or text at 0) (drop (at + 1) text)) (rw (sym is ∙ e))
         ∙ sym (character_from ∙ rw one_is)
 
   module _ (l : 127 < get_or text at 0) where
-    pub as_two : get_or text at 0 ≤ 223 → {r : Step} → r ≡ stepped (length text) (rest_by two (get_or text at 0) (drop (at + 1) text))
+    pub as_two : get_or text at 0 ≤ 223 → {r : Option ℕ} → r ≡ stepped (length text) (rest_by two (get_or text at 0) (drop (at + 1) text))
         → r ≡ stepped (length text) (character_at (drop at text))
     unfolding width width_by first_of
     as_two k q = q ∙ sym (character_from ∙ rw (lt-leb (get_or text at 0) 127 l, le-leb (get_or text at 0) 223 k))
 
     module _ (l₁ : 223 < get_or text at 0) where
-      pub as_three : get_or text at 0 ≤ 239 → {r : Step} → r ≡ stepped (length text) (rest_by three (get_or text at 0) (drop (at + 1) text))
+      pub as_three : get_or text at 0 ≤ 239 → {r : Option ℕ} → r ≡ stepped (length text) (rest_by three (get_or text at 0) (drop (at + 1) text))
           → r ≡ stepped (length text) (character_at (drop at text))
       unfolding width width_by first_of
       as_three k q = q ∙ sym (character_from
           ∙ rw (lt-leb (get_or text at 0) 127 l, lt-leb (get_or text at 0) 223 l₁, le-leb (get_or text at 0) 239 k))
 
-      pub as_four : 239 < get_or text at 0 → {r : Step} → r ≡ stepped (length text) (rest_by four (get_or text at 0) (drop (at + 1) text))
+      pub as_four : 239 < get_or text at 0 → {r : Option ℕ} → r ≡ stepped (length text) (rest_by four (get_or text at 0) (drop (at + 1) text))
           → r ≡ stepped (length text) (character_at (drop at text))
       unfolding width width_by first_of
       as_four k q = q ∙ sym (character_from
           ∙ rw (lt-leb (get_or text at 0) 127 l, lt-leb (get_or text at 0) 223 l₁, lt-leb (get_or text at 0) 239 k))
 
 pub plain_step : (text : List ℕ) (at : ℕ) → at < length text → {t : Bool} → t ≡ between 32 127 (get_or text at 0) → t ≡ true
-    → To (at + 1) ≡ stepped (length text) (character_at (drop at text))
+    → Some (at + 1) ≡ stepped (length text) (character_at (drop at text))
 unfolding lead1
 plain_step text at h is e =
     let low = (within 32 127 (get_or text at 0) (sym is ∙ e)).1 in

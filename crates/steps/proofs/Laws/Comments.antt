@@ -1,5 +1,5 @@
 -- Comments, at a position of the text: one law for each way through the code.
-use Rattle.std.specs.Prelude.{◌≡◌, refl, List, [], ◌∷◌, ℕ, ◌+◌, ◌-◌, ◌≤◌, ◌<◌, Bool, true, false, eqb, length, drop, get_or}
+use Rattle.std.specs.Prelude.{◌≡◌, refl, List, [], ◌∷◌, ℕ, ◌+◌, ◌-◌, ◌≤◌, ◌<◌, Bool, true, false, eqb, length, drop, get_or, Option, Some, None}
 use Rattle.std.proofs.Common.{ap, ◌∙◌, arith}
 use Rattle.std.proofs.Math.Path.{sym}
 use borrow.Author.Tests.{eq-eqb, ne_eqb}
@@ -15,8 +15,6 @@ use Rattle.steps.specs.Until.{until}
 use Rattle.steps.specs.Leaves.{character_at, comment_rest_at}
 use Rattle.steps.proofs.Laws.Leaves.{literal_is, literal_not, mark_tails, remark_eats, remark_tails}
 use Rattle.steps.proofs.Laws.Characters.{plain_step}
-use Rattle.steps.specs.declared.Step.{Step}
-use Rattle.steps.specs.declared.Step.TheVariants.{To, No}
 
 -- two dashes
 module _ (text : List ℕ) (at : ℕ) where
@@ -75,32 +73,32 @@ unfolding remark_at alt dashed_at mark bind
 remark_nil = rw plain_nil
 
 module _ (text : List ℕ) (at : ℕ) where
-  abbrev Remarks : Step → Type 0
+  abbrev Remarks : Option ℕ → Type 0
   Remarks r = r ≡ stepped (length text) (remark_at (drop at text))
 
-  pub remark_none : length text ≤ at → Remarks No
+  pub remark_none : length text ≤ at → Remarks None
   remark_none h = refuses (length text) (remark_at (drop at text)) (rw (at_end text at h) remark_nil)
 
   module _ (h : at < length text) where
-    pub remark_other : (get_or text at 0 ≡ 45 → ⊥) → {r : Step} → r ≡ stepped (length text) (character_at (drop at text)) → Remarks r
+    pub remark_other : (get_or text at 0 ≡ 45 → ⊥) → {r : Option ℕ} → r ≡ stepped (length text) (character_at (drop at text)) → Remarks r
     remark_other f k = k ∙ rw (at_byte text at h) (sym (remark_plain (length text) (get_or text at 0) (drop (at + 1) text) f))
 
-    pub remark_plainly : (get_or text at 0 ≡ 45 → ⊥) → {t : Bool} → t ≡ between 32 127 (get_or text at 0) → t ≡ true → Remarks (To (at + 1))
+    pub remark_plainly : (get_or text at 0 ≡ 45 → ⊥) → {t : Bool} → t ≡ between 32 127 (get_or text at 0) → t ≡ true → Remarks (Some (at + 1))
     remark_plainly f is e = remark_other f (plain_step text at h is e)
 
     module _ (e : get_or text at 0 ≡ 45) where
       behind_dash : remark_at (drop at text) ≡ plain_at (drop (at + 1) text)
       behind_dash = rw (at_byte text at h, e) (remark_dash (drop (at + 1) text))
 
-      pub remark_last : length text ≤ at + 1 → Remarks No
+      pub remark_last : length text ≤ at + 1 → Remarks None
       remark_last k = refuses (length text) (remark_at (drop at text)) (behind_dash ∙ rw (at_end text (at + 1) k) plain_nil)
 
       module _ (k : at + 1 < length text) where
-        pub remark_two : get_or text (at + 1) 0 ≡ 45 → Remarks No
+        pub remark_two : get_or text (at + 1) 0 ≡ 45 → Remarks None
         remark_two l = refuses (length text) (remark_at (drop at text))
             (behind_dash ∙ rw (at_byte text (at + 1) k, l) (plain_dash (drop ((at + 1) + 1) text)))
 
-        pub remark_dashed : (get_or text (at + 1) 0 ≡ 45 → ⊥) → {r : Step} → r ≡ stepped (length text) (character_at (drop (at + 1) text))
+        pub remark_dashed : (get_or text (at + 1) 0 ≡ 45 → ⊥) → {r : Option ℕ} → r ≡ stepped (length text) (character_at (drop (at + 1) text))
             → Remarks r
         remark_dashed f l =
             l ∙ sym (ap (stepped (length text)) behind_dash
@@ -114,41 +112,41 @@ pub comment_start : (text : List ℕ) (at : ℕ) → InComment text at at
 comment_start text at = going_start (begins (ascii "--")) remark_at (mark (ascii "-->")) text at
 
 module _ (text : List ℕ) (at i : ℕ) (go : InComment text at i) where
-  abbrev Rest : Step → Type 0
+  abbrev Rest : Option ℕ → Type 0
   Rest r = r ≡ stepped (length text) (comment_rest_at (drop at text))
 
-  pub comment_open : length text ≤ i → Rest No
+  pub comment_open : length text ≤ i → Rest None
   unfolding comment_rest_at
   comment_open h =
       let k : remark_at (drop i text) ≡ fail = rw (at_end text i h) remark_nil in
       going_fails (begins (ascii "--")) remark_at (mark (ascii "-->")) remark_eats text at i go (sym (dashes_none text i h)) k
 
   module _ {t : Bool} (is : t ≡ begins (ascii "--") (drop i text)) where
-    pub comment_closes : t ≡ true → {r : Step} → r ≡ stepped (length text) (mark (ascii "-->") (drop i text)) → Rest r
+    pub comment_closes : t ≡ true → {r : Option ℕ} → r ≡ stepped (length text) (mark (ascii "-->") (drop i text)) → Rest r
     unfolding comment_rest_at
     comment_closes e k = going_stops (begins (ascii "--")) remark_at (mark (ascii "-->")) remark_eats text at i go (sym is ∙ e) k
 
-    module _ (e : t ≡ false) {r : Step} (s : r ≡ stepped (length text) (remark_at (drop i text))) where
-      pub comment_stuck : r ≡ No → Rest No
+    module _ (e : t ≡ false) {r : Option ℕ} (s : r ≡ stepped (length text) (remark_at (drop i text))) where
+      pub comment_stuck : r ≡ None → Rest None
       unfolding comment_rest_at
       comment_stuck n = going_stuck (begins (ascii "--")) remark_at (mark (ascii "-->")) remark_eats text at i go (sym is ∙ e) s n
 
-      pub comment_more : {j : ℕ} → r ≡ To j → InComment text at j
+      pub comment_more : {j : ℕ} → r ≡ Some j → InComment text at j
       comment_more n = going_goes (begins (ascii "--")) remark_at (mark (ascii "-->")) remark_eats text at i go
           (sym is ∙ e) remark_tails s n
 
-pub comment_less : (text : List ℕ) (i : ℕ) {r : Step} {j : ℕ} → i < length text → r ≡ stepped (length text) (remark_at (drop i text))
-    → r ≡ To j → length text - j < length text - i
+pub comment_less : (text : List ℕ) (i : ℕ) {r : Option ℕ} {j : ℕ} → i < length text → r ≡ stepped (length text) (remark_at (drop i text))
+    → r ≡ Some j → length text - j < length text - i
 comment_less text i {j = j} h is n = let on : i < j = moved remark_at remark_eats remark_tails text i is n in omega arith
 
 -- the whole comment
-module _ (text : List ℕ) (at : ℕ) {r : Step} (is : r ≡ stepped (length text) (mark (ascii "<!--") (drop at text))) where
-  pub comment_none : r ≡ No → No ≡ stepped (length text) (comment_at (drop at text))
+module _ (text : List ℕ) (at : ℕ) {r : Option ℕ} (is : r ≡ stepped (length text) (mark (ascii "<!--") (drop at text))) where
+  pub comment_none : r ≡ None → None ≡ stepped (length text) (comment_at (drop at text))
   unfolding comment_at bind
   comment_none n = refuses (length text) (comment_at (drop at text))
       (rw (fell (length text) (mark (ascii "<!--") (drop at text)) (sym n ∙ is)))
 
-  pub comment_some : {i : ℕ} → r ≡ To i → {x : Step} → x ≡ stepped (length text) (comment_rest_at (drop i text))
+  pub comment_some : {i : ℕ} → r ≡ Some i → {x : Option ℕ} → x ≡ stepped (length text) (comment_rest_at (drop i text))
       → x ≡ stepped (length text) (comment_at (drop at text))
   unfolding comment_at comment_rest_at until bind
   comment_some {i} n k =

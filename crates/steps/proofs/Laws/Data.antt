@@ -1,5 +1,5 @@
 -- CDATA, at a position of the text: one law for each way through the code.
-use Rattle.std.specs.Prelude.{◌≡◌, refl, List, [], ◌∷◌, ◌++◌, ℕ, ◌+◌, ◌-◌, ◌≤◌, ◌<◌, Bool, true, false, not, eqb, length, drop, get_or}
+use Rattle.std.specs.Prelude.{◌≡◌, refl, List, [], ◌∷◌, ◌++◌, ℕ, ◌+◌, ◌-◌, ◌≤◌, ◌<◌, Bool, true, false, not, eqb, length, drop, get_or, Option, Some, None}
 use Rattle.std.proofs.Math.Path.{ap}
 use Rattle.std.proofs.Common.{sym, ◌∙◌, subst, arith, rules}
 use borrow.Author.Tests.{ne_eqb, not-true}
@@ -23,8 +23,6 @@ use Rattle.steps.proofs.Laws.Feeds.{feed_got, return_read}
 use Rattle.steps.specs.Leaves.{character_at, data_plain, data_rest_at}
 use Rattle.steps.proofs.Laws.Leaves.{literal_is, mark_tails, span_tails, data_character_eats}
 use Rattle.steps.proofs.Laws.Leaves.{data_character_tails}
-use Rattle.steps.specs.declared.Step.{Step}
-use Rattle.steps.specs.declared.Step.TheVariants.{To, No}
 
 -- `]]>`
 module _ (text : List ℕ) (at : ℕ) where
@@ -53,20 +51,20 @@ data_literal a s f =
     rw (line_end_other (ascii "\n") a e s) (literal_is data_byte a s passes)
 
 module _ (text : List ℕ) (at : ℕ) where
-  abbrev Character : Step → Type 0
+  abbrev Character : Option ℕ → Type 0
   Character r = r ≡ stepped (length text) (data_character_at (drop at text))
 
-  pub data_none : length text ≤ at → Character No
+  pub data_none : length text ≤ at → Character None
   data_none h = refuses (length text) (data_character_at (drop at text)) (rw (at_end text at h) data_nil)
 
   module _ (h : at < length text) where
-    pub data_fed : get_or text at 0 ≡ 13 → {j : ℕ} → To j ≡ stepped (length text) (feed_at (ascii "\n") (drop (at + 1) text))
-        → Character (To j)
+    pub data_fed : get_or text at 0 ≡ 13 → {j : ℕ} → Some j ≡ stepped (length text) (feed_at (ascii "\n") (drop (at + 1) text))
+        → Character (Some j)
     data_fed e k =
         let here : drop at text ≡ 13 ∷ drop (at + 1) text = rw (at_byte text at h, e) in
         k ∙ ap (stepped (length text)) (sym (data_return (drop (at + 1) text)) ∙ ap data_character_at (sym here))
 
-    pub data_other : (get_or text at 0 ≡ 13 → ⊥) → {r : Step} → r ≡ stepped (length text) (character_at (drop at text)) → Character r
+    pub data_other : (get_or text at 0 ≡ 13 → ⊥) → {r : Option ℕ} → r ≡ stepped (length text) (character_at (drop at text)) → Character r
     data_other f k = k ∙ rw (at_byte text at h) (ap (stepped (length text)) (sym (data_literal (get_or text at 0) (drop (at + 1) text) f)))
 
 -- up to `]]>`
@@ -92,7 +90,7 @@ plain_over : {w : List ℕ} → Each data_plain w → (r : List ℕ) → data_re
 plain_over no_byte r = refl
 plain_over (a_byte {a} {w} e h) r = plain_on a (w ++ r) e ∙ plain_over h r
 
-module _ (text : List ℕ) (i : ℕ) {j : ℕ} (q : To j ≡ stepped (length text) (span data_plain (drop i text))) where
+module _ (text : List ℕ) (i : ℕ) {j : ℕ} (q : Some j ≡ stepped (length text) (span data_plain (drop i text))) where
   spanned : Went (span data_plain) text i j
   spanned = went (span data_plain) text i j (span_tails data_plain (drop i text)) q
 
@@ -107,17 +105,17 @@ module _ (text : List ℕ) (i : ℕ) {j : ℕ} (q : To j ≡ stepped (length tex
         ∙ ap (stepped (length text)) (plain_over whole.1 (drop j text));
   }
 
-  pub data_falls : i < length text → {r : Step} → r ≡ stepped (length text) (data_character_at (drop j text)) → {k : ℕ} → r ≡ To k
+  pub data_falls : i < length text → {r : Option ℕ} → r ≡ stepped (length text) (data_character_at (drop j text)) → {k : ℕ} → r ≡ Some k
       → length text - k < length text - i
   data_falls h is {k} n =
       let on : j < k = moved data_character_at data_character_eats data_character_tails text j is n in
       omega (arith, spanned.ahead (omega arith))
 
 module _ (text : List ℕ) (at i : ℕ) (go : InData text at i) where
-  abbrev Rest : Step → Type 0
+  abbrev Rest : Option ℕ → Type 0
   Rest r = r ≡ stepped (length text) (data_rest_at (drop at text))
 
-  pub data_open : length text ≤ i → Rest No
+  pub data_open : length text ≤ i → Rest None
   unfolding data_rest_at
   data_open h =
       let k : data_character_at (drop i text) ≡ fail = rw (at_end text i h) data_nil in
@@ -125,18 +123,18 @@ module _ (text : List ℕ) (at i : ℕ) (go : InData text at i) where
       (sym (brackets_none text i h)) k
 
   module _ {t : Bool} (is : t ≡ begins (ascii "]]>") (drop i text)) where
-    pub data_closes : t ≡ true → {r : Step} → r ≡ stepped (length text) (mark (ascii "]]>") (drop i text)) → Rest r
+    pub data_closes : t ≡ true → {r : Option ℕ} → r ≡ stepped (length text) (mark (ascii "]]>") (drop i text)) → Rest r
     unfolding data_rest_at
     data_closes e k = going_stops (begins (ascii "]]>")) data_character_at (mark (ascii "]]>")) data_character_eats text at i go
         (sym is ∙ e) k
 
-    module _ (e : t ≡ false) {r : Step} (s : r ≡ stepped (length text) (data_character_at (drop i text))) where
-      pub data_stuck : r ≡ No → Rest No
+    module _ (e : t ≡ false) {r : Option ℕ} (s : r ≡ stepped (length text) (data_character_at (drop i text))) where
+      pub data_stuck : r ≡ None → Rest None
       unfolding data_rest_at
       data_stuck n = going_stuck (begins (ascii "]]>")) data_character_at (mark (ascii "]]>")) data_character_eats text at i go
           (sym is ∙ e) s n
 
-      pub data_more : {j : ℕ} → r ≡ To j → InData text at j
+      pub data_more : {j : ℕ} → r ≡ Some j → InData text at j
       data_more n = going_goes (begins (ascii "]]>")) data_character_at (mark (ascii "]]>")) data_character_eats text at i go
           (sym is ∙ e) data_character_tails s n
 
@@ -150,21 +148,21 @@ rest_is n s = stepped_each n (all_of (begins (ascii "]]>")) data_character_at s)
     (λ bs r. bind (mark (ascii "]]>") r) (λ _ r₁. got (together bs) r₁))
     (λ bs r. sym (stepped_value n (mark (ascii "]]>") r) (λ _. together bs)))
 
-module _ (text : List ℕ) (at : ℕ) {r : Step} (is : r ≡ stepped (length text) (mark (ascii "<![CDATA[") (drop at text))) where
-  pub data_missing : r ≡ No → No ≡ stepped (length text) (data_at_lem (drop at text))
+module _ (text : List ℕ) (at : ℕ) {r : Option ℕ} (is : r ≡ stepped (length text) (mark (ascii "<![CDATA[") (drop at text))) where
+  pub data_missing : r ≡ None → None ≡ stepped (length text) (data_at_lem (drop at text))
   unfolding data_at_lem
   data_missing n = stuck (length text) (mark (ascii "<![CDATA[") (drop at text)) _ is n
 
-  pub data_there : {i : ℕ} → r ≡ To i → {x : Step} → x ≡ stepped (length text) (data_rest_at (drop i text))
+  pub data_there : {i : ℕ} → r ≡ Some i → {x : Option ℕ} → x ≡ stepped (length text) (data_rest_at (drop i text))
       → x ≡ stepped (length text) (data_at_lem (drop at text))
   unfolding data_at_lem inner_at
   data_there {i} n k = follows (mark (ascii "<![CDATA[")) (mark_tails (ascii "<![CDATA[")) text at _ is i n λ _ _.
       k ∙ rest_is (length text) (drop i text)
 
-pub ruleset brackets-there = (brackets_none, brackets_other, rules)
+pub ruleset brackets_there = (brackets_none, brackets_other, rules)
 
-pub ruleset data-characters = (data_none, data_fed, data_other, rules)
+pub ruleset data_characters = (data_none, data_fed, data_other, rules)
 
-pub ruleset in-data = (data_start, data_over, data_open, data_closes, data_stuck, data_more, data_falls, rules)
+pub ruleset in_data_laws = (data_start, data_over, data_open, data_closes, data_stuck, data_more, data_falls, rules)
 
-pub ruleset data-whole = (data_missing, data_there, rules)
+pub ruleset data_whole = (data_missing, data_there, rules)

@@ -1,8 +1,7 @@
 -- The whole text, step by step.
-use Rattle.std.specs.Prelude.{◌≡◌, refl, ℕ, ◌≤◌, ◌<◌, Bool, eqb}
+use Rattle.std.specs.Prelude.{◌≡◌, refl, ℕ, ◌≤◌, ◌<◌, Bool, eqb, Option, Some, None}
 use Rattle.std.proofs.Common.{sym, ◌∙◌, arith, rules}
 use mathlib.Core.List.{List, []}
-use Rattle.std.proofs.Math.Option.{Option}
 use Rattle.std.proofs.Math.Bool.{true, false}
 use Rattle.std.proofs.Math.ListN.{length, drop}
 use borrow.Author.Tests.{eqb-true, eqb-false}
@@ -18,8 +17,6 @@ use Rattle.grammar.proofs.Laws.Unfuelled.{element_enough, bind_same, no_more_tha
 use Rattle.steps.specs.Step.{stepped, Went}
 use Rattle.steps.proofs.Laws.Step.{went, fell, at_byte, at_end}
 use Rattle.steps.proofs.Laws.Until.{bind_assoc}
-use Rattle.steps.specs.declared.Step.{Step}
-use Rattle.steps.specs.declared.Step.TheVariants.{To, No}
 use Rattle.steps.proofs.Laws.Row.{element_tails}
 use Rattle.steps.specs.Prologue.{asides_at, preamble_at}
 use Rattle.steps.proofs.Laws.Prologue.{asides_tails, preamble_tails}
@@ -48,7 +45,7 @@ module _ (text : List ℕ) where
     accepts = λ e. clash (cc);
     refuses = λ _ e w.
         let p = parse_complete w in
-        let q : parse text ≡ Option.none = rw (whole_is text, h) in
+        let q : parse text ≡ None = rw (whole_is text, h) in
         clash (cc);
   }
 
@@ -59,20 +56,20 @@ module _ (text : List ℕ) where
     refuses = λ e. clash (cc);
   }
 
-  module _ {r₁ : Step} (q₁ : r₁ ≡ stepped (length text) (preamble_at text)) where
-    pub unrooted : r₁ ≡ No → WellFormed text false
+  module _ {r₁ : Option ℕ} (q₁ : r₁ ≡ stepped (length text) (preamble_at text)) where
+    pub unrooted : r₁ ≡ None → WellFormed text false
     unfolding whole_at bind
     unrooted e = refused (rw (fell (length text) (preamble_at text) (sym e ∙ q₁)))
 
-    module _ {i : ℕ} (e₁ : r₁ ≡ To i) {r₂ : Step} (q₂ : r₂ ≡ stepped (length text) (element_at contents 16 (drop i text))) where
+    module _ {i : ℕ} (e₁ : r₁ ≡ Some i) {r₂ : Option ℕ} (q₂ : r₂ ≡ stepped (length text) (element_at contents 16 (drop i text))) where
       rooted : Went preamble_at text 0 i
       rooted = went preamble_at text 0 i (preamble_tails text) (sym e₁ ∙ q₁)
 
-      pub rootless : r₂ ≡ No → WellFormed text false
+      pub rootless : r₂ ≡ None → WellFormed text false
       unfolding whole_at bind
       rootless e = refused (rw (rooted.reads, fell (length text) (element_at contents 16 (drop i text)) (sym e ∙ q₂)))
 
-      module _ {j : ℕ} (e₂ : r₂ ≡ To j) {r₃ : Step} (q₃ : r₃ ≡ stepped (length text) (asides_at (drop j text))) where
+      module _ {j : ℕ} (e₂ : r₂ ≡ Some j) {r₃ : Option ℕ} (q₃ : r₃ ≡ stepped (length text) (asides_at (drop j text))) where
         root : Went (element_at contents 16) text i j
         root = went (element_at contents 16) text i j (element_tails 16 (drop i text)) (sym e₂ ∙ q₂)
 
@@ -80,11 +77,11 @@ module _ (text : List ℕ) where
         unfolding whole_at bind
         here = rw (rooted.reads, root.reads)
 
-        pub unended : r₃ ≡ No → WellFormed text false
+        pub unended : r₃ ≡ None → WellFormed text false
         unfolding behind bind
         unended e = refused (here ∙ rw (fell (length text) (asides_at (drop j text)) (sym e ∙ q₃)))
 
-        module _ {k : ℕ} (e₃ : r₃ ≡ To k) where
+        module _ {k : ℕ} (e₃ : r₃ ≡ Some k) where
           last : Went asides_at text j k
           last = went asides_at text j k (asides_tails (drop j text)) (sym e₃ ∙ q₃)
 

@@ -1,9 +1,8 @@
 -- THE CORRECTION, IN THE STANDARD'S WORDS: a text says what it says with its line ends translated first.
-use Rattle.std.specs.Prelude.{◌≡◌, not}
+use Rattle.std.specs.Prelude.{◌≡◌, not, Some}
 use Rattle.std.proofs.Math.Path.{refl, ap}
 use Rattle.std.proofs.Common.{ap₂, sym, ◌∙◌}
 use mathlib.Core.List.{List, [], ◌∷◌, ◌++◌}
-use Rattle.std.proofs.Math.Option.{some}
 use Prim.Native.Nat.{ℕ, zero, suc, ◌≤◌, ◌<◌}
 use native.Mathlib.Omega.{arith}
 use Rattle.std.proofs.Math.ListN.{length, length-append}
@@ -160,7 +159,7 @@ whole_alike e =
 answers : {m n : Read Element} → Alike OneElement m n → erased_in (answer m) ≡ erased_in (answer n)
 unfolding erased_in answer
 answers both_fail = refl
-answers (both_got h) = ap some h.node_same
+answers (both_got h) = ap Some h.node_same
 
 -- LINE ENDS: for every text
 pub line_ends_lem : (s : List ℕ) → document_of s ≡ document_of (line_ends s)

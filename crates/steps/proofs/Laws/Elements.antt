@@ -1,5 +1,5 @@
 -- Elements and contents, step by step.
-use Rattle.std.specs.Prelude.{◌≡◌, List, ◌∷◌, ◌++◌, ℕ, suc, ◌+◌, ◌-◌, ◌≤◌, ◌<◌, length, drop}
+use Rattle.std.specs.Prelude.{◌≡◌, List, ◌∷◌, ◌++◌, ℕ, suc, ◌+◌, ◌-◌, ◌≤◌, ◌<◌, length, drop, Option, Some, None}
 use Rattle.std.proofs.Math.Path.{refl}
 use Rattle.std.proofs.Common.{ap, sym, ◌∙◌, subst, append_assoc, arith, rules, length-drop}
 use Rattle.lists.proofs.Laws.Booleans.{clash}
@@ -18,8 +18,6 @@ use Rattle.steps.proofs.Laws.Leaves.{mark_tails}
 use Rattle.steps.specs.Keys.{Head, head, head_at}
 use Rattle.steps.proofs.Laws.Keys.{head_tails}
 use Rattle.steps.proofs.Laws.Until.{bind_assoc, stepped_value, stepped_each}
-use Rattle.steps.specs.declared.Step.{Step}
-use Rattle.steps.specs.declared.Step.TheVariants.{To, No}
 use Rattle.steps.proofs.Laws.Row as Row
 use Rattle.steps.specs.Row.{Piece, pieces_at}
 use Rattle.steps.proofs.Laws.Row.{rest_of, element_split, element_tails, element_eats, pieces_tails, pieces_eat_on}
@@ -32,8 +30,8 @@ use Rattle.steps.proofs.Laws.Parsing.{stuck, follows}
 
 -- what a turn of the contents' loop finds, by what stops the pieces
 data Turn (d n : ℕ) (s : List ℕ) : Between → Type 0 where
-  bad : stepped n (contents d s) ≡ No → Turn d n s Between.Bad
-  close : (r : List ℕ) → stepped n (contents d s) ≡ To (n - length r) → Turn d n s (Between.Close (n - length r))
+  bad : stepped n (contents d s) ≡ None → Turn d n s Between.Bad
+  close : (r : List ℕ) → stepped n (contents d s) ≡ Some (n - length r) → Turn d n s (Between.Close (n - length r))
   start : (l : List Piece) (r : List ℕ) → pieces_at s ≡ got l r
       → stepped n (contents d s) ≡ stepped n (bind (element_at contents d r) (λ e r₁. contents d r₁))
       → Turn d n s (Between.Start (n - length r))
@@ -58,12 +56,12 @@ module _ (d n : ℕ) (s : List ℕ) where
   turn_of fail e = bad (rw (contents_split d s, e))
   turn_of (got l r) e = turn_by l r e (look r) refl
 
-is_close : {d n j : ℕ} {s : List ℕ} {b : Between} → Turn d n s b → b ≡ Between.Close j → To j ≡ stepped n (contents d s)
+is_close : {d n j : ℕ} {s : List ℕ} {b : Between} → Turn d n s b → b ≡ Between.Close j → Some j ≡ stepped n (contents d s)
 is_close (bad e) q = clash (cc)
 is_close (close r e) q = cc
 is_close (start l r h e) q = clash (cc)
 
-is_bad : {d n : ℕ} {s : List ℕ} {b : Between} → Turn d n s b → b ≡ Between.Bad → No ≡ stepped n (contents d s)
+is_bad : {d n : ℕ} {s : List ℕ} {b : Between} → Turn d n s b → b ≡ Between.Bad → None ≡ stepped n (contents d s)
 is_bad (bad e) q = sym e
 is_bad (close r e) q = clash (cc)
 is_bad (start l r h e) q = clash (cc)
@@ -80,7 +78,7 @@ is_start (bad e) q = clash (cc)
 is_start (close r e) q = clash (cc)
 is_start {d} {text} {i} {j} (start l r h e) q =
     let place : j ≡ length text - length r = cc in
-    let there : To j ≡ stepped (length text) (pieces_at (drop i text)) = rw (h, place) in
+    let there : Some j ≡ stepped (length text) (pieces_at (drop i text)) = rw (h, place) in
     let w = went pieces_at text i j (pieces_tails (drop i text)) there in
     let here : r ≡ drop j text = cc w.reads in
     let parts : length r ≤ length (drop i text) = shorter (rw h at (pieces_eat_on (drop i text))) in
@@ -98,20 +96,20 @@ module _ (d : ℕ) (text : List ℕ) (at i : ℕ) (inv : Reading d text at i) {b
   turn = subst (λ (x : Between). Turn d (length text) (drop i text) x) (sym q)
       (turn_of d (length text) (drop i text) (pieces_at (drop i text)) refl)
 
-  pub contents_close : {j : ℕ} → b ≡ Between.Close j → To j ≡ stepped (length text) (contents d (drop at text))
+  pub contents_close : {j : ℕ} → b ≡ Between.Close j → Some j ≡ stepped (length text) (contents d (drop at text))
   contents_close e = is_close turn e ∙ sym inv
 
-  pub contents_bad : b ≡ Between.Bad → No ≡ stepped (length text) (contents d (drop at text))
+  pub contents_bad : b ≡ Between.Bad → None ≡ stepped (length text) (contents d (drop at text))
   contents_bad e = is_bad turn e ∙ sym inv
 
-  module _ {j : ℕ} (e : b ≡ Between.Start j) {r : Step} (q₂ : r ≡ stepped (length text) (element_at contents d (drop j text))) where
+  module _ {j : ℕ} (e : b ≡ Between.Start j) {r : Option ℕ} (q₂ : r ≡ stepped (length text) (element_at contents d (drop j text))) where
     starts : Starts d text i j
     starts = is_start turn e
 
-    pub contents_stuck : r ≡ No → No ≡ stepped (length text) (contents d (drop at text))
+    pub contents_stuck : r ≡ None → None ≡ stepped (length text) (contents d (drop at text))
     contents_stuck k = stuck (length text) (element_at contents d (drop j text)) (λ e r₁. contents d r₁) q₂ k ∙ sym (inv ∙ starts.goes)
 
-    module _ {k : ℕ} (h : r ≡ To k) where
+    module _ {k : ℕ} (h : r ≡ Some k) where
       pub contents_on : Reading d text at k
       contents_on = inv ∙ starts.goes ∙ sym
           (follows (element_at contents d) (element_tails d) text j (λ e r₁. contents d r₁) q₂ k h λ _ _. refl)
@@ -135,8 +133,8 @@ name_of_lem (head n l) = n
 
 -- what an element is, by how its start tag ends
 data Opens (d n : ℕ) (s : List ℕ) : Opened → Type 0 where
-  bad : stepped n (element_at contents (suc d) s) ≡ No → Opens d n s Opened.Bad
-  empty : (r : List ℕ) → stepped n (element_at contents (suc d) s) ≡ To (n - length r) → Opens d n s (Opened.Empty (n - length r))
+  bad : stepped n (element_at contents (suc d) s) ≡ None → Opens d n s Opened.Bad
+  empty : (r : List ℕ) → stepped n (element_at contents (suc d) s) ≡ Some (n - length r) → Opens d n s (Opened.Empty (n - length r))
   full : (h : Head) (r : List ℕ) → start_at s ≡ got h r
       → stepped n (element_at contents (suc d) s) ≡ stepped n (bind (contents d r) (λ _ r₁. close_at (name_of_lem h) r₁))
       → Opens d n s (Opened.Full (n - length r))
@@ -153,7 +151,7 @@ full_steps d n nm l r r₁ e =
     stepped_value n (mark (ascii ">") r₅) (λ _. element nm l c (before r₁ r₂)))
 
 full_fails : (d n : ℕ) (nm : List ℕ) (l : List Attribute) (r : List ℕ) → mark (ascii ">") r ≡ fail
-    → stepped n (full_at (contents d) nm l r) ≡ No
+    → stepped n (full_at (contents d) nm l r) ≡ None
 unfolding full_at bind stepped
 full_fails d n nm l r e = rw e
 
@@ -176,12 +174,12 @@ module _ (d n : ℕ) (s : List ℕ) where
   opens_of fail e = bad (rw (element_split d s, e))
   opens_of (got (head nm l) r) e = opens_by nm l r e (mark (ascii ">") r) refl (apart r) (mark (ascii "/>") r) refl
 
-opens_bad : {d n : ℕ} {s : List ℕ} {o : Opened} → Opens d n s o → o ≡ Opened.Bad → No ≡ stepped n (element_at contents (suc d) s)
+opens_bad : {d n : ℕ} {s : List ℕ} {o : Opened} → Opens d n s o → o ≡ Opened.Bad → None ≡ stepped n (element_at contents (suc d) s)
 opens_bad (bad e) q = sym e
 opens_bad (empty r e) q = clash (cc)
 opens_bad (full h r k e) q = clash (cc)
 
-opens_empty : {d n i : ℕ} {s : List ℕ} {o : Opened} → Opens d n s o → o ≡ Opened.Empty i → To i ≡ stepped n (element_at contents (suc d) s)
+opens_empty : {d n i : ℕ} {s : List ℕ} {o : Opened} → Opens d n s o → o ≡ Opened.Empty i → Some i ≡ stepped n (element_at contents (suc d) s)
 opens_empty (bad e) q = clash (cc)
 opens_empty (empty r e) q = cc
 opens_empty (full h r k e) q = clash (cc)
@@ -200,7 +198,7 @@ opens_full (bad e) q = clash (cc)
 opens_full (empty r e) q = clash (cc)
 opens_full {d} {text} {at} {i} (full h r k e) q =
     let place : i ≡ length text - length r = cc in
-    let there : To i ≡ stepped (length text) (start_at (drop at text)) = rw (k, place) in
+    let there : Some i ≡ stepped (length text) (start_at (drop at text)) = rw (k, place) in
     let w = went start_at text at i (start_tails (drop at text)) there in
     let here : r ≡ drop i text = cc w.reads in
     record { header = h; reads = rw (← here) k; goes = rw (← here) e }
@@ -235,7 +233,7 @@ contents_tails : (d : ℕ) (s : List ℕ) → Ok (Tails s) (contents d s)
 unfolding contents
 contents_tails d s = tails (contents_sound (suc (length s)) d s)
 
-pub element_none : (text : List ℕ) (at depth : ℕ) → depth ≡ 0 → No ≡ stepped (length text) (element_at contents depth (drop at text))
+pub element_none : (text : List ℕ) (at depth : ℕ) → depth ≡ 0 → None ≡ stepped (length text) (element_at contents depth (drop at text))
 unfolding element_at stepped
 element_none text at depth e = rw e
 
@@ -247,24 +245,24 @@ module _ (text : List ℕ) (at depth : ℕ) (deep : depth ≡ 0 → ⊥) {o : Op
   less_one : suc (depth - 1) ≡ depth
   less_one = omega arith
 
-  deeper : {x : Step} → x ≡ stepped (length text) (element_at contents (suc (depth - 1)) (drop at text))
+  deeper : {x : Option ℕ} → x ≡ stepped (length text) (element_at contents (suc (depth - 1)) (drop at text))
       → x ≡ stepped (length text) (element_at contents depth (drop at text))
   deeper e = e ∙ ap (λ d. stepped (length text) (element_at contents d (drop at text))) less_one
 
-  pub element_bad : o ≡ Opened.Bad → No ≡ stepped (length text) (element_at contents depth (drop at text))
+  pub element_bad : o ≡ Opened.Bad → None ≡ stepped (length text) (element_at contents depth (drop at text))
   element_bad e = deeper (opens_bad opens e)
 
-  pub element_empty : {i : ℕ} → o ≡ Opened.Empty i → To i ≡ stepped (length text) (element_at contents depth (drop at text))
+  pub element_empty : {i : ℕ} → o ≡ Opened.Empty i → Some i ≡ stepped (length text) (element_at contents depth (drop at text))
   element_empty e = deeper (opens_empty opens e)
 
-  module _ {i : ℕ} (e : o ≡ Opened.Full i) {r : Step} (q₂ : r ≡ stepped (length text) (contents (depth - 1) (drop i text))) where
+  module _ {i : ℕ} (e : o ≡ Opened.Full i) {r : Option ℕ} (q₂ : r ≡ stepped (length text) (contents (depth - 1) (drop i text))) where
     begun : Begins (depth - 1) text at i
     begun = opens_full opens e
 
-    pub element_stuck : r ≡ No → No ≡ stepped (length text) (element_at contents depth (drop at text))
+    pub element_stuck : r ≡ None → None ≡ stepped (length text) (element_at contents depth (drop at text))
     element_stuck k = deeper (stuck (length text) (contents (depth - 1) (drop i text)) _ q₂ k ∙ sym begun.goes)
 
-    pub element_full : {j : ℕ} → r ≡ To j → {x : Step} → x ≡ stepped (length text) (closing_at (drop (at + 1) text) (drop j text))
+    pub element_full : {j : ℕ} → r ≡ Some j → {x : Option ℕ} → x ≡ stepped (length text) (closing_at (drop (at + 1) text) (drop j text))
         → x ≡ stepped (length text) (element_at contents depth (drop at text))
     element_full {j} k q₃ =
         let known = ok_got (rw begun.reads at (start_names (drop at text))) in

@@ -1,5 +1,5 @@
 -- The end of a line behind its carriage return: a line feed, or nothing. It is read the same, whatever it stands for.
-use Rattle.std.specs.Prelude.{◌≡◌, refl, List, [], ◌∷◌, ◌++◌, ℕ, ◌+◌, ◌≤◌, ◌<◌, Bool, true, false, ◌&&◌, eqb, length, get_or}
+use Rattle.std.specs.Prelude.{◌≡◌, refl, List, [], ◌∷◌, ◌++◌, ℕ, ◌+◌, ◌≤◌, ◌<◌, Bool, true, false, ◌&&◌, eqb, length, get_or, Some}
 use Rattle.std.proofs.Common.{◌∙◌, arith, rules}
 use Rattle.lists.proofs.Laws.Booleans.{clash}
 use borrow.Author.Tests.{eq-eqb, ne_eqb, eqb-true}
@@ -11,7 +11,6 @@ use Rattle.grammar.specs.Read.{got, bind, mark, test}
 use Rattle.grammar.specs.Parser.{stands_for, feed_if, feed_at, line_end_at}
 use Rattle.steps.specs.Step.{stepped}
 use Rattle.steps.proofs.Laws.Step.{at_byte, at_end, arrives}
-use Rattle.steps.specs.declared.Step.TheVariants.{To}
 
 -- what is left behind it
 unfoldable pub left_by : Bool → ℕ → List ℕ → List ℕ
@@ -62,7 +61,7 @@ line_end_returns Grammar.lone s e = record { behind = s; whole = refl; leaves = 
 -- in a program
 module _ (text : List ℕ) (at : ℕ) where
   abbrev Feed : ℕ → Type 0
-  Feed r = To r ≡ stepped (length text) (feed_at (ascii "\n") (drop at text))
+  Feed r = Some r ≡ stepped (length text) (feed_at (ascii "\n") (drop at text))
 
   pub feed_none : length text ≤ at → Feed (length text)
   unfolding fed

@@ -1,6 +1,7 @@
 -- Keys and single attributes, at a position of the text: one law for each way through the code.
-use Rattle.std.specs.Prelude.{◌≡◌, refl, List, ◌++◌, ℕ, ◌-◌, ◌≤◌, ◌<◌, length, drop}
+use Rattle.std.specs.Prelude.{◌≡◌, refl, List, ◌++◌, ℕ, ◌-◌, ◌≤◌, ◌<◌, length, drop, Option, Some, None}
 use Rattle.std.proofs.Common.{ap, sym, ◌∙◌, append_assoc, arith, length-append, length-drop, take_at}
+use Rattle.std.proofs.lemmas.Option.{same_Some}
 use Rattle.lists.proofs.Laws.Booleans.{clash}
 use Rattle.grammar.specs.Bytes.{ascii, blank}
 use Rattle.grammar.specs.Document.{attribute}
@@ -17,11 +18,8 @@ use Rattle.steps.proofs.Laws.Until.{stepped_value}
 use Rattle.steps.specs.Noted.{part}
 use Rattle.steps.proofs.Laws.Leaves.{gap_tails, name_tails, equals_tails, value_tails}
 use Rattle.steps.specs.declared.attributes.Key.{Key}
-use Rattle.steps.specs.declared.attributes.Key.TheVariants as key
 use Rattle.steps.specs.Keys.{spots, key_at, named_at, keyed, head_at, Keyed, Named}
 use Rattle.steps.proofs.Laws.Step.{arrives, refuses}
-use Rattle.steps.specs.declared.Step.{Step}
-use Rattle.steps.specs.declared.Step.TheVariants.{To, No}
 
 pub head_tails : (s : List ℕ) → Ok (Tails s) (head_at s)
 unfolding head_at
@@ -60,7 +58,7 @@ module _ (text : List ℕ) (at : ℕ) where
   unfolding key_at bind
   key_reads k = rw (k.gap.reads, k.name.reads, k.equals.reads)
 
-  pub key_is : {from to end : ℕ} → Keyed text at from to end → key.Is from to end ≡ keyed (length text) (key_at (drop at text))
+  pub key_is : {from to end : ℕ} → Keyed text at from to end → Some (record { from = from; to = to; end = end }) ≡ keyed (length text) (key_at (drop at text))
   unfolding keyed
   key_is {from} {to} {end} k = rw (
     key_reads k,
@@ -69,7 +67,7 @@ module _ (text : List ℕ) (at : ℕ) where
     left_at text end k.equals.inside,
   )
 
-  pub key_not : key_at (drop at text) ≡ fail → key.No ≡ keyed (length text) (key_at (drop at text))
+  pub key_not : key_at (drop at text) ≡ fail → None ≡ keyed (length text) (key_at (drop at text))
   unfolding keyed
   key_not e = rw e
 
@@ -78,7 +76,7 @@ module _ (text : List ℕ) (at : ℕ) where
   unfolding named_at bind
   named_reads k = rw (key_reads k.key, k.value.reads)
 
-  pub named_is : {from to end : ℕ} → Named text at from to end → key.Is from to end ≡ keyed (length text) (named_at (drop at text))
+  pub named_is : {from to end : ℕ} → Named text at from to end → Some (record { from = from; to = to; end = end }) ≡ keyed (length text) (named_at (drop at text))
   unfolding keyed
   named_is {from} {to} {end} k = rw (
     named_reads k,
@@ -87,7 +85,7 @@ module _ (text : List ℕ) (at : ℕ) where
     left_at text end k.value.inside,
   )
 
-  pub named_not : named_at (drop at text) ≡ fail → key.No ≡ keyed (length text) (named_at (drop at text))
+  pub named_not : named_at (drop at text) ≡ fail → None ≡ keyed (length text) (named_at (drop at text))
   unfolding keyed
   named_not e = rw e
 
@@ -150,18 +148,17 @@ named_goes text at = go (key_goes text at)
     go (no_key e) = not_named (named_stops text at e)
     go (a_key {end = end} k) = go₂ k (goes_or_fails value_at text end value_tails)
 
-pub key_found : (text : List ℕ) (at : ℕ) {r : Key} {from to end : ℕ} → r ≡ keyed (length text) (key_at (drop at text))
-    → r ≡ key.Is from to end → Keyed text at from to end
-key_found text at {r} {from} {to} {end} q e = go (key_goes text at)
+pub key_found : (text : List ℕ) (at : ℕ) {r : Option Key} {spot : Key} → r ≡ keyed (length text) (key_at (drop at text))
+    → r ≡ Some spot → Keyed text at spot.from spot.to spot.end
+key_found text at {r} {spot} q e = go (key_goes text at)
   where
-    go : KeyGoes text at → Keyed text at from to end
+    go : KeyGoes text at → Keyed text at spot.from spot.to spot.end
     go (no_key k) = let n = key_not text at k in clash (cc)
     go (a_key {from = f} {to = t} {end = n} k) =
-        let i = key_is text at k in
-        let e₁ : f ≡ from = cc in let e₂ : t ≡ to = cc in let e₃ : n ≡ end = cc in
-        rw (← e₁, ← e₂, ← e₃) k
+        let same = same_Some _ _ (key_is text at k ∙ sym q ∙ e) in
+        rw (← ap (λ n. n.from) same, ← ap (λ n. n.to) same, ← ap (λ n. n.end) same) k
 
-pub key_missed : (text : List ℕ) (at : ℕ) {r : Key} → r ≡ keyed (length text) (key_at (drop at text)) → r ≡ key.No
+pub key_missed : (text : List ℕ) (at : ℕ) {r : Option Key} → r ≡ keyed (length text) (key_at (drop at text)) → r ≡ None
     → key_at (drop at text) ≡ fail
 key_missed text at {r} q e = go (key_goes text at)
   where
@@ -169,18 +166,17 @@ key_missed text at {r} q e = go (key_goes text at)
     go (no_key k) = k
     go (a_key k) = let i = key_is text at k in clash (cc)
 
-pub named_found : (text : List ℕ) (at : ℕ) {r : Key} {from to end : ℕ} → r ≡ keyed (length text) (named_at (drop at text))
-    → r ≡ key.Is from to end → Named text at from to end
-named_found text at {r} {from} {to} {end} q e = go (named_goes text at)
+pub named_found : (text : List ℕ) (at : ℕ) {r : Option Key} {spot : Key} → r ≡ keyed (length text) (named_at (drop at text))
+    → r ≡ Some spot → Named text at spot.from spot.to spot.end
+named_found text at {r} {spot} q e = go (named_goes text at)
   where
-    go : NamedGoes text at → Named text at from to end
+    go : NamedGoes text at → Named text at spot.from spot.to spot.end
     go (not_named k) = let n = named_not text at k in clash (cc)
     go (is_named_lem {from = f} {to = t} {end = n} k) =
-        let i = named_is text at k in
-        let e₁ : f ≡ from = cc in let e₂ : t ≡ to = cc in let e₃ : n ≡ end = cc in
-        rw (← e₁, ← e₂, ← e₃) k
+        let same = same_Some _ _ (named_is text at k ∙ sym q ∙ e) in
+        rw (← ap (λ n. n.from) same, ← ap (λ n. n.to) same, ← ap (λ n. n.end) same) k
 
-pub named_missed : (text : List ℕ) (at : ℕ) {r : Key} → r ≡ keyed (length text) (named_at (drop at text)) → r ≡ key.No
+pub named_missed : (text : List ℕ) (at : ℕ) {r : Option Key} → r ≡ keyed (length text) (named_at (drop at text)) → r ≡ None
     → named_at (drop at text) ≡ fail
 named_missed text at {r} q e = go (named_goes text at)
   where
@@ -242,58 +238,58 @@ module _ (text : List ℕ) (at from to end : ℕ) (k : Named text at from to end
       part_is text k.key.name.value from to named_ahead k.key.name.inside n.0
 
 -- what a call tells
-module _ {A : Type 0} (p : Reader A) (text : List ℕ) (at : ℕ) {r : Step} (is : r ≡ stepped (length text) (p (drop at text))) where
-  pub stuck : r ≡ No → p (drop at text) ≡ fail
+module _ {A : Type 0} (p : Reader A) (text : List ℕ) (at : ℕ) {r : Option ℕ} (is : r ≡ stepped (length text) (p (drop at text))) where
+  pub stuck : r ≡ None → p (drop at text) ≡ fail
   stuck e = fell (length text) (p (drop at text)) (sym e ∙ is)
 
-  pub step : ((s : List ℕ) → Ok (Tails s) (p s)) → {j : ℕ} → r ≡ To j → Went p text at j
+  pub step : ((s : List ℕ) → Ok (Tails s) (p s)) → {j : ℕ} → r ≡ Some j → Went p text at j
   step ends {j} e = went p text at j (ends (drop at text)) (sym e ∙ is)
 
 module _ (text : List ℕ) (at : ℕ) where
-  abbrev Keys : Key → Type 0
+  abbrev Keys : Option Key → Type 0
   Keys r = r ≡ keyed (length text) (key_at (drop at text))
 
-  module _ {r₁ : Step} (s₁ : r₁ ≡ stepped (length text) (gap_at (drop at text))) where
-    pub key_no_gap : r₁ ≡ No → Keys key.No
+  module _ {r₁ : Option ℕ} (s₁ : r₁ ≡ stepped (length text) (gap_at (drop at text))) where
+    pub key_no_gap : r₁ ≡ None → Keys None
     key_no_gap e = key_not text at (key_stops_1 text at (stuck gap_at text at s₁ e))
 
-    module _ {from : ℕ} (e₁ : r₁ ≡ To from) {r₂ : Step} (s₂ : r₂ ≡ stepped (length text) (name_at (drop from text))) where
-      pub key_no_name : r₂ ≡ No → Keys key.No
+    module _ {from : ℕ} (e₁ : r₁ ≡ Some from) {r₂ : Option ℕ} (s₂ : r₂ ≡ stepped (length text) (name_at (drop from text))) where
+      pub key_no_name : r₂ ≡ None → Keys None
       key_no_name e = key_not text at (key_stops_2 text at (step gap_at text at s₁ gap_tails e₁) (stuck name_at text from s₂ e))
 
-      module _ {to : ℕ} (e₂ : r₂ ≡ To to) {r₃ : Step} (s₃ : r₃ ≡ stepped (length text) (equals_at (drop to text))) where
-        pub key_no_equals : r₃ ≡ No → Keys key.No
+      module _ {to : ℕ} (e₂ : r₂ ≡ Some to) {r₃ : Option ℕ} (s₃ : r₃ ≡ stepped (length text) (equals_at (drop to text))) where
+        pub key_no_equals : r₃ ≡ None → Keys None
         key_no_equals e = key_not text at
             (key_stops_3 text at (step gap_at text at s₁ gap_tails e₁) (step name_at text from s₂ name_tails e₂)
             (stuck equals_at text to s₃ e))
 
-        pub key_all : {end : ℕ} → r₃ ≡ To end → Keys (key.Is from to end)
+        pub key_all : {end : ℕ} → r₃ ≡ Some end → Keys (Some (record { from = from; to = to; end = end }))
         key_all e = key_is text at (record {
           gap = step gap_at text at s₁ gap_tails e₁;
           name = step name_at text from s₂ name_tails e₂;
           equals = step equals_at text to s₃ equals_tails e;
         })
 
-  abbrev Names : Key → Type 0
+  abbrev Names : Option Key → Type 0
   Names r = r ≡ keyed (length text) (named_at (drop at text))
 
-  module _ {r₁ : Key} (s₁ : r₁ ≡ keyed (length text) (key_at (drop at text))) where
-    pub named_no_key : r₁ ≡ key.No → Names key.No
+  module _ {r₁ : Option Key} (s₁ : r₁ ≡ keyed (length text) (key_at (drop at text))) where
+    pub named_no_key : r₁ ≡ None → Names None
     named_no_key e = named_not text at (named_stops text at (key_missed text at s₁ e))
 
-    module _ {from to end : ℕ} (e₁ : r₁ ≡ key.Is from to end) {r₂ : Step} (s₂ : r₂ ≡ stepped (length text) (value_at (drop end text))) where
-      pub named_no_value : r₂ ≡ No → Names key.No
-      named_no_value e = named_not text at (named_stops_2 text at (key_found text at s₁ e₁) (stuck value_at text end s₂ e))
+    module _ {spot : Key} (e₁ : r₁ ≡ Some spot) {r₂ : Option ℕ} (s₂ : r₂ ≡ stepped (length text) (value_at (drop spot.end text))) where
+      pub named_no_value : r₂ ≡ None → Names None
+      named_no_value e = named_not text at (named_stops_2 text at (key_found text at s₁ e₁) (stuck value_at text spot.end s₂ e))
 
-      pub named_all : {j : ℕ} → r₂ ≡ To j → Names (key.Is from to j)
+      pub named_all : {j : ℕ} → r₂ ≡ Some j → Names (Some (record { from = spot.from; to = spot.to; end = j }))
       named_all e = named_is text at (record
-          { middle = end; key = key_found text at s₁ e₁; value = step value_at text end s₂ value_tails e })
+          { middle = spot.end; key = key_found text at s₁ e₁; value = step value_at text spot.end s₂ value_tails e })
 
-  module _ {r₁ : Key} (s₁ : r₁ ≡ keyed (length text) (named_at (drop at text))) where
-    pub attribute_not : r₁ ≡ key.No → No ≡ stepped (length text) (attribute_at_lem (drop at text))
+  module _ {r₁ : Option Key} (s₁ : r₁ ≡ keyed (length text) (named_at (drop at text))) where
+    pub attribute_not : r₁ ≡ None → None ≡ stepped (length text) (attribute_at_lem (drop at text))
     attribute_not e = refuses (length text) (attribute_at_lem (drop at text)) (named_fails text at (named_missed text at s₁ e))
 
-    pub attribute_is : {from to end : ℕ} → r₁ ≡ key.Is from to end → To end ≡ stepped (length text) (attribute_at_lem (drop at text))
-    attribute_is {from} {to} {end} e =
+    pub attribute_is : {spot : Key} → r₁ ≡ Some spot → Some spot.end ≡ stepped (length text) (attribute_at_lem (drop at text))
+    attribute_is {spot} e =
         let k = named_found text at s₁ e in
-        arrives text (attribute_at_lem (drop at text)) end k.value.inside (named_reads_it text at from to end k)
+        arrives text (attribute_at_lem (drop at text)) spot.end k.value.inside (named_reads_it text at spot.from spot.to spot.end k)

@@ -1,22 +1,20 @@
 -- One reader after another, at positions of a text.
-use Rattle.std.specs.Prelude.{◌≡◌, List, ℕ, length, drop}
+use Rattle.std.specs.Prelude.{◌≡◌, List, ℕ, length, drop, Option, Some, None}
 use Rattle.std.proofs.Common.{ap, sym, ◌∙◌}
 use Rattle.grammar.specs.Read.{Read, got, Reader, bind}
 use Rattle.grammar.proofs.Laws.Read.{Ok}
 use Rattle.steps.specs.Step.{stepped}
 use Rattle.steps.proofs.Laws.Step.{Tails, went, refuses, fell}
-use Rattle.steps.specs.declared.Step.{Step}
-use Rattle.steps.specs.declared.Step.TheVariants.{To, No}
 
 -- the first of two readers fails
-pub stuck : {A B : Type 0} (n : ℕ) (m : Read A) (f : A → List ℕ → Read B) {r : Step} → r ≡ stepped n m → r ≡ No → No ≡ stepped n (bind m f)
+pub stuck : {A B : Type 0} (n : ℕ) (m : Read A) (f : A → List ℕ → Read B) {r : Option ℕ} → r ≡ stepped n m → r ≡ None → None ≡ stepped n (bind m f)
 unfolding bind
 stuck n m f q e = refuses n (bind m f) (rw (fell n m (sym e ∙ q)))
 
 -- it reads, and the second goes on from there
 pub follows : {A B : Type 0} (p : Reader A) (tails : (s : List ℕ) → Ok (Tails s) (p s)) (text : List ℕ) (at : ℕ)
-    (f : A → List ℕ → Read B) {r : Step}
-    → r ≡ stepped (length text) (p (drop at text)) → (i : ℕ) → r ≡ To i → {x : Step}
+    (f : A → List ℕ → Read B) {r : Option ℕ}
+    → r ≡ stepped (length text) (p (drop at text)) → (i : ℕ) → r ≡ Some i → {x : Option ℕ}
     → ((a : A) → p (drop at text) ≡ got a (drop i text) → x ≡ stepped (length text) (f a (drop i text)))
     → x ≡ stepped (length text) (bind (p (drop at text)) f)
 unfolding bind

@@ -1,5 +1,5 @@
 -- The readers between tags, step by step.
-use Rattle.std.specs.Prelude.{◌≡◌, refl, List, [], ◌∷◌, ℕ, ◌+◌, ◌≤◌, ◌<◌, Bool, eqb, drop, get_or}
+use Rattle.std.specs.Prelude.{◌≡◌, refl, List, [], ◌∷◌, ℕ, ◌+◌, ◌≤◌, ◌<◌, Bool, eqb, drop, get_or, Option, Some, None}
 use Rattle.std.proofs.Math.Path.{ap, sym}
 use Rattle.std.proofs.Common.{◌∙◌, rules}
 use native.Mathlib.Omega.{arith}
@@ -22,8 +22,6 @@ use Rattle.steps.specs.Leaves.{character_at}
 use Rattle.steps.proofs.Laws.Leaves.{literal_is, literal_not}
 use Rattle.steps.proofs.Laws.Until.{stepped_value}
 use Rattle.steps.proofs.Laws.Feeds.{feed_got, return_read}
-use Rattle.steps.specs.declared.Step.{Step}
-use Rattle.steps.specs.declared.Step.TheVariants.{To, No}
 use Rattle.steps.specs.Row.{character, remark, text_piece_at, piece_by, piece_at}
 use Rattle.steps.specs.Pieces.{front, halted}
 use Rattle.steps.specs.declared.pieces.Front.{Front}
@@ -118,18 +116,18 @@ return_text s =
     rw (reference_other 13 refl s, known, read)
 
 module _ (text : List ℕ) (at : ℕ) where
-  pub text_none : length text ≤ at → No ≡ stepped (length text) (text_at (drop at text))
+  pub text_none : length text ≤ at → None ≡ stepped (length text) (text_at (drop at text))
   text_none h = refuses (length text) (text_at (drop at text)) (rw (at_end text at h) reference_none)
 
   module _ (h : at < length text) where
-    pub text_reference : get_or text at 0 ≡ 38 → {x : Step} → x ≡ stepped (length text) (reference_at (drop at text))
+    pub text_reference : get_or text at 0 ≡ 38 → {x : Option ℕ} → x ≡ stepped (length text) (reference_at (drop at text))
         → x ≡ stepped (length text) (text_at (drop at text))
     text_reference e k =
         let here : drop at text ≡ 38 ∷ drop (at + 1) text = rw (at_byte text at h, e) in
         k ∙ ap (stepped (length text)) (ap reference_at here ∙ sym (amp_text (drop (at + 1) text)) ∙ ap text_at (sym here))
 
-    pub text_return : get_or text at 0 ≡ 13 → {j : ℕ} → To j ≡ stepped (length text) (feed_at (ascii "\n") (drop (at + 1) text))
-        → To j ≡ stepped (length text) (text_at (drop at text))
+    pub text_return : get_or text at 0 ≡ 13 → {j : ℕ} → Some j ≡ stepped (length text) (feed_at (ascii "\n") (drop (at + 1) text))
+        → Some j ≡ stepped (length text) (text_at (drop at text))
     text_return e k =
         let here : drop at text ≡ 13 ∷ drop (at + 1) text = rw (at_byte text at h, e) in
         k ∙ ap (stepped (length text)) (sym (return_text (drop (at + 1) text)) ∙ ap text_at (sym here))
@@ -143,14 +141,14 @@ module _ (text : List ℕ) (at : ℕ) where
         line_end_other (ascii "\n") (get_or text at 0) (ne_eqb (get_or text at 0) 13 f₁) (drop (at + 1) text),
       )
 
-      pub text_open : get_or text at 0 ≡ 60 → No ≡ stepped (length text) (text_at (drop at text))
+      pub text_open : get_or text at 0 ≡ 60 → None ≡ stepped (length text) (text_at (drop at text))
       unfolding special text_byte
       text_open e =
           let marked : text_byte (get_or text at 0) ≡ false = rw e in
           refuses (length text) (text_at (drop at text))
           (text_literal ∙ rw (at_byte text at h) (literal_not text_byte (get_or text at 0) (drop (at + 1) text) marked))
 
-      pub text_plain : (get_or text at 0 ≡ 60 → ⊥) → {x : Step} → x ≡ stepped (length text) (character_at (drop at text))
+      pub text_plain : (get_or text at 0 ≡ 60 → ⊥) → {x : Option ℕ} → x ≡ stepped (length text) (character_at (drop at text))
           → x ≡ stepped (length text) (text_at (drop at text))
       unfolding special text_byte
       text_plain g k =
@@ -172,7 +170,7 @@ bracket_text s = text_complete (TextCharacter.literal (utf8_1 {a = 93} refl) ref
 
 -- a piece, by its first byte
 module _ (text : List ℕ) (at : ℕ) where
-  pub piece_none : length text ≤ at → No ≡ stepped (length text) (piece_at (drop at text))
+  pub piece_none : length text ≤ at → None ≡ stepped (length text) (piece_at (drop at text))
   unfolding piece_at piece_by look
   piece_none h = refuses (length text) (piece_at (drop at text)) (rw (at_end text at h))
 
@@ -186,7 +184,7 @@ module _ (text : List ℕ) (at : ℕ) where
       unfolding piece_at piece_by
       byte_piece = rw byte_look
 
-      pub piece_byte : (get_or text at 0 ≡ 93 → ⊥) → {x : Step} → x ≡ stepped (length text) (text_at (drop at text))
+      pub piece_byte : (get_or text at 0 ≡ 93 → ⊥) → {x : Option ℕ} → x ≡ stepped (length text) (text_at (drop at text))
           → x ≡ stepped (length text) (piece_at (drop at text))
       piece_byte g k = k ∙ sym (ap (stepped (length text)) byte_piece
           ∙ stepped_value (length text) (text_piece_at (drop at text)) character
@@ -204,11 +202,11 @@ module _ (text : List ℕ) (at : ℕ) where
       unfolding piece_at piece_by
       bracket_piece = rw bracket_look
 
-      pub bracket_cut : t ≡ true → No ≡ stepped (length text) (piece_at (drop at text))
+      pub bracket_cut : t ≡ true → None ≡ stepped (length text) (piece_at (drop at text))
       unfolding text_piece_at bind test
       bracket_cut k = refuses (length text) (piece_at (drop at text)) (bracket_piece ∙ rw (sym q ∙ k))
 
-      pub bracket_clear : t ≡ false → To (at + 1) ≡ stepped (length text) (piece_at (drop at text))
+      pub bracket_clear : t ≡ false → Some (at + 1) ≡ stepped (length text) (piece_at (drop at text))
       unfolding bind
       bracket_clear k =
           let inside : at + 1 ≤ length text = omega arith in
@@ -257,21 +255,21 @@ module _ (text : List ℕ) (at : ℕ) {f : Front} (q : f ≡ front (look (drop a
   unfolding piece_at
   piece_is k e = rw (looks k e)
 
-  pub piece_close : f ≡ Front.Close → No ≡ stepped (length text) (piece_at (drop at text))
+  pub piece_close : f ≡ Front.Close → None ≡ stepped (length text) (piece_at (drop at text))
   unfolding front piece_by
   piece_close e = refuses (length text) (piece_at (drop at text)) (piece_is at_close e)
 
-  pub piece_start : f ≡ Front.Start → No ≡ stepped (length text) (piece_at (drop at text))
+  pub piece_start : f ≡ Front.Start → None ≡ stepped (length text) (piece_at (drop at text))
   unfolding front piece_by
   piece_start e = refuses (length text) (piece_at (drop at text)) (piece_is at_element e)
 
-  pub piece_comment : f ≡ Front.Comment → {x : Step} → x ≡ stepped (length text) (comment_at (drop at text))
+  pub piece_comment : f ≡ Front.Comment → {x : Option ℕ} → x ≡ stepped (length text) (comment_at (drop at text))
       → x ≡ stepped (length text) (piece_at (drop at text))
   unfolding front piece_by
   piece_comment e k = k ∙ sym (stepped_value (length text) (comment_at (drop at text)) (λ _. remark))
       ∙ ap (stepped (length text)) (sym (piece_is at_comment e))
 
-  pub piece_data : f ≡ Front.Data → {x : Step} → x ≡ stepped (length text) (data_at_lem (drop at text))
+  pub piece_data : f ≡ Front.Data → {x : Option ℕ} → x ≡ stepped (length text) (data_at_lem (drop at text))
       → x ≡ stepped (length text) (piece_at (drop at text))
   unfolding front piece_by
   piece_data e k = k ∙ sym (stepped_value (length text) (data_at_lem (drop at text)) character)
@@ -280,7 +278,7 @@ module _ (text : List ℕ) (at : ℕ) {f : Front} (q : f ≡ front (look (drop a
   look_is : at < length text → get_or text at 0 ≡ 60 → look (drop at text) ≡ look (60 ∷ drop (at + 1) text)
   look_is h e = rw (at_byte text at h, e)
 
-  pub piece_text : at < length text → get_or text at 0 ≡ 60 → f ≡ Front.Text → No ≡ stepped (length text) (piece_at (drop at text))
+  pub piece_text : at < length text → get_or text at 0 ≡ 60 → f ≡ Front.Text → None ≡ stepped (length text) (piece_at (drop at text))
   unfolding front look look_if
   piece_text h e k = absurd (no_text (look_open (drop (at + 1) text)) (sym (look_is h e) ∙ looks at_text k))
 
@@ -310,7 +308,7 @@ module _ (text : List ℕ) (at : ℕ) {f : Front} (q : f ≡ front (look (drop a
 
 pub ruleset fronts = (front_end, front_text, front_last, front_close, front_marked, front_start, rules)
 
-pub ruleset marked-fronts = (marked_cut, marked_data, marked_other, rules)
+pub ruleset marked_fronts = (marked_cut, marked_data, marked_other, rules)
 
 pub ruleset texts = (text_none, text_reference, text_return, text_open, text_plain, rules)
 
@@ -320,4 +318,4 @@ pub ruleset tagged = (piece_close, piece_start, piece_comment, piece_data, piece
 
 pub ruleset pieces = (piece_none, piece_byte, rules)
 
-pub ruleset halting-at = (halt_close, halt_start, halt_comment, halt_data, halt_text, rules)
+pub ruleset halting_at = (halt_close, halt_start, halt_comment, halt_data, halt_text, rules)

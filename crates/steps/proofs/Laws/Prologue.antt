@@ -1,5 +1,5 @@
 -- The readers of what stands round the root, step by step.
-use Rattle.std.specs.Prelude.{◌≡◌, ℕ, ◌<◌, ◌+◌, ◌≤◌, Bool, not, eqb, drop, get_or}
+use Rattle.std.specs.Prelude.{◌≡◌, ℕ, ◌<◌, ◌+◌, ◌≤◌, Bool, not, eqb, drop, get_or, Option, Some, None}
 use Rattle.std.proofs.Math.Path.{refl, ap, sym}
 use mathlib.Core.List.{List, [], ◌∷◌, ◌++◌, append_assoc}
 use Rattle.std.proofs.Math.ListN.{length, length-drop}
@@ -33,8 +33,6 @@ use Rattle.steps.specs.Step.{stepped, Went}
 use Rattle.steps.proofs.Laws.Step.{went, went_on, arrives, refuses, at_byte, at_end}
 use Rattle.steps.proofs.Laws.Leaves.{span_tails, mark_tails, gap_tails, equals_tails}
 use Rattle.steps.proofs.Laws.Until.{bind_assoc, stepped_value, stepped_each}
-use Rattle.steps.specs.declared.Step.{Step}
-use Rattle.steps.specs.declared.Step.TheVariants.{To, No}
 use Rattle.steps.specs.Prologue.{quoted_at, encoding_at}
 use Rattle.steps.proofs.Laws.Parsing.{stuck, follows}
 
@@ -108,7 +106,7 @@ abbrev pub Asides : List ℕ → ℕ → ℕ → Type 0
 Asides text at i = stepped (length text) (asides_at (drop at text)) ≡ stepped (length text) (asides_at (drop i text))
 
 module _ (text : List ℕ) (at i : ℕ) (inv : Asides text at i) {j : ℕ}
-    (q : To j ≡ stepped (length text) (span blank (drop i text))) {t : Bool} (b : t ≡ begins (ascii "<!-") (drop j text)) where
+    (q : Some j ≡ stepped (length text) (span blank (drop i text))) {t : Bool} (b : t ≡ begins (ascii "<!-") (drop j text)) where
   skipped : Went (span blank) text i j
   skipped = went (span blank) text i j (span_tails blank (drop i text)) q
 
@@ -122,21 +120,21 @@ module _ (text : List ℕ) (at i : ℕ) (inv : Asides text at i) {j : ℕ}
   stopped : stops blank (drop j text) ≡ true
   stopped = ok_got (rw skipped.reads at (span_ends blank (drop i text)))
 
-  pub asides_end : not t ≡ true → To j ≡ stepped (length text) (asides_at (drop at text))
+  pub asides_end : not t ≡ true → Some j ≡ stepped (length text) (asides_at (drop at text))
   unfolding no_aside
   asides_end e =
       let none : no_aside (drop j text) ≡ true = rw (stopped, ← b) e in
       arrives text (asides_at (drop j text)) j skipped.inside (asides_stop (drop j text) none) ∙ sym skips
 
-  module _ (e : not t ≡ false) {r : Step} (q₂ : r ≡ stepped (length text) (comment_at (drop j text))) where
+  module _ (e : not t ≡ false) {r : Option ℕ} (q₂ : r ≡ stepped (length text) (comment_at (drop j text))) where
     turn : stepped (length text) (asides_at (drop j text)) ≡ stepped (length text) (bind (comment_at (drop j text)) (λ _ r. asides_at r))
     turn =
         aside_turn (length text) (drop j text) (sym b ∙ not-false t e)
 
-    pub asides_stuck : r ≡ No → No ≡ stepped (length text) (asides_at (drop at text))
+    pub asides_stuck : r ≡ None → None ≡ stepped (length text) (asides_at (drop at text))
     asides_stuck k = stuck (length text) (comment_at (drop j text)) (λ _ r. asides_at r) q₂ k ∙ sym (skips ∙ turn)
 
-    module _ {k : ℕ} (h : r ≡ To k) where
+    module _ {k : ℕ} (h : r ≡ Some k) where
       pub asides_on : Asides text at k
       asides_on = skips ∙ turn ∙ sym (follows comment_at (λ s. tails (comment_sound s)) text j (λ _ r. asides_at r) q₂ k h λ _ _. refl)
 
@@ -155,42 +153,42 @@ module _ (text : List ℕ) (at i : ℕ) (inv : Asides text at i) {j : ℕ}
 
 -- THE DECLARATION
 module _ (text : List ℕ) (at : ℕ) (value : List ℕ) where
-  pub quoted_none : length text ≤ at → No ≡ stepped (length text) (quoted_at value (drop at text))
+  pub quoted_none : length text ≤ at → None ≡ stepped (length text) (quoted_at value (drop at text))
   unfolding quoted_at byte bind
   quoted_none h = refuses (length text) (quoted_at value (drop at text)) (rw (at_end text at h))
 
   module _ (h : at < length text) {t : Bool} (b : t ≡ quote (get_or text at 0)) where
-    pub quoted_other : not t ≡ true → No ≡ stepped (length text) (quoted_at value (drop at text))
+    pub quoted_other : not t ≡ true → None ≡ stepped (length text) (quoted_at value (drop at text))
     unfolding quoted_at bind
     quoted_other e = refuses (length text) (quoted_at value (drop at text))
         (rw (at_byte text at h, byte_other quote (get_or text at 0) (sym b ∙ not-true t e) (drop (at + 1) text)))
 
-    module _ (e : not t ≡ false) {r : Step} (q : r ≡ stepped (length text) (mark value (drop (at + 1) text))) where
+    module _ (e : not t ≡ false) {r : Option ℕ} (q : r ≡ stepped (length text) (mark value (drop (at + 1) text))) where
       inner : quoted_at value (drop at text) ≡ bind (mark value (drop (at + 1) text)) (λ _ r. mark (get_or text at 0 ∷ []) r)
       unfolding quoted_at bind
       inner = rw (at_byte text at h, byte_complete quote (get_or text at 0) (sym b ∙ not-false t e) (drop (at + 1) text))
 
-      pub quoted_stuck : r ≡ No → No ≡ stepped (length text) (quoted_at value (drop at text))
+      pub quoted_stuck : r ≡ None → None ≡ stepped (length text) (quoted_at value (drop at text))
       quoted_stuck k = stuck (length text) (mark value (drop (at + 1) text)) (λ _ r. mark (get_or text at 0 ∷ []) r) q k
           ∙ ap (stepped (length text)) (sym inner)
 
-      module _ {i : ℕ} (k : r ≡ To i) where
-        on : {x : Step} → x ≡ stepped (length text) (mark (get_or text at 0 ∷ []) (drop i text))
+      module _ {i : ℕ} (k : r ≡ Some i) where
+        on : {x : Option ℕ} → x ≡ stepped (length text) (mark (get_or text at 0 ∷ []) (drop i text))
             → x ≡ stepped (length text) (quoted_at value (drop at text))
         on l = follows (mark value) (mark_tails value) text (at + 1) (λ _ r. mark (get_or text at 0 ∷ []) r) q i k (λ _ _. l)
             ∙ ap (stepped (length text)) (sym inner)
 
-        pub quoted_cut : length text ≤ i → No ≡ stepped (length text) (quoted_at value (drop at text))
+        pub quoted_cut : length text ≤ i → None ≡ stepped (length text) (quoted_at value (drop at text))
         unfolding mark
         quoted_cut l = on (refuses (length text) (mark (get_or text at 0 ∷ []) (drop i text)) (rw (at_end text i l)))
 
         module _ (l : i < length text) where
-          pub quoted_open : (get_or text i 0 ≡ get_or text at 0 → ⊥) → No ≡ stepped (length text) (quoted_at value (drop at text))
+          pub quoted_open : (get_or text i 0 ≡ get_or text at 0 → ⊥) → None ≡ stepped (length text) (quoted_at value (drop at text))
           quoted_open f = on (refuses (length text) (mark (get_or text at 0 ∷ []) (drop i text))
               (rw (at_byte text i l) (mark_other (get_or text at 0) (get_or text i 0) [] (drop (i + 1) text)
               (ne_eqb (get_or text i 0) (get_or text at 0) f))))
 
-          pub quoted_whole : get_or text i 0 ≡ get_or text at 0 → To (i + 1) ≡ stepped (length text) (quoted_at value (drop at text))
+          pub quoted_whole : get_or text i 0 ≡ get_or text at 0 → Some (i + 1) ≡ stepped (length text) (quoted_at value (drop at text))
           quoted_whole f =
               let k : i + 1 ≤ length text = omega arith in
               on (arrives text (mark (get_or text at 0 ∷ []) (drop i text)) (i + 1) k
@@ -204,30 +202,30 @@ module _ (text : List ℕ) (at : ℕ) (key value : List ℕ) where
   unfolding setting_at quoted_at quoted_last
   setting_is s = refl
 
-  module _ {r : Step} (q : r ≡ stepped (length text) (gap_at (drop at text))) where
-    pub setting_none : r ≡ No → No ≡ stepped (length text) (setting_at key value (drop at text))
+  module _ {r : Option ℕ} (q : r ≡ stepped (length text) (gap_at (drop at text))) where
+    pub setting_none : r ≡ None → None ≡ stepped (length text) (setting_at key value (drop at text))
     unfolding quoted_last
     setting_none e = stuck (length text) (gap_at (drop at text)) _ q e ∙ ap (stepped (length text)) (sym (setting_is (drop at text)))
 
-    module _ {i : ℕ} (e : r ≡ To i) {r₂ : Step} (q₂ : r₂ ≡ stepped (length text) (mark key (drop i text))) where
-      on₁ : {x : Step} → x ≡ stepped (length text)
+    module _ {i : ℕ} (e : r ≡ Some i) {r₂ : Option ℕ} (q₂ : r₂ ≡ stepped (length text) (mark key (drop i text))) where
+      on₁ : {x : Option ℕ} → x ≡ stepped (length text)
           (bind (mark key (drop i text)) (λ _ r₁. bind (equals_at r₁) (λ _ r₂. quoted_at value r₂)))
           → x ≡ stepped (length text) (setting_at key value (drop at text))
       unfolding quoted_last
       on₁ l = follows gap_at gap_tails text at _ q i e (λ _ _. l) ∙ ap (stepped (length text)) (sym (setting_is (drop at text)))
 
-      pub setting_other : r₂ ≡ No → No ≡ stepped (length text) (setting_at key value (drop at text))
+      pub setting_other : r₂ ≡ None → None ≡ stepped (length text) (setting_at key value (drop at text))
       setting_other e₂ = on₁ (stuck (length text) (mark key (drop i text)) _ q₂ e₂)
 
-      module _ {j : ℕ} (e₂ : r₂ ≡ To j) {r₃ : Step} (q₃ : r₃ ≡ stepped (length text) (equals_at (drop j text))) where
-        on₂ : {x : Step} → x ≡ stepped (length text) (bind (equals_at (drop j text)) (λ _ r₂. quoted_at value r₂))
+      module _ {j : ℕ} (e₂ : r₂ ≡ Some j) {r₃ : Option ℕ} (q₃ : r₃ ≡ stepped (length text) (equals_at (drop j text))) where
+        on₂ : {x : Option ℕ} → x ≡ stepped (length text) (bind (equals_at (drop j text)) (λ _ r₂. quoted_at value r₂))
             → x ≡ stepped (length text) (setting_at key value (drop at text))
         on₂ l = on₁ (follows (mark key) (mark_tails key) text i _ q₂ j e₂ λ _ _. l)
 
-        pub setting_unequal : r₃ ≡ No → No ≡ stepped (length text) (setting_at key value (drop at text))
+        pub setting_unequal : r₃ ≡ None → None ≡ stepped (length text) (setting_at key value (drop at text))
         setting_unequal e₃ = on₂ (stuck (length text) (equals_at (drop j text)) _ q₃ e₃)
 
-        pub setting_whole : {k : ℕ} → r₃ ≡ To k → {x : Step} → x ≡ stepped (length text) (quoted_at value (drop k text))
+        pub setting_whole : {k : ℕ} → r₃ ≡ Some k → {x : Option ℕ} → x ≡ stepped (length text) (quoted_at value (drop k text))
             → x ≡ stepped (length text) (setting_at key value (drop at text))
         setting_whole {k} e₃ l = on₂ (follows equals_at equals_tails text j _ q₃ k e₃ λ _ _. l)
 
@@ -238,13 +236,13 @@ ends_some p [] e = clash (cc)
 ends_some p (a ∷ s) e = omega arith
 
 module _ (text : List ℕ) (at : ℕ) {t : Bool} (q : t ≡ ends asking (drop at text)) where
-  pub encoding_none : t ≡ true → To at ≡ stepped (length text) (encoding_at (drop at text))
+  pub encoding_none : t ≡ true → Some at ≡ stepped (length text) (encoding_at (drop at text))
   unfolding encoding_at encoding_if_lem
   encoding_none e =
       let inside : at ≤ length text = omega (arith, ends_some asking (drop at text) (sym q ∙ e), length-drop at text) in
       arrives text (encoding_at (drop at text)) at inside (rw (sym q ∙ e))
 
-  pub encoding_some : t ≡ false → {x : Step} → x ≡ stepped (length text) (setting_at (ascii "encoding") (ascii "UTF-8") (drop at text))
+  pub encoding_some : t ≡ false → {x : Option ℕ} → x ≡ stepped (length text) (setting_at (ascii "encoding") (ascii "UTF-8") (drop at text))
       → x ≡ stepped (length text) (encoding_at (drop at text))
   unfolding encoding_at encoding_if_lem
   encoding_some e k = k ∙ sym (rw (sym q ∙ e))
@@ -265,41 +263,41 @@ declared_at s = bind (mark (ascii "<?xml") s)
     (λ _ r. bind (setting_at (ascii "version") (ascii "1.0") r) (λ _ r₁. bind (encoding_at r₁) (λ _ r₂. last_at r₂)))
 
 module _ (text : List ℕ) {t : Bool} (b : t ≡ begins (ascii "<?") text) where
-  pub declaration_none : not t ≡ true → To 0 ≡ stepped (length text) (declaration_at text)
+  pub declaration_none : not t ≡ true → Some 0 ≡ stepped (length text) (declaration_at text)
   unfolding declaration_at declaration_if
   declaration_none e = arrives text (declaration_at text) 0 (omega arith) (rw (sym b ∙ not-true t e))
 
-  module _ (e : not t ≡ false) {r : Step} (q : r ≡ stepped (length text) (mark (ascii "<?xml") text)) where
+  module _ (e : not t ≡ false) {r : Option ℕ} (q : r ≡ stepped (length text) (mark (ascii "<?xml") text)) where
     declared : declaration_at text ≡ declared_at text
     unfolding declaration_at declaration_if encoding_at declared_at last_at
     declared = rw (sym b ∙ not-false t e)
 
-    pub declaration_other : r ≡ No → No ≡ stepped (length text) (declaration_at text)
+    pub declaration_other : r ≡ None → None ≡ stepped (length text) (declaration_at text)
     unfolding declared_at
     declaration_other k = stuck (length text) (mark (ascii "<?xml") text) _ q k ∙ ap (stepped (length text)) (sym declared)
 
-    module _ {i : ℕ} (k : r ≡ To i) {r₂ : Step}
+    module _ {i : ℕ} (k : r ≡ Some i) {r₂ : Option ℕ}
         (q₂ : r₂ ≡ stepped (length text) (setting_at (ascii "version") (ascii "1.0") (drop i text))) where
-      to₁ : {x : Step} → x ≡ stepped (length text)
+      to₁ : {x : Option ℕ} → x ≡ stepped (length text)
           (bind (setting_at (ascii "version") (ascii "1.0") (drop i text)) (λ _ r₁. bind (encoding_at r₁) (λ _ r₂. last_at r₂)))
           → x ≡ stepped (length text) (declaration_at text)
       unfolding declared_at
       to₁ l = follows (mark (ascii "<?xml")) (mark_tails (ascii "<?xml")) text 0 _ q i k (λ _ _. l)
           ∙ ap (stepped (length text)) (sym declared)
 
-      pub declaration_unversioned : r₂ ≡ No → No ≡ stepped (length text) (declaration_at text)
+      pub declaration_unversioned : r₂ ≡ None → None ≡ stepped (length text) (declaration_at text)
       declaration_unversioned k₂ = to₁ (stuck (length text) (setting_at (ascii "version") (ascii "1.0") (drop i text)) _ q₂ k₂)
 
-      module _ {j : ℕ} (k₂ : r₂ ≡ To j) {r₃ : Step} (q₃ : r₃ ≡ stepped (length text) (encoding_at (drop j text))) where
-        to₂ : {x : Step} → x ≡ stepped (length text) (bind (encoding_at (drop j text)) (λ _ r₂. last_at r₂))
+      module _ {j : ℕ} (k₂ : r₂ ≡ Some j) {r₃ : Option ℕ} (q₃ : r₃ ≡ stepped (length text) (encoding_at (drop j text))) where
+        to₂ : {x : Option ℕ} → x ≡ stepped (length text) (bind (encoding_at (drop j text)) (λ _ r₂. last_at r₂))
             → x ≡ stepped (length text) (declaration_at text)
         to₂ l = to₁ (follows (setting_at (ascii "version") (ascii "1.0"))
             (λ s. tails (setting_sound (ascii "version") (ascii "1.0") s)) text i _ q₂ j k₂ λ _ _. l)
 
-        pub declaration_uncoded : r₃ ≡ No → No ≡ stepped (length text) (declaration_at text)
+        pub declaration_uncoded : r₃ ≡ None → None ≡ stepped (length text) (declaration_at text)
         declaration_uncoded k₃ = to₂ (stuck (length text) (encoding_at (drop j text)) _ q₃ k₃)
 
-        pub declaration_whole : {k : ℕ} → r₃ ≡ To k → {b : ℕ} → To b ≡ stepped (length text) (span blank (drop k text)) → {x : Step}
+        pub declaration_whole : {k : ℕ} → r₃ ≡ Some k → {b : ℕ} → Some b ≡ stepped (length text) (span blank (drop k text)) → {x : Option ℕ}
             → x ≡ stepped (length text) (mark (ascii "?>") (drop b text)) → x ≡ stepped (length text) (declaration_at text)
         unfolding last_at
         declaration_whole {k} k₃ {b} q₄ l =
@@ -307,12 +305,12 @@ module _ (text : List ℕ) {t : Bool} (b : t ≡ begins (ascii "<?") text) where
             (span_tails blank) text k _ q₄ b refl λ _ _. l)
 
 -- ALL THAT STANDS BEFORE THE ROOT
-module _ (text : List ℕ) {r : Step} (q : r ≡ stepped (length text) (declaration_at text)) where
-  pub preamble_none : r ≡ No → No ≡ stepped (length text) (preamble_at text)
+module _ (text : List ℕ) {r : Option ℕ} (q : r ≡ stepped (length text) (declaration_at text)) where
+  pub preamble_none : r ≡ None → None ≡ stepped (length text) (preamble_at text)
   unfolding preamble_at
   preamble_none e = stuck (length text) (declaration_at text) _ q e
 
-  pub preamble_some : {i : ℕ} → r ≡ To i → {x : Step} → x ≡ stepped (length text) (prologue_at (drop i text))
+  pub preamble_some : {i : ℕ} → r ≡ Some i → {x : Option ℕ} → x ≡ stepped (length text) (prologue_at (drop i text))
       → x ≡ stepped (length text) (preamble_at text)
   unfolding preamble_at
   preamble_some {i} e l = follows declaration_at declaration_tails text 0 _ q i e λ _ _. l

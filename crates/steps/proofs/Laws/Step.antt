@@ -1,10 +1,9 @@
 -- What is proved of Step.
-use Rattle.std.specs.Prelude.{◌≡◌, refl, List, [], ◌∷◌, ◌++◌, ℕ, ◌+◌, ◌-◌, ◌≤◌, ◌<◌, length, take, drop, get_or}
+use Rattle.std.specs.Prelude.{◌≡◌, refl, List, [], ◌∷◌, ◌++◌, ℕ, ◌+◌, ◌-◌, ◌≤◌, ◌<◌, length, take, drop, get_or, Some, None}
 use Rattle.std.proofs.Common.{ap, sym, ◌∙◌, append_assoc, add-one, arith, length-append, length-drop, take-append-drop, drop_of_length-le, drop-cons, drop_at}
 use Rattle.lists.proofs.Laws.Booleans.{clash}
 use Rattle.grammar.specs.Read.{Read, fail, got, Reader}
 use Rattle.grammar.proofs.Laws.Read.{Ok, failed, good, ok_map, Takes}
-use Rattle.steps.specs.declared.Step.TheVariants.{To, No}
 use Rattle.steps.specs.Step.{stepped, Went}
 
 -- the text at a position
@@ -16,18 +15,18 @@ at_end text at h = drop_of_length-le text h
 
 -- from a result to the answer
 pub arrives : {A : Type 0} (text : List ℕ) (m : Read A) {a : A} (to : ℕ) → to ≤ length text → m ≡ got a (drop to text)
-    → To to ≡ stepped (length text) m
+    → Some to ≡ stepped (length text) m
 unfolding stepped
 arrives text m to h e =
     let z : to ≡ length text - length (drop to text) = simp length-drop (omega arith) in
-    rw e (ap To z)
+    rw e (ap Some z)
 
-pub refuses : {A : Type 0} (n : ℕ) (m : Read A) → m ≡ fail → No ≡ stepped n m
+pub refuses : {A : Type 0} (n : ℕ) (m : Read A) → m ≡ fail → None ≡ stepped n m
 unfolding stepped
 refuses n m e = rw e
 
 -- from the answer to a result
-pub fell : {A : Type 0} (n : ℕ) (m : Read A) → No ≡ stepped n m → m ≡ fail
+pub fell : {A : Type 0} (n : ℕ) (m : Read A) → None ≡ stepped n m → m ≡ fail
 unfolding stepped
 fell n fail e = refl
 fell n (got a r) e = clash (cc)
@@ -43,11 +42,11 @@ end_is : (v r : List ℕ) → drop (length (v ++ r) - length r) (v ++ r) ≡ r
 end_is v r = let n : length v ≡ length (v ++ r) - length r = omega (arith, length-append v r) in drop_at v r (length (v ++ r) - length r) n
 
 pub went : {A : Type 0} (p : Reader A) (text : List ℕ) (at to : ℕ) → Ok (Tails (drop at text)) (p (drop at text))
-    → To to ≡ stepped (length text) (p (drop at text)) → Went p text at to
+    → Some to ≡ stepped (length text) (p (drop at text)) → Went p text at to
 unfolding stepped
 went {A} p text at to h e = go (p (drop at text)) refl h e
   where
-    go : (m : Read A) → p (drop at text) ≡ m → Ok (Tails (drop at text)) m → To to ≡ stepped (length text) m → Went p text at to
+    go : (m : Read A) → p (drop at text) ≡ m → Ok (Tails (drop at text)) m → Some to ≡ stepped (length text) m → Went p text at to
     go _ q failed e = clash (cc)
     go _ q (good {a} {r} k) e =
         let w = k.0 in

@@ -1,5 +1,5 @@
 -- Spans, gaps, marks and names, at a position of the text: one law for each way through the code.
-use Rattle.std.specs.Prelude.{◌≡◌, refl, ℕ, suc, ◌+◌, ◌-◌, ◌≤◌, ◌<◌, Bool, true, false, not, ◌||◌, ◌&&◌, eqb, leb, drop}
+use Rattle.std.specs.Prelude.{◌≡◌, refl, ℕ, suc, ◌+◌, ◌-◌, ◌≤◌, ◌<◌, Bool, true, false, not, ◌||◌, ◌&&◌, eqb, leb, drop, Some, None}
 use Rattle.std.proofs.Common.{ap, ◌∙◌, arith, rules, length-append, length-drop}
 use Rattle.std.proofs.Math.Path.{sym}
 use mathlib.Core.List.{List, [], ◌∷◌}
@@ -15,7 +15,6 @@ use Rattle.steps.specs.Step.{stepped, Went}
 use Rattle.steps.proofs.Laws.Step.{at_byte, at_end, arrives, refuses, went}
 use Rattle.steps.proofs.Laws.Until.{stepped_value}
 use Rattle.steps.proofs.Laws.Leaves.{span_tails}
-use Rattle.steps.specs.declared.Step.TheVariants.{To, No}
 
 -- SPANS: the same end from here
 pub record Spanning (p : ℕ → Bool) (text : List ℕ) (at i : ℕ) : Type 0 where
@@ -37,13 +36,13 @@ pub span_start : (p : ℕ → Bool) (text : List ℕ) (at : ℕ) → Spanning p 
 span_start p text at = record { same_end = refl }
 
 module _ (p : ℕ → Bool) (text : List ℕ) (at i : ℕ) (go : Spanning p text at i) where
-  pub span_all : length text ≤ i → To (length text) ≡ stepped (length text) (span p (drop at text))
+  pub span_all : length text ≤ i → Some (length text) ≡ stepped (length text) (span p (drop at text))
   span_all h =
       let none : drop (length text) text ≡ [] = at_end text (length text) (omega arith) in
       let q : span p (drop i text) ≡ got [] (drop (length text) text) = rw (at_end text i h, none) (span_nil p) in
       arrives text (span p (drop i text)) (length text) (omega arith) q ∙ sym go.same_end
 
-  pub span_rest : {to : ℕ} → To to ≡ stepped (length text) (span p (drop i text)) → To to ≡ stepped (length text) (span p (drop at text))
+  pub span_rest : {to : ℕ} → Some to ≡ stepped (length text) (span p (drop i text)) → Some to ≡ stepped (length text) (span p (drop at text))
   span_rest e = e ∙ sym go.same_end
 
   module _ (h : i < length text) {t : Bool} (is : t ≡ p (get_or text i 0)) where
@@ -53,7 +52,7 @@ module _ (p : ℕ → Bool) (text : List ℕ) (at i : ℕ) (go : Spanning p text
           ∙ rw (at_byte text i h) (span_on p (length text) (get_or text i 0) (drop (i + 1) text) (sym is ∙ not-false t e));
     }
 
-    pub span_stops : not t ≡ true → To i ≡ stepped (length text) (span p (drop at text))
+    pub span_stops : not t ≡ true → Some i ≡ stepped (length text) (span p (drop at text))
     span_stops e =
         let q : span p (drop i text) ≡ got [] (drop i text) =
         rw (at_byte text i h) (span_off p (get_or text i 0) (drop (i + 1) text) (sym is ∙ not-true t e)) in
@@ -62,22 +61,22 @@ module _ (p : ℕ → Bool) (text : List ℕ) (at i : ℕ) (go : Spanning p text
 pub ruleset spanning = (span_start, span_all, span_more, span_stops, rules)
 
 -- the span that a call has found
-pub spanned : (p : ℕ → Bool) (text : List ℕ) (at to : ℕ) → To to ≡ stepped (length text) (span p (drop at text)) → Went (span p) text at to
+pub spanned : (p : ℕ → Bool) (text : List ℕ) (at to : ℕ) → Some to ≡ stepped (length text) (span p (drop at text)) → Went (span p) text at to
 spanned p text at to e = went (span p) text at to (span_tails p (drop at text)) e
 
 -- GAPS
-pub gap_none : (text : List ℕ) (at : ℕ) → length text ≤ at → No ≡ stepped (length text) (gap_at (drop at text))
+pub gap_none : (text : List ℕ) (at : ℕ) → length text ≤ at → None ≡ stepped (length text) (gap_at (drop at text))
 unfolding gap_at byte bind
 gap_none text at h = refuses (length text) (gap_at (drop at text)) (rw (at_end text at h))
 
 module _ (text : List ℕ) (at : ℕ) (h : at < length text) {t : Bool} (is : t ≡ blank (get_or text at 0)) where
-  pub gap_other : not t ≡ true → No ≡ stepped (length text) (gap_at (drop at text))
+  pub gap_other : not t ≡ true → None ≡ stepped (length text) (gap_at (drop at text))
   unfolding gap_at bind
   gap_other e = refuses (length text) (gap_at (drop at text))
       (rw (at_byte text at h, byte_other blank (get_or text at 0) (sym is ∙ not-true t e) (drop (at + 1) text)))
 
-  pub gap_some : not t ≡ false → {to : ℕ} → To to ≡ stepped (length text) (span blank (drop (at + 1) text))
-      → To to ≡ stepped (length text) (gap_at (drop at text))
+  pub gap_some : not t ≡ false → {to : ℕ} → Some to ≡ stepped (length text) (span blank (drop (at + 1) text))
+      → Some to ≡ stepped (length text) (gap_at (drop at text))
   unfolding gap_at bind
   gap_some e {to} q =
       let w = spanned blank text (at + 1) to q in
@@ -85,22 +84,22 @@ module _ (text : List ℕ) (at : ℕ) (h : at < length text) {t : Bool} (is : t 
       (rw (at_byte text at h, byte_complete blank (get_or text at 0) (sym is ∙ not-false t e) (drop (at + 1) text), w.reads))
 
 -- EQUALS
-module _ (text : List ℕ) (at i : ℕ) (q : To i ≡ stepped (length text) (span blank (drop at text))) where
+module _ (text : List ℕ) (at i : ℕ) (q : Some i ≡ stepped (length text) (span blank (drop at text))) where
   equals_from : equals_at (drop at text) ≡ bind (mark (ascii "=") (drop i text)) (λ _ r. bind (span blank r) (λ _ r₁. got tt r₁))
   unfolding equals_at bind
   equals_from = rw (spanned blank text at i q).reads
 
-  pub equals_none : length text ≤ i → No ≡ stepped (length text) (equals_at (drop at text))
+  pub equals_none : length text ≤ i → None ≡ stepped (length text) (equals_at (drop at text))
   unfolding mark bind
   equals_none h = refuses (length text) (equals_at (drop at text)) (equals_from ∙ rw (at_end text i h))
 
-  pub equals_other : i < length text → (get_or text i 0 ≡ 61 → ⊥) → No ≡ stepped (length text) (equals_at (drop at text))
+  pub equals_other : i < length text → (get_or text i 0 ≡ 61 → ⊥) → None ≡ stepped (length text) (equals_at (drop at text))
   unfolding bind
   equals_other h f = refuses (length text) (equals_at (drop at text))
       (equals_from ∙ rw (at_byte text i h, mark_other 61 (get_or text i 0) [] (drop (i + 1) text) (ne_eqb (get_or text i 0) 61 f)))
 
-  pub equals_some : i < length text → get_or text i 0 ≡ 61 → {to : ℕ} → To to ≡ stepped (length text) (span blank (drop (i + 1) text))
-      → To to ≡ stepped (length text) (equals_at (drop at text))
+  pub equals_some : i < length text → get_or text i 0 ≡ 61 → {to : ℕ} → Some to ≡ stepped (length text) (span blank (drop (i + 1) text))
+      → Some to ≡ stepped (length text) (equals_at (drop at text))
   unfolding bind
   equals_some h e {to} k =
       let w = spanned blank text (i + 1) to k in
@@ -130,7 +129,7 @@ ends_first p (a ∷ s) = go (blank a) refl (ends_first p s)
     go true e ih = rw (e, ends, span, left_value (span blank s) a) ih
     go false e ih = rw (e, ends, span)
 
-module _ (p : ℕ → Bool) (text : List ℕ) (at i : ℕ) (q : To i ≡ stepped (length text) (span blank (drop at text))) where
+module _ (p : ℕ → Bool) (text : List ℕ) (at i : ℕ) (q : Some i ≡ stepped (length text) (span blank (drop at text))) where
   ends_from : ends p (drop at text) ≡ first p (drop i text)
   unfolding left
   ends_from = rw (ends_first p (drop at text), (spanned blank text at i q).reads)
@@ -143,7 +142,7 @@ module _ (p : ℕ → Bool) (text : List ℕ) (at i : ℕ) (q : To i ≡ stepped
   unfolding first
   ends_some h = sym (ends_from ∙ rw (at_byte text i h))
 
-module _ (text : List ℕ) (at i : ℕ) (q : To i ≡ stepped (length text) (span blank (drop at text))) (h : i < length text) where
+module _ (text : List ℕ) (at i : ℕ) (q : Some i ≡ stepped (length text) (span blank (drop at text))) (h : i < length text) where
   pub closing_some : (eqb (get_or text i 0) 62 || eqb (get_or text i 0) 47) ≡ ends closing (drop at text)
   unfolding closing
   closing_some = ends_some closing text at i q h
@@ -169,7 +168,7 @@ mark_start text at word = record { same_end = refl }
 
 module _ (text : List ℕ) (at : ℕ) (word : List ℕ) (i k : ℕ) (go : Marking text at word i k) where
   module _ (h : length word ≤ k) where
-    pub mark_far : length text < i → To (length text) ≡ stepped (length text) (mark word (drop at text))
+    pub mark_far : length text < i → Some (length text) ≡ stepped (length text) (mark word (drop at text))
     mark_far l =
         let l₁ : length text ≤ i = omega arith in
         let none : length text ≤ length text = omega arith in
@@ -177,15 +176,15 @@ module _ (text : List ℕ) (at : ℕ) (word : List ℕ) (i k : ℕ) (go : Markin
         rw (at_end word k h, mark_nil (drop i text), at_end text i l₁, at_end text (length text) none) in
         arrives text (mark (drop k word) (drop i text)) (length text) (omega arith) q ∙ sym go.same_end
 
-    pub mark_all : i ≤ length text → To i ≡ stepped (length text) (mark word (drop at text))
+    pub mark_all : i ≤ length text → Some i ≡ stepped (length text) (mark word (drop at text))
     mark_all l = arrives text (mark (drop k word) (drop i text)) i l (rw (at_end word k h) (mark_nil (drop i text))) ∙ sym go.same_end
 
   module _ (h : k < length word) where
-    pub mark_short : length text ≤ i → No ≡ stepped (length text) (mark word (drop at text))
+    pub mark_short : length text ≤ i → None ≡ stepped (length text) (mark word (drop at text))
     unfolding mark
     mark_short l = refuses (length text) (mark (drop k word) (drop i text)) (rw (at_byte word k h, at_end text i l)) ∙ sym go.same_end
 
-    pub mark_unlike : i < length text → (get_or text i 0 ≡ get_or word k 0 → ⊥) → No ≡ stepped (length text) (mark word (drop at text))
+    pub mark_unlike : i < length text → (get_or text i 0 ≡ get_or word k 0 → ⊥) → None ≡ stepped (length text) (mark word (drop at text))
     mark_unlike l f =
         refuses (length text) (mark (drop k word) (drop i text))
         (rw (at_byte word k h, at_byte text i l)
@@ -199,17 +198,17 @@ module _ (text : List ℕ) (at : ℕ) (word : List ℕ) (i k : ℕ) (go : Markin
     }
 
 -- NAMES
-pub name_none : (text : List ℕ) (at : ℕ) → length text ≤ at → No ≡ stepped (length text) (name_at (drop at text))
+pub name_none : (text : List ℕ) (at : ℕ) → length text ≤ at → None ≡ stepped (length text) (name_at (drop at text))
 unfolding name_at byte bind
 name_none text at h = refuses (length text) (name_at (drop at text)) (rw (at_end text at h))
 
 module _ (text : List ℕ) (at : ℕ) (h : at < length text) {t : Bool} (is : t ≡ name_start (get_or text at 0)) where
-  pub name_other : not t ≡ true → No ≡ stepped (length text) (name_at (drop at text))
+  pub name_other : not t ≡ true → None ≡ stepped (length text) (name_at (drop at text))
   unfolding name_at bind
   name_other e = refuses (length text) (name_at (drop at text))
       (rw (at_byte text at h, byte_other name_start (get_or text at 0) (sym is ∙ not-true t e) (drop (at + 1) text)))
 
-  module _ (e : not t ≡ false) {i : ℕ} (q : To i ≡ stepped (length text) (span name_byte (drop (at + 1) text))) where
+  module _ (e : not t ≡ false) {i : ℕ} (q : Some i ≡ stepped (length text) (span name_byte (drop (at + 1) text))) where
     pub name_ahead : at ≤ i
     name_ahead = let w = spanned name_byte text (at + 1) i q in let l : at + 1 ≤ length text = omega arith in omega (arith, w.ahead l)
 
@@ -239,11 +238,11 @@ module _ (text : List ℕ) (at : ℕ) (h : at < length text) {t : Bool} (is : t 
       size,
     )
 
-    pub name_long : 64 < i - at → No ≡ stepped (length text) (name_at (drop at text))
+    pub name_long : 64 < i - at → None ≡ stepped (length text) (name_at (drop at text))
     unfolding bind test
     name_long l = refuses (length text) (name_at (drop at text)) (name_from ∙ rw (lt-leb (i - at) 64 l))
 
-    pub name_some : i - at ≤ 64 → To i ≡ stepped (length text) (name_at (drop at text))
+    pub name_some : i - at ≤ 64 → Some i ≡ stepped (length text) (name_at (drop at text))
     unfolding bind
     name_some l = arrives text (name_at (drop at text)) {a = get_or text at 0 ∷ bytes.value} i bytes.inside
         (name_from ∙ rw (test_complete (le-leb (i - at) 64 l) (drop i text)))

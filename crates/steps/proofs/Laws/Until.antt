@@ -1,5 +1,5 @@
 -- Things in a row and then one more reader, whose loop needs no fuel.
-use Rattle.std.specs.Prelude.{◌≡◌, refl, List, ◌∷◌, Bool, true, false, ℕ, ◌<◌, length, drop}
+use Rattle.std.specs.Prelude.{◌≡◌, refl, List, ◌∷◌, Bool, true, false, ℕ, ◌<◌, length, drop, Option, Some, None}
 use Rattle.std.proofs.Math.Path.{ap, sym}
 use Rattle.std.proofs.Common.{◌∙◌}
 use Rattle.grammar.specs.Read.{Read, fail, got, Reader, bind, all_of, many_step}
@@ -7,8 +7,6 @@ use Rattle.grammar.proofs.Laws.Read.{Ok}
 use Rattle.grammar.proofs.Laws.Unfuelled.{all_of_step}
 use Rattle.steps.specs.Step.{stepped, Went}
 use Rattle.steps.proofs.Laws.Step.{refuses, fell, Tails, went, went_on}
-use Rattle.steps.specs.declared.Step.{Step}
-use Rattle.steps.specs.declared.Step.TheVariants.{To, No}
 use Rattle.steps.specs.Until.{until}
 
 pub bind_assoc : {A B C : Type 0} (m : Read A) (f : A → List ℕ → Read B) (g : B → List ℕ → Read C)
@@ -52,25 +50,25 @@ pub record Going {A B : Type 0} (stop : List ℕ → Bool) (p : Reader A) (k : R
 
 module _ {A B : Type 0} (stop : List ℕ → Bool) (p : Reader A) (k : Reader B)
     (eats : (s : List ℕ) → Ok (λ _ r. length r < length s) (p s)) (text : List ℕ) (at i : ℕ) (go : Going stop p k text at i) where
-  abbrev Answer : Step → Type 0
+  abbrev Answer : Option ℕ → Type 0
   Answer r = r ≡ stepped (length text) (until stop p k (drop at text))
 
-  pub going_stops : stop (drop i text) ≡ true → {r : Step} → r ≡ stepped (length text) (k (drop i text)) → Answer r
+  pub going_stops : stop (drop i text) ≡ true → {r : Option ℕ} → r ≡ stepped (length text) (k (drop i text)) → Answer r
   going_stops e q = q ∙ sym (go.same_end ∙ ap (stepped (length text)) (until_stop stop p k eats (drop i text) e))
 
   module _ (e : stop (drop i text) ≡ false) where
     onward : until stop p k (drop i text) ≡ bind (p (drop i text)) (λ _ r. until stop p k r)
     onward = until_go stop p k eats (drop i text) e
 
-    pub going_fails : p (drop i text) ≡ fail → Answer No
+    pub going_fails : p (drop i text) ≡ fail → Answer None
     unfolding bind
     going_fails q = refuses (length text) (until stop p k (drop i text)) (onward ∙ rw q) ∙ sym go.same_end
 
-    pub going_stuck : {r : Step} → r ≡ stepped (length text) (p (drop i text)) → r ≡ No → Answer No
+    pub going_stuck : {r : Option ℕ} → r ≡ stepped (length text) (p (drop i text)) → r ≡ None → Answer None
     going_stuck q n = going_fails (fell (length text) (p (drop i text)) (sym n ∙ q))
 
-    module _ (ends : (s : List ℕ) → Ok (Tails s) (p s)) {j : ℕ} {r : Step} (q : r ≡ stepped (length text) (p (drop i text)))
-        (n : r ≡ To j) where
+    module _ (ends : (s : List ℕ) → Ok (Tails s) (p s)) {j : ℕ} {r : Option ℕ} (q : r ≡ stepped (length text) (p (drop i text)))
+        (n : r ≡ Some j) where
       step : Went p text i j
       step = went p text i j (ends (drop i text)) (sym n ∙ q)
 
@@ -79,8 +77,8 @@ module _ {A B : Type 0} (stop : List ℕ → Bool) (p : Reader A) (k : Reader B)
       going_goes = record { same_end = go.same_end ∙ ap (stepped (length text)) (onward ∙ rw step.reads) }
 
 pub moved : {A : Type 0} (p : Reader A) (eats : (s : List ℕ) → Ok (λ _ r. length r < length s) (p s))
-    (ends : (s : List ℕ) → Ok (Tails s) (p s)) (text : List ℕ) (i : ℕ) {j : ℕ} {r : Step}
-    → r ≡ stepped (length text) (p (drop i text)) → r ≡ To j → i < j
+    (ends : (s : List ℕ) → Ok (Tails s) (p s)) (text : List ℕ) (i : ℕ) {j : ℕ} {r : Option ℕ}
+    → r ≡ stepped (length text) (p (drop i text)) → r ≡ Some j → i < j
 moved p eats ends text i {j} q n = went_on (went p text i j (ends (drop i text)) (sym n ∙ q)) (eats (drop i text))
 
 pub going_start : {A B : Type 0} (stop : List ℕ → Bool) (p : Reader A) (k : Reader B) (text : List ℕ) (at : ℕ) → Going stop p k text at at

@@ -1,5 +1,5 @@
 -- Values, at a position of the text: one law for each way through the code.
-use Rattle.std.specs.Prelude.{◌≡◌, List, [], ◌∷◌, ℕ, ◌+◌, ◌-◌, ◌≤◌, ◌<◌, Bool, not, ◌&&◌, ◌||◌, eqb, length}
+use Rattle.std.specs.Prelude.{◌≡◌, List, [], ◌∷◌, ℕ, ◌+◌, ◌-◌, ◌≤◌, ◌<◌, Bool, not, ◌&&◌, ◌||◌, eqb, length, Option, Some, None}
 use Rattle.std.proofs.Math.Path.{refl}
 use Rattle.std.proofs.Common.{ap, sym, ◌∙◌, arith}
 use Rattle.std.proofs.Math.Bool.{true, false}
@@ -23,8 +23,6 @@ use Rattle.steps.proofs.Laws.Feeds.{feed_got, feed_steps, return_read}
 use Rattle.steps.specs.Leaves.{character_at, value_rest_at}
 use Rattle.steps.proofs.Laws.Leaves.{literal_is, literal_not, value_character_eats, value_character_tails}
 use Rattle.steps.proofs.Laws.Characters.{plain_step}
-use Rattle.steps.specs.declared.Step.{Step}
-use Rattle.steps.specs.declared.Step.TheVariants.{To, No}
 
 -- one character, by its first byte
 module _ (q b : ℕ) (s : List ℕ) where
@@ -72,29 +70,29 @@ return_value q s =
     rw (reference_other 13 refl s, known, read)
 
 module _ (text : List ℕ) (at q : ℕ) where
-  abbrev Character : Step → Type 0
+  abbrev Character : Option ℕ → Type 0
   Character r = r ≡ stepped (length text) (value_character_at q (drop at text))
 
-  pub character_none : length text ≤ at → Character No
+  pub character_none : length text ≤ at → Character None
   unfolding value_character_at reference_at stands_for line_end_at space_at literal_at alt bind mark byte
   character_none h = refuses (length text) (value_character_at q (drop at text)) (rw (at_end text at h))
 
   module _ (h : at < length text) where
-    pub character_reference : get_or text at 0 ≡ 38 → {r : Step} → r ≡ stepped (length text) (reference_at (drop at text)) → Character r
+    pub character_reference : get_or text at 0 ≡ 38 → {r : Option ℕ} → r ≡ stepped (length text) (reference_at (drop at text)) → Character r
     character_reference e {r} k =
         let here : drop at text ≡ 38 ∷ drop (at + 1) text = rw (at_byte text at h, e) in
         k ∙ ap (stepped (length text)) (ap reference_at here ∙ sym (amp_alone q (drop (at + 1) text))
         ∙ ap (value_character_at q) (sym here))
 
-    pub character_return : get_or text at 0 ≡ 13 → {j : ℕ} → To j ≡ stepped (length text) (feed_at (ascii "\n") (drop (at + 1) text))
-        → Character (To j)
+    pub character_return : get_or text at 0 ≡ 13 → {j : ℕ} → Some j ≡ stepped (length text) (feed_at (ascii "\n") (drop (at + 1) text))
+        → Character (Some j)
     character_return e k =
         let here : drop at text ≡ 13 ∷ drop (at + 1) text = rw (at_byte text at h, e) in
         k ∙ feed_steps (length text) (ascii "\n") (ascii " ") (drop (at + 1) text)
         ∙ ap (stepped (length text)) (sym (return_value q (drop (at + 1) text)) ∙ ap (value_character_at q) (sym here))
 
     module _ (f : get_or text at 0 ≡ 38 → ⊥) {t : Bool} (is : t ≡ blank (get_or text at 0)) where
-      pub character_blank : (get_or text at 0 ≡ 13 → ⊥) → t ≡ true → Character (To (at + 1))
+      pub character_blank : (get_or text at 0 ≡ 13 → ⊥) → t ≡ true → Character (Some (at + 1))
       character_blank g e = arrives text (value_character_at q (drop at text)) {a = ascii " "} (at + 1) (omega arith)
           (rw (at_byte text at h) (first_blank q (get_or text at 0) (drop (at + 1) text) f g (sym is ∙ e)))
 
@@ -102,11 +100,11 @@ module _ (text : List ℕ) (at q : ℕ) where
         from_here : value_character_at q (drop at text) ≡ literal_at (value_byte q) (get_or text at 0 ∷ drop (at + 1) text)
         from_here = rw (at_byte text at h) (first_other q (get_or text at 0) (drop (at + 1) text) f (sym is ∙ e))
 
-        pub character_out : (eqb (get_or text at 0) 60 || eqb (get_or text at 0) q) ≡ true → Character No
+        pub character_out : (eqb (get_or text at 0) 60 || eqb (get_or text at 0) q) ≡ true → Character None
         character_out k = refuses (length text) (value_character_at q (drop at text))
             (from_here ∙ literal_not (value_byte q) (get_or text at 0) (drop (at + 1) text) (not_in_value q (get_or text at 0) k))
 
-        pub character_in : (eqb (get_or text at 0) 60 || eqb (get_or text at 0) q) ≡ false → {r : Step}
+        pub character_in : (eqb (get_or text at 0) 60 || eqb (get_or text at 0) q) ≡ false → {r : Option ℕ}
             → r ≡ stepped (length text) (character_at (drop at text)) → Character r
         character_in k l =
             l ∙ ap (stepped (length text))
@@ -127,7 +125,7 @@ module _ (text : List ℕ) (at q : ℕ) (h : at < length text) {t : Bool}
   other = not-true (eqb (get_or text at 0) q)
       (and_right (not (special (get_or text at 0))) _ (and_right (between 32 127 (get_or text at 0)) _ (sym is ∙ e)))
 
-  pub character_plain : To (at + 1) ≡ stepped (length text) (value_character_at q (drop at text))
+  pub character_plain : Some (at + 1) ≡ stepped (length text) (value_character_at q (drop at text))
   unfolding special
   character_plain = go (blank (get_or text at 0)) refl
     where
@@ -140,7 +138,7 @@ module _ (text : List ℕ) (at q : ℕ) (h : at < length text) {t : Bool}
       k : (eqb (get_or text at 0) 60 || eqb (get_or text at 0) q) ≡ false
       k = rw (or_left (eqb (get_or text at 0) 60) (eqb (get_or text at 0) 38) free, other)
 
-      go : (t : Bool) → blank (get_or text at 0) ≡ t → To (at + 1) ≡ stepped (length text) (value_character_at q (drop at text))
+      go : (t : Bool) → blank (get_or text at 0) ≡ t → Some (at + 1) ≡ stepped (length text) (value_character_at q (drop at text))
       go true b = character_blank text at q h f refl g b
       go false b = character_in text at q h f refl b k (plain_step text at h refl low)
 
@@ -152,14 +150,14 @@ pub value_start : (q : ℕ) (text : List ℕ) (at : ℕ) → InValue q text at a
 value_start q text at = going_start (begins (q ∷ [])) (value_character_at q) (mark (q ∷ [])) text at
 
 module _ (q : ℕ) (text : List ℕ) (at i : ℕ) (go : InValue q text at i) where
-  abbrev Rest : Step → Type 0
+  abbrev Rest : Option ℕ → Type 0
   Rest r = r ≡ stepped (length text) (value_rest_at q (drop at text))
 
   nothing_there : value_character_at q [] ≡ fail
   unfolding value_character_at reference_at stands_for line_end_at space_at literal_at alt bind mark byte
   nothing_there = refl
 
-  pub value_open : length text ≤ i → Rest No
+  pub value_open : length text ≤ i → Rest None
   unfolding value_rest_at begins
   value_open h =
       let e : begins (q ∷ []) (drop i text) ≡ false = rw (at_end text i h) in
@@ -167,7 +165,7 @@ module _ (q : ℕ) (text : List ℕ) (at i : ℕ) (go : InValue q text at i) whe
       going_fails (begins (q ∷ [])) (value_character_at q) (mark (q ∷ [])) (value_character_eats q) text at i go e k
 
   module _ (h : i < length text) where
-    pub value_closes : get_or text i 0 ≡ q → Rest (To (i + 1))
+    pub value_closes : get_or text i 0 ≡ q → Rest (Some (i + 1))
     unfolding value_rest_at begins
     value_closes e =
         let here : drop i text ≡ q ∷ drop (i + 1) text = rw (at_byte text i h, e) in
@@ -181,23 +179,23 @@ module _ (q : ℕ) (text : List ℕ) (at i : ℕ) (go : InValue q text at i) whe
       unfolding begins
       goes_on = rw (at_byte text i h, ne_eqb (get_or text i 0) q f)
 
-      module _ {r : Step} (is : r ≡ stepped (length text) (value_character_at q (drop i text))) where
-        pub value_stuck : r ≡ No → Rest No
+      module _ {r : Option ℕ} (is : r ≡ stepped (length text) (value_character_at q (drop i text))) where
+        pub value_stuck : r ≡ None → Rest None
         unfolding value_rest_at
         value_stuck n = going_stuck (begins (q ∷ [])) (value_character_at q) (mark (q ∷ []))
             (value_character_eats q) text at i go goes_on is n
 
-        pub value_more : {j : ℕ} → r ≡ To j → InValue q text at j
+        pub value_more : {j : ℕ} → r ≡ Some j → InValue q text at j
         value_more n = going_goes (begins (q ∷ [])) (value_character_at q) (mark (q ∷ [])) (value_character_eats q) text at i go goes_on
             (value_character_tails q) is n
 
-pub value_less : (q : ℕ) (text : List ℕ) (i : ℕ) {r : Step} {j : ℕ} → i < length text
-    → r ≡ stepped (length text) (value_character_at q (drop i text)) → r ≡ To j → length text - j < length text - i
+pub value_less : (q : ℕ) (text : List ℕ) (i : ℕ) {r : Option ℕ} {j : ℕ} → i < length text
+    → r ≡ stepped (length text) (value_character_at q (drop i text)) → r ≡ Some j → length text - j < length text - i
 value_less q text i {j = j} h is n = let on : i < j =
     moved (value_character_at q) (value_character_eats q) (value_character_tails q) text i is n in omega arith
 
 -- the whole value
-pub value_none : (text : List ℕ) (at : ℕ) → length text ≤ at → No ≡ stepped (length text) (value_at (drop at text))
+pub value_none : (text : List ℕ) (at : ℕ) → length text ≤ at → None ≡ stepped (length text) (value_at (drop at text))
 unfolding value_at byte bind
 value_none text at h = refuses (length text) (value_at (drop at text)) (rw (at_end text at h))
 
@@ -209,11 +207,11 @@ quoted n q s e =
     (mark (q ∷ []) r) (λ _. together bs))
 
 module _ (text : List ℕ) (at : ℕ) (h : at < length text) {t : Bool} (is : t ≡ quote (get_or text at 0)) where
-  pub value_other : not t ≡ true → No ≡ stepped (length text) (value_at (drop at text))
+  pub value_other : not t ≡ true → None ≡ stepped (length text) (value_at (drop at text))
   unfolding value_at bind
   value_other e = refuses (length text) (value_at (drop at text))
       (rw (at_byte text at h, byte_other quote (get_or text at 0) (sym is ∙ not-true t e) (drop (at + 1) text)))
 
-  pub value_some : not t ≡ false → {r : Step} → r ≡ stepped (length text) (value_rest_at (get_or text at 0) (drop (at + 1) text))
+  pub value_some : not t ≡ false → {r : Option ℕ} → r ≡ stepped (length text) (value_rest_at (get_or text at 0) (drop (at + 1) text))
       → r ≡ stepped (length text) (value_at (drop at text))
   value_some e k = k ∙ sym (rw (at_byte text at h) (quoted (length text) (get_or text at 0) (drop (at + 1) text) (sym is ∙ not-false t e)))

@@ -1,9 +1,8 @@
 -- What is proved of Bounds: all that is ever left of a text is so bounded.
-use Rattle.std.specs.Prelude.{◌≡◌, ℕ, suc, ◌+◌, ◌≤◌, Bool, ◌&&◌, eqb, length}
+use Rattle.std.specs.Prelude.{◌≡◌, ℕ, suc, ◌+◌, ◌≤◌, Bool, ◌&&◌, eqb, length, Option, Some, None}
 use Rattle.std.proofs.Math.Path.{refl}
 use Rattle.std.proofs.Common.{ap, sym, ◌∙◌, subst, arith}
 use mathlib.Core.List.{List, [], ◌∷◌, ◌++◌}
-use Rattle.std.proofs.Math.Option.{Option, some}
 use Rattle.std.proofs.Math.Bool.{not}
 use Rattle.lists.proofs.Laws.Booleans.{never_some}
 use Rattle.grammar.specs.Bytes.{blank}
@@ -95,8 +94,8 @@ joined_rows p q l (row_more {j} {l = m} f r) o =
 
 -- what is left, if anything is
 pub data Kept : Left → Type 0 where
-  nothing_left : Kept Option.none
-  jobs_left : {l : List Job} → InRow 0 0 l → Kept (some l)
+  nothing_left : Kept None
+  jobs_left : {l : List Job} → InRow 0 0 l → Kept (Some l)
 
 put_kept : (c : Change) (l : List Job) (x : Left) → Good (jobs 0 l) (holders 0 l) c → InRow 0 0 l → Kept x → Kept (put c l x)
 unfolding put
@@ -152,15 +151,15 @@ limited (row_more {j} {l} f o) =
     record { jobs_few = few; holders_few = both.1; each_suited = row_more f o }
 
 -- WHATEVER WAS READ: what is left of the text is so bounded
-pub limited_so : (s : List ℕ) (l : List Job) → read_on outset s ≡ some l → Limited l
+pub limited_so : (s : List ℕ) (l : List Job) → read_on outset s ≡ Some l → Limited l
 limited_so s l e = go (read_on outset s) (kept s outset_kept) e
   where
-    go : (x : Left) → Kept x → x ≡ some l → Limited l
+    go : (x : Left) → Kept x → x ≡ Some l → Limited l
     go _ nothing_left e = never_some e
     go _ (jobs_left {l = m} o) e = let same : m ≡ l = cc in subst Limited same (limited o)
 
 -- the same of a reading that parts were added to
-pub limited_parts : (ps : List (List ℕ)) (l : List Job) (n : ℕ) (v : Option Bool) → add_parts awaited ps ≡ arrival (some l) n v → Limited l
+pub limited_parts : (ps : List (List ℕ)) (l : List Job) (n : ℕ) (v : Option Bool) → add_parts awaited ps ≡ arrival (Some l) n v → Limited l
 unfolding awaited
 limited_parts ps l n v e =
     limited_so (together ps) l (ap left_of (sym (parts_so outset 0 ps) ∙ e))

@@ -1,8 +1,7 @@
 -- The jobs that are left, byte after byte, and at the end whether the text was a document.
-use Rattle.std.specs.Prelude.{◌≡◌, refl, List, [], ◌∷◌, ◌++◌, ℕ, ◌≤◌, Bool, true, false, cond, ◌&&◌, length}
+use Rattle.std.specs.Prelude.{◌≡◌, refl, List, [], ◌∷◌, ◌++◌, ℕ, ◌≤◌, Bool, true, false, cond, ◌&&◌, length, Some, None}
 use Rattle.std.proofs.Common.{ap, sym, ◌∙◌, arith}
 use Rattle.std.proofs.Math.Path.{fun_ext}
-use Rattle.std.proofs.Math.Option.{Option, some}
 use Rattle.lists.proofs.Laws.Booleans.{clash}
 use Rattle.grammar.specs.Document.{Element}
 use Rattle.grammar.specs.Read.{Read, fail, got, bind, all_of}
@@ -76,8 +75,8 @@ no_bytes (a ∷ s) = false
 
 -- the rest of the text is what is left
 pub suits : Left → Passing
-suits Option.none s = false
-suits (some l) s = meets_all l no_bytes s
+suits None s = false
+suits (Some l) s = meets_all l no_bytes s
 
 meets_append : (m l : List Job) (k : Passing) (s : List ℕ) → meets_all (m ++ l) k s ≡ meets_all m (meets_all l k) s
 unfolding meets_all
@@ -96,8 +95,8 @@ jobs_law (j ∷ l) a s = law j (meets_all l no_bytes) a s ∙ go (change j a) (j
 
 byte_law : (x : Left) (a : ℕ) (s : List ℕ) → suits x (a ∷ s) ≡ suits (read_byte x a) s
 unfolding suits read_byte
-byte_law Option.none a s = refl
-byte_law (some l) a s = jobs_law l a s
+byte_law None a s = refl
+byte_law (Some l) a s = jobs_law l a s
 
 idle_law : (l : List Job) → meets_all l no_bytes [] ≡ all_idle l
 unfolding meets_all no_bytes all_idle
@@ -110,8 +109,8 @@ idle_law (j ∷ l) = end_law (meets_all l no_bytes) j ∙ go (idle j) (idle_law 
 
 end_here : (x : Left) → suits x [] ≡ idle_left x
 unfolding suits idle_left
-end_here Option.none = refl
-end_here (some l) = idle_law l
+end_here None = refl
+end_here (Some l) = idle_law l
 
 pub suits_law : (x : Left) (s : List ℕ) → suits x s ≡ idle_left (read_on x s)
 unfolding read_on
@@ -131,7 +130,7 @@ accepted_so s = go (document_at (length s) s) refl
       accepts = λ e. clash (cc);
       refuses = λ _ e w.
           let p = parse_complete w in
-          let q : parse s ≡ Option.none = rw h in
+          let q : parse s ≡ None = rw h in
           clash (cc);
     }
     go (got e r) h = record { accepts = λ _. (e, parse_sound s e (rw h)); refuses = λ q. clash (cc) }

@@ -1,6 +1,5 @@
 -- Texts in parts, each line computed.
-use Rattle.std.specs.Prelude.{◌≡◌, refl, List, [], ◌∷◌, ◌++◌, ℕ, zero, suc, Bool, true, false, ◌&&◌}
-use Rattle.std.proofs.Math.Option.{Option, some}
+use Rattle.std.specs.Prelude.{◌≡◌, refl, List, [], ◌∷◌, ◌++◌, ℕ, zero, suc, Bool, true, false, ◌&&◌, Option, Some, None}
 use Rattle.lists.specs.Lists.{all}
 use Rattle.grammar.specs.Bytes.{ascii}
 use Rattle.stream.specs.Jobs.{reading_jobs}
@@ -21,13 +20,13 @@ keys zero = []
 keys (suc n) = ascii " " ++ (times (suc n) (ascii "k") ++ (ascii "=''" ++ keys n))
 
 unfoldable yes : Option Bool → Bool
-yes Option.none = false
-yes (some v) = v
+yes None = false
+yes (Some v) = v
 
 unfoldable no : Option Bool → Bool
-no Option.none = false
-no (some true) = false
-no (some false) = true
+no None = false
+no (Some true) = false
+no (Some false) = true
 
 unfoldable legal : List ℕ → Bool
 legal s = yes (verdict_of (add_end (add_parts awaited (s ∷ [])))) && yes (verdict_of (add_end (add_parts awaited (apart s))))

@@ -1,8 +1,7 @@
 -- ACCEPTED EXACTLY WHEN: the number of every answer that `Reads` allows is 0 if and only if none of 1 to 14, 24 and 25 applies; else it is
 -- the smallest that applies. So is the number of a map name, with 1 to 9 and 18.
-use Rattle.std.specs.Prelude.{◌≡◌, refl, List, [], ◌∷◌, true, ℕ, eqb, length}
+use Rattle.std.specs.Prelude.{◌≡◌, refl, List, [], ◌∷◌, true, ℕ, eqb, length, Option}
 use Rattle.std.proofs.Common.{sym, ap, ◌∙◌, subst, arith, eq-eqb}
-use Rattle.std.proofs.Math.Option.{Option}
 use Rattle.lists.specs.Lists.{any, each}
 use Rattle.lists.specs.Refusals.{Refusal, ◌when◌, first, Applies, here, later, rising}
 use Rattle.lists.proofs.Laws.Booleans.{or_first, or_second}

@@ -1,5 +1,5 @@
 -- What is proved of Model.
-use Rattle.std.specs.Prelude.{◌≡◌, Bool, ℕ, ◌+◌, ◌-◌, ◌<◌, ◌≤◌}
+use Rattle.std.specs.Prelude.{◌≡◌, Bool, ℕ, ◌+◌, ◌-◌, ◌<◌, ◌≤◌, Option, Some, None}
 use Rattle.std.proofs.Math.Path.{sym, ap}
 use Rattle.std.proofs.Common.{◌∙◌, arith, rules}
 use mathlib.Core.List.{List, []}
@@ -9,8 +9,6 @@ use Rattle.numbers.specs.Numbers.{digits, words, values, parts, filled}
 use Rattle.nodes.specs.Places.{the}
 use Rattle.nodes.specs.Texts.{says_at, text_from}
 use Rattle.nodes.proofs.Laws.TextSteps.{from_at, from_none}
-use Rattle.nodes.specs.declared.Found.{Found}
-use Rattle.nodes.specs.declared.Found.TheVariants.{At, Nothing}
 use Rattle.records.specs.Record.{on_surface, record_of}
 use Rattle.records.specs.Fill.{wrote, wrote_none}
 use Rattle.cifti.specs.Maps.{Listed, vertices, voxels, model_of, threes, voxel_at, locations, locations_by}
@@ -41,7 +39,7 @@ unfolding locations_by listed_numbers each threes
 by_none s (vertices n l) e = ap (each (on_surface s)) e
 by_none s (voxels l) e = ap (λ x. each (voxel_at s) (threes x)) e
 
-nothing_listed : (text : List ℕ) → values (text_from text Nothing) ≡ []
+nothing_listed : (text : List ℕ) → values (text_from text None) ≡ []
 unfolding values words each parts those filled
 nothing_listed text = ap values (from_none text)
 
@@ -56,11 +54,11 @@ module _ {text : List ℕ} {m kind : ℕ} {out : List ℕ} {at : ℕ} (k : Model
   unfolding type_and_structure
   kind_of = k.kind_is
 
-  module _ {f : Found} (st : StartOf text m f) where
+  module _ {f : Option ℕ} (st : StartOf text m f) where
     x : ListAt text m f
     x = st.told k.model
 
-    pub fill_none : f ≡ Nothing → out ≡ wrote at (model_records (model_of (the text m))) out
+    pub fill_none : f ≡ None → out ≡ wrote at (model_records (model_of (the text m))) out
     unfolding model_records locations each
     fill_none q =
         let e : listed_numbers (model_of (the text m)).listed ≡ [] = sym x.numbers ∙ ap (λ g. values (text_from text g)) q
@@ -68,7 +66,7 @@ module _ {text : List ℕ} {m kind : ℕ} {out : List ℕ} {at : ℕ} (k : Model
         sym (ap (λ l. wrote at (each record_of l) out) (by_none (model_of (the text m)).structure (model_of (the text m)).listed e)
         ∙ wrote_none at out)
 
-    module _ {i : ℕ} (q : f ≡ At i) where
+    module _ {i : ℕ} (q : f ≡ Some i) where
       said : text_from text f ≡ says_at text i
       said = ap (text_from text) q ∙ from_at text i
 

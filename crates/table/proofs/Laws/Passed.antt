@@ -1,10 +1,8 @@
 -- AN ACCEPTED TEXT has a document, and no condition applies to it: its maps are good, each dimension is listed by one of them, and the
 -- records hold their stretches.
-use Rattle.std.specs.Prelude.{◌≡◌, List, [], ◌∷◌, ◌++◌, Bool, true, false, ◌||◌, ℕ, ◌<◌, ◌≤◌, eqb, length}
+use Rattle.std.specs.Prelude.{◌≡◌, List, [], ◌∷◌, ◌++◌, Bool, true, false, ◌||◌, ℕ, ◌<◌, ◌≤◌, eqb, length, Option, Some, None}
 use Rattle.std.proofs.Math.Path.{refl, sym}
 use Rattle.std.proofs.Common.{ap, ◌∙◌, append-nil, eqb-true}
-use Rattle.std.proofs.Math.Option.{Option, some}
-use Rattle.std.proofs.Math.Option
 use Rattle.std.proofs.Math.Bool.{not}
 use Rattle.std.proofs.Math.ListN.{get_or}
 use Rattle.std.proofs.lemmas.Bool.{not-false}
@@ -46,10 +44,10 @@ pub record Passed (lengths : List ℕ) (e : Element) : Type 0 where
   pub agree : length_wrong lengths (maps_of e) ≡ false
   pub fine : Fine (maps_of e)
 
-passed : (lengths : List ℕ) (size room work : ℕ) (e : Element) → refusal lengths size room work (some e) ≡ 0 → Passed lengths e
+passed : (lengths : List ℕ) (size room work : ℕ) (e : Element) → refusal lengths size room work (Some e) ≡ 0 → Passed lengths e
 unfolding conditions conditions_of_header conditions_of_table of_maps there shape_wrong number_wrong
 passed lengths size room work e h =
-    let n = refusal_none lengths size room work (some e) h in
+    let n = refusal_none lengths size room work (Some e) h in
     record {
       lengths_right = row_fails n;
       good = record { shape = not-false _ (row_fails (rows_past 5 n)); number = not-false _ (row_fails (rows_past 6 n)) };
@@ -62,10 +60,10 @@ passed lengths size room work e h =
       };
     }
 
-never_none : (lengths : List ℕ) (size room work : ℕ) → refusal lengths size room work Option.none ≡ 0 → ⊥
+never_none : (lengths : List ℕ) (size room work : ℕ) → refusal lengths size room work None ≡ 0 → ⊥
 unfolding conditions conditions_of_header no_document is_some
 never_none lengths size room work h =
-    both_ways refl (row_fails (rows_past 2 (refusal_none lengths size room work Option.none h)))
+    both_ways refl (row_fails (rows_past 2 (refusal_none lengths size room work None h)))
 
 -- ---- An accepted text.
 
@@ -83,12 +81,12 @@ module _ {text lengths records work : List ℕ} {a : Answer} {after cleared : Li
   unfolding answer_to
   zero_is d h = sym (answer_number _ d) ∙ sym (ap (λ (x : Answer). x.number) h) ∙ yes
 
-  answered_is : (e : Element) → a ≡ answer_to lengths (length records) (length work) (length text) (some e)
+  answered_is : (e : Element) → a ≡ answer_to lengths (length records) (length work) (length text) (Some e)
       → a ≡ accepted_with (maps_of e)
   unfolding answer_to answer_by maps_in
-  answered_is e h = h ∙ rw (zero_is (some e) h) refl
+  answered_is e h = h ∙ rw (zero_is (Some e) h) refl
 
-  filled_is : {e : Element} → Writes e text → refusal lengths (length text) (length records) (length work) (some e) ≡ 0
+  filled_is : {e : Element} → Writes e text → refusal lengths (length text) (length records) (length work) (Some e) ≡ 0
       → after ≡ filled_with (stretches (maps_of e)) records
   unfolding records_by maps_in records_after
   filled_is w z = answers_of r.filled w ∙ rw z refl
@@ -98,11 +96,11 @@ module _ {text lengths records work : List ℕ} {a : Answer} {after cleared : Li
   by_document (written {e} w) h = record {
     document = e;
     writes = w;
-    passes = passed lengths _ _ _ e (zero_is (some e) h);
+    passes = passed lengths _ _ _ e (zero_is (Some e) h);
     answered = answered_is e h;
-    filled = filled_is w (zero_is (some e) h);
+    filled = filled_is w (zero_is (Some e) h);
   }
-  by_document (unwritten f) h = absurd (never_none lengths _ _ _ (zero_is Option.none h))
+  by_document (unwritten f) h = absurd (never_none lengths _ _ _ (zero_is None h))
 
   pub accepted_text : AcceptedText text lengths records a after
   accepted_text = by_document r.answered.of r.answered.answered

@@ -1,5 +1,5 @@
 -- Attributes met in the order of a row: no name stands twice in a tag, so the one that is met is the one that a search finds.
-use Rattle.std.specs.Prelude.{◌≡◌, refl, Bool, true, false, ◌||◌, not, ℕ, zero, suc, ◌+◌, ◌-◌, ◌≤◌, ◌<◌, leb, drop}
+use Rattle.std.specs.Prelude.{◌≡◌, refl, Bool, true, false, ◌||◌, not, ℕ, zero, suc, ◌+◌, ◌-◌, ◌≤◌, ◌<◌, leb, drop, Option, Some, None}
 use Rattle.std.proofs.Math.Path.{ap}
 use Rattle.std.proofs.Common.{sym, ◌∙◌, rules, leb-true, leb-false, drop-drop}
 use mathlib.Core.List.{List, [], ◌∷◌, ◌++◌, append_assoc}
@@ -25,10 +25,7 @@ use Rattle.steps.specs.Noted.{part}
 use Rattle.steps.specs.Keys as steps-keys
 use Rattle.steps.specs.Keys.{keyed}
 use Rattle.steps.proofs.Laws.Keys.{key_found}
-use Rattle.steps.specs.declared.Step.{Step}
-use Rattle.steps.specs.declared.Step.TheVariants.{To, No}
 use Rattle.steps.specs.declared.attributes.Key as token-key
-use Rattle.steps.specs.declared.attributes.Key.TheVariants as key_is
 use Rattle.nodes.specs.Places.{Stands, the}
 use Rattle.nodes.specs.Scan.{tag_from, InTag}
 use Rattle.nodes.proofs.Laws.Scan.{tag_opens}
@@ -39,8 +36,6 @@ use Rattle.nodes.proofs.Laws.Names.{ending_attributes}
 use Rattle.nodes.specs.Values.{value_there}
 use Rattle.nodes.proofs.Laws.ReadSteps.{spelled}
 use Rattle.nodes.proofs.Laws.Attributes.{keys_go, keys_tag}
-use Rattle.nodes.specs.declared.Found.{Found}
-use Rattle.nodes.specs.declared.Found.TheVariants.{At, Nothing}
 use Rattle.schema.specs.Schema.{row_name}
 use Rattle.schema.specs.Table.{word_at, form_at, kind_cell, attribute_cell, attribute_at}
 use Rattle.schema.specs.Table.{attributes_of_kind, attributes_from, attributes_to}
@@ -71,40 +66,40 @@ module _ {text : List ℕ} (n : List ℕ) (v : ℕ) (rest : List Key) where
   other_name (key x u ∷ before) (one_key k h) (grammar.absent_more d a) e = other_name before h a e
 
   first_place : (before : List Key) {l : List Attribute} → Hold text (before ++ (key n v ∷ rest)) l → Distinct l
-      → place_in n (before ++ (key n v ∷ rest)) ≡ At v
+      → place_in n (before ++ (key n v ∷ rest)) ≡ Some v
   unfolding place_in
   first_place [] h d = rw (same_refl n)
   first_place (key m u ∷ before) (one_key k h) (grammar.distinct_more a d) =
       rw (refute (same_bytes m n) (λ e. other_name before h a (same_equal m n e))) (first_place before h d)
 
 place_law : {text : List ℕ} {at : ℕ} (name : List ℕ) → Stands text at → (before rest : List Key) {v : ℕ}
-    → keys text at ≡ before ++ (key name v ∷ rest) → At v ≡ place text at name
+    → keys text at ≡ before ++ (key name v ∷ rest) → Some v ≡ place text at name
 unfolding place
 place_law name st before rest {v} e = sym (rw e (first_place name v rest before (rw e at (keys_law st)) (distinct_law st)))
 
 -- AN ATTRIBUTE AT A PLACE
-module _ (text : List ℕ) (i : ℕ) {k : token-key.Key} (ek : k ≡ keyed (length text) (steps-keys.key_at (drop i text)))
-    {from to end : ℕ} (z : k ≡ key_is.Is from to end) where
+module _ (text : List ℕ) (i : ℕ) {k : Option token-key.Key} (ek : k ≡ keyed (length text) (steps-keys.key_at (drop i text)))
+    {spot : token-key.Key} (z : k ≡ Some spot) where
   goes_on : ends closing (drop i text) ≡ false
   goes_on =
       let f = key_found text i ek z in
       let g = ok_got (rw f.gap.reads at (gap_sound (drop i text))) in
-      let n = ok_got (rw f.name.reads at (name_sound (drop from text))) in
-      rw (g.0, n.0) (ends_blanks closing (gap_each g.1) (f.name.value ++ drop to text) ∙ ends_name n.1 (drop to text))
+      let n = ok_got (rw f.name.reads at (name_sound (drop spot.from text))) in
+      rw (g.0, n.0) (ends_blanks closing (gap_each g.1) (f.name.value ++ drop spot.to text) ∙ ends_name n.1 (drop spot.to text))
 
-  pub sought_met : {at : ℕ} → TagGoesOn text at i → (name : List ℕ) {t : Bool} → t ≡ same_bytes (part from to text) name → t ≡ true
-      → {x : Step}
-      → x ≡ stepped (length text) (value_at (drop end text)) → {j : ℕ} → x ≡ To j → AttributePlaced text at i name (At end) j
+  pub sought_met : {at : ℕ} → TagGoesOn text at i → (name : List ℕ) {t : Bool} → t ≡ same_bytes (part spot.from spot.to text) name → t ≡ true
+      → {x : Option ℕ}
+      → x ≡ stepped (length text) (value_at (drop spot.end text)) → {j : ℕ} → x ≡ Some j → AttributePlaced text at i name (Some spot.end) j
   sought_met p name et h ex {j} w =
-      let e : part from to text ≡ name = same_equal (part from to text) name (sym et ∙ h) in
-      let q : keys_from text i ≡ key name end ∷ keys_from text j =
-      keys_go text i (sym goes_on) refl ek z ex w ∙ ap (λ s. key s end ∷ keys_from text j) e in
+      let e : part spot.from spot.to text ≡ name = same_equal (part spot.from spot.to text) name (sym et ∙ h) in
+      let q : keys_from text i ≡ key name spot.end ∷ keys_from text j =
+      keys_go text i (sym goes_on) refl ek z ex w ∙ ap (λ s. key s spot.end ∷ keys_from text j) e in
       record {
         there = place_law name p.stands p.before (keys_from text j) (p.parts ∙ ap (λ s. p.before ++ s) q);
         passed = one_passed q (keys_tag text i (sym goes_on) refl ek z ex w);
       }
 
-pub sought_searched : {text : List ℕ} {at i : ℕ} {name : List ℕ} {f : Found} → f ≡ place text at name → AttributePlaced text at i name f i
+pub sought_searched : {text : List ℕ} {at i : ℕ} {name : List ℕ} {f : Option ℕ} → f ≡ place text at name → AttributePlaced text at i name f i
 sought_searched e = record { there = e; passed = none_passed }
 
 pub ruleset seeking = (sought_met, sought_searched, key_ahead, key_inside, rules)
@@ -118,15 +113,15 @@ module _ {text : List ℕ} {at a i : ℕ} (p : AskingAttribute text at a i) wher
   asking_small = p.known.known
 
 module _ (t l : List ℕ) {text : List ℕ} {at a i : ℕ} (p : AskingAttribute text at a i) {c : ℕ} (ce : c ≡ attribute_cell t a 0) {x : List ℕ}
-    (ex : x ≡ ascii (word_at t l c)) {f : Found} {j : ℕ} (s : AttributePlaced text at i x f j) where
+    (ex : x ≡ ascii (word_at t l c)) {f : Option ℕ} {j : ℕ} (s : AttributePlaced text at i x f j) where
   over : Over text (ascii (word_at t l (attribute_cell t a 0))) i j
   over = let e : x ≡ ascii (word_at t l (attribute_cell t a 0)) = ex ∙ rw ce in rw e at s.passed
 
-  pub asked_there : {v : ℕ} → f ≡ At v → {g : ℕ} → g ≡ attribute_cell t a 1 → {r : ℕ} → r ≡ value_fault t l g (value_there text v)
+  pub asked_there : {v : ℕ} → f ≡ Some v → {g : ℕ} → g ≡ attribute_cell t a 1 → {r : ℕ} → r ≡ value_fault t l g (value_there text v)
       → AttributeAsked t l text at a i r j
   asked_there e ge re = record { right = attribute_there t l p.known ce ex s.there e ge re; passed = over }
 
-  module _ (e : f ≡ Nothing) {n : ℕ} (ne : n ≡ attribute_cell t a 2) where
+  module _ (e : f ≡ None) {n : ℕ} (ne : n ≡ attribute_cell t a 2) where
     pub asked_missing : n ≡ 0 → AttributeAsked t l text at a i 6 j
     asked_missing h = record { right = attribute_missing t l p.known ce ex s.there e ne h; passed = over }
 
@@ -156,14 +151,14 @@ module _ (text : List ℕ) (at : ℕ) where
     inside = λ st. absurd (omega (arith, st.here));
   }
 
-  module _ {x : Step} (ex : x ≡ stepped (length text) (name_at (drop (at + 1) text))) where
-    pub unnamed_begin : x ≡ No → Begins text at (length text)
+  module _ {x : Option ℕ} (ex : x ≡ stepped (length text) (name_at (drop (at + 1) text))) where
+    pub unnamed_begin : x ≡ None → Begins text at (length text)
     unfolding keys keys_in
     unnamed_begin w =
         let e : name_at (drop (at + 1) text) ≡ fail = fell (length text) (name_at (drop (at + 1) text)) (sym w ∙ ex) in
         record { all_keys = rw e (sym (none_left text)); inside = λ st. absurd (its_name st e) }
 
-    pub named_begin : {i : ℕ} → x ≡ To i → Begins text at i
+    pub named_begin : {i : ℕ} → x ≡ Some i → Begins text at i
     unfolding keys keys_in
     named_begin {i} w =
         let g = went name_at text (at + 1) i (name_tails (drop (at + 1) text)) (sym w ∙ ex) in

@@ -4,11 +4,11 @@ use Rattle.walk.proofs.of_document.Goals as goal
 pub fault-walked-requires : goal.fault-walked-requires
 fault-walked-requires c = search rooted
 
-pub returns-in-Child : goal.returns-in-Child
-returns-in-Child c = search rooted
+pub returns-in-Some : goal.returns-in-Some
+returns-in-Some c = search rooted
 
-pub returns-in-Done : goal.returns-in-Done
-returns-in-Done c = search rooted
+pub returns-in-None : goal.returns-in-None
+returns-in-None c = search rooted
 
 pub root_of-requires : goal.root_of-requires
 root_of-requires c = search rooted

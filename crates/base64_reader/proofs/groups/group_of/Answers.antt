@@ -1,8 +1,8 @@
 use Rattle.base64_reader.proofs.Laws.Groups.{fours, four_last}
 use Rattle.base64_reader.proofs.groups.group_of.Goals as goal
 
-pub returns-in-Byte : goal.returns-in-Byte
-returns-in-Byte c = search fours
+pub returns-in-Some : goal.returns-in-Some
+returns-in-Some c = search fours
 
 pub next_letter-requires : goal.next_letter-requires
 next_letter-requires c = search fours
@@ -10,15 +10,15 @@ next_letter-requires c = search fours
 pub enum_told-1 : goal.enum_told-1
 enum_told-1 c = search fours
 
-pub enum_told-in-End : goal.enum_told-in-End
-enum_told-in-End c = search fours
+pub enum_told-in-None : goal.enum_told-in-None
+enum_told-in-None c = search fours
 
 pub last_of-requires : goal.last_of-requires
 last_of-requires c = search fours
 
-pub returns-in-End : goal.returns-in-End
-returns-in-End c = four_last _ _ _ _ _ _ c.if-s-eq65.true c.next_letter.ensures
-    c.in-End.is c.last_of.ensures
+pub returns-in-None : goal.returns-in-None
+returns-in-None c = four_last _ _ _ _ _ _ c.if-s-eq65.true c.next_letter.ensures
+    c.in-None.is c.last_of.ensures
 
 pub bits_of-bits-requires : goal.bits_of-bits-requires
 bits_of-bits-requires c = search fours

@@ -10,5 +10,5 @@ loop-b-smaller c = search passing
 pub loop-b-preserved : goal.loop-b-preserved
 loop-b-preserved c = search passing
 
-pub returns-in-End : goal.returns-in-End
-returns-in-End c = search passing
+pub returns-in-None : goal.returns-in-None
+returns-in-None c = search passing

@@ -1,8 +1,8 @@
-use Rattle.describing.proofs.Laws.Said.{start-told}
+use Rattle.describing.proofs.Laws.Said.{start_told}
 use Rattle.describing.proofs.said.start_in.Goals as goal
 
 pub returns-then-is_brain : goal.returns-then-is_brain
-returns-then-is_brain c = search start-told
+returns-then-is_brain c = search start_told
 
 pub returns : goal.returns
-returns c = search start-told
+returns c = search start_told

@@ -1,11 +1,11 @@
 use Rattle.describing.proofs.Laws.Series.{decimalSteps}
 use Rattle.describing.proofs.series.decimal_seen.Goals as goal
 
-pub returns-in-Is : goal.returns-in-Is
-returns-in-Is c = search decimalSteps
+pub returns-in-None : goal.returns-in-None
+returns-in-None c = search decimalSteps
 
-pub returns-in-No : goal.returns-in-No
-returns-in-No c = search decimalSteps
+pub returns-in-Some-decimal_value : goal.returns-in-Some-decimal_value
+returns-in-Some-decimal_value c = search decimalSteps
 
-pub returns-in-Nothing : goal.returns-in-Nothing
-returns-in-Nothing c = search decimalSteps
+pub returns-in-None-decimal_value : goal.returns-in-None-decimal_value
+returns-in-None-decimal_value c = search decimalSteps

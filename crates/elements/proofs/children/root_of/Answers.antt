@@ -1,8 +1,8 @@
 use Rattle.nodes.proofs.Laws.Children.{rooting}
 use Rattle.elements.proofs.children.root_of.Goals as goal
 
-pub returns-in-To : goal.returns-in-To
-returns-in-To c = search rooting
+pub returns-in-Some : goal.returns-in-Some
+returns-in-Some c = search rooting
 
-pub returns-in-No : goal.returns-in-No
-returns-in-No c = search rooting
+pub returns-in-None : goal.returns-in-None
+returns-in-None c = search rooting

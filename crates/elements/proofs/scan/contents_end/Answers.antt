@@ -10,14 +10,14 @@ loop-j-init c = search scanning
 pub returns-then-depth-eq0 : goal.returns-then-depth-eq0
 returns-then-depth-eq0 c = search scanning
 
-pub loop-j-smaller-in-To : goal.loop-j-smaller-in-To
-loop-j-smaller-in-To c = search scanning
+pub loop-j-smaller-in-Some : goal.loop-j-smaller-in-Some
+loop-j-smaller-in-Some c = search scanning
 
-pub loop-j-preserved-in-To : goal.loop-j-preserved-in-To
-loop-j-preserved-in-To c = search scanning
+pub loop-j-preserved-in-Some : goal.loop-j-preserved-in-Some
+loop-j-preserved-in-Some c = search scanning
 
-pub returns-in-No-past_tag : goal.returns-in-No-past_tag
-returns-in-No-past_tag c = search scanning
+pub returns-in-None : goal.returns-in-None
+returns-in-None c = search scanning
 
 pub overflow_add-depth : goal.overflow_add-depth
 overflow_add-depth c = let h : c.loop-j.depth < length

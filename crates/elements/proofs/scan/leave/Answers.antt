@@ -1,8 +1,8 @@
 use Rattle.nodes.proofs.Laws.Skip.{leaving}
 use Rattle.elements.proofs.scan.leave.Goals as goal
 
-pub returns-in-To : goal.returns-in-To
-returns-in-To c = search leaving
+pub returns-in-Some : goal.returns-in-Some
+returns-in-Some c = search leaving
 
-pub returns-in-No : goal.returns-in-No
-returns-in-No c = search leaving
+pub returns-in-None : goal.returns-in-None
+returns-in-None c = search leaving

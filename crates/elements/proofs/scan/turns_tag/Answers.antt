@@ -1,5 +1,5 @@
-use Rattle.elements.proofs.Laws.Tags.{byte-turns}
+use Rattle.elements.proofs.Laws.Tags.{byte_turns}
 use Rattle.elements.proofs.scan.turns_tag.Goals as goal
 
 pub returns : goal.returns
-returns c = search byte-turns
+returns c = search byte_turns

@@ -3,7 +3,7 @@ use Rattle.filling.proofs.model.fill_model.Goals as goal
 
 pub fill_voxels-requires : goal.fill_voxels-requires
 fill_voxels-requires c =
-    fill_voxels_can c.requires c.list_start.ensures c.in-At.is c.if-kind-ge32.true
+    fill_voxels_can c.requires c.list_start.ensures c.in-Some.is c.if-kind-ge32.true
 
 pub returns-then-kind-ge32 : goal.returns-then-kind-ge32
 returns-then-kind-ge32 c = search fillingModel
@@ -14,8 +14,8 @@ fill_vertices-requires c = search fillingModel
 pub returns-else-kind-ge32 : goal.returns-else-kind-ge32
 returns-else-kind-ge32 c = search fillingModel
 
-pub returns-in-Nothing : goal.returns-in-Nothing
-returns-in-Nothing c = search fillingModel
+pub returns-in-None : goal.returns-in-None
+returns-in-None c = search fillingModel
 
 pub list_start-requires : goal.list_start-requires
 list_start-requires c = search fillingModel

@@ -1,8 +1,8 @@
 use Rattle.gifti_arrays.proofs.Laws.Array.{placing}
 use Rattle.gifti_arrays.proofs.array.data_of.Goals as goal
 
-pub returns-in-At : goal.returns-in-At
-returns-in-At c = search placing
+pub returns-in-Some : goal.returns-in-Some
+returns-in-Some c = search placing
 
-pub returns-in-Nothing : goal.returns-in-Nothing
-returns-in-Nothing c = search placing
+pub returns-in-None : goal.returns-in-None
+returns-in-None c = search placing

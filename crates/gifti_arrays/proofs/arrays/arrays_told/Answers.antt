@@ -33,7 +33,7 @@ loop-kid-smaller-then-name_is c = search walking
 
 pub loop-kid-preserved-then-name_is : goal.loop-kid-preserved-then-name_is
 loop-kid-preserved-then-name_is c =
-    walking_more c.loop-kid.invariant c.in-Child.is c.name_is.ensures c.if-name_is.true
+    walking_more c.loop-kid.invariant c.in-Some.is c.name_is.ensures c.if-name_is.true
     c.array_told-told.ensures c.next_child-kid.ensures
 
 pub loop-kid-smaller : goal.loop-kid-smaller
@@ -45,5 +45,5 @@ loop-kid-preserved c = search walking
 pub enum_told-1 : goal.enum_told-1
 enum_told-1 c = search walking
 
-pub returns-in-Done : goal.returns-in-Done
-returns-in-Done c = search walking
+pub returns-in-None : goal.returns-in-None
+returns-in-None c = search walking

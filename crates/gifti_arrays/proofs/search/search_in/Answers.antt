@@ -35,11 +35,11 @@ loop-kid-smaller c = search searching
 pub loop-kid-preserved : goal.loop-kid-preserved
 loop-kid-preserved c = search searching
 
-pub enum_told-in-Done : goal.enum_told-in-Done
-enum_told-in-Done c = search searching
+pub enum_told-in-None : goal.enum_told-in-None
+enum_told-in-None c = search searching
 
-pub shape_of-work-in-Done : goal.shape_of-work-in-Done
-shape_of-work-in-Done c = search searching
+pub shape_of-work-in-None : goal.shape_of-work-in-None
+shape_of-work-in-None c = search searching
 
-pub returns-in-Done : goal.returns-in-Done
-returns-in-Done c = search searching
+pub returns-in-None : goal.returns-in-None
+returns-in-None c = search searching

@@ -4,11 +4,11 @@ use Rattle.gifti_reader.proofs.lent_keys.keys_passed.Goals as goal
 pub keys_at-requires : goal.keys_at-requires
 keys_at-requires c = search passing
 
-pub returns-in-At : goal.returns-in-At
-returns-in-At c = search passing
+pub returns-in-Some : goal.returns-in-Some
+returns-in-Some c = search passing
 
-pub returns-in-Nothing : goal.returns-in-Nothing
-returns-in-Nothing c = search passing
+pub returns-in-None : goal.returns-in-None
+returns-in-None c = search passing
 
 pub child_named-requires : goal.child_named-requires
 child_named-requires c = search passing

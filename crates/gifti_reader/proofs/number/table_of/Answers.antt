@@ -1,8 +1,8 @@
 use Rattle.gifti_reader.proofs.Laws.Number.{tabling}
 use Rattle.gifti_reader.proofs.number.table_of.Goals as goal
 
-pub returns-in-At : goal.returns-in-At
-returns-in-At c = search tabling
+pub returns-in-Some : goal.returns-in-Some
+returns-in-Some c = search tabling
 
-pub returns-in-Nothing : goal.returns-in-Nothing
-returns-in-Nothing c = search tabling
+pub returns-in-None : goal.returns-in-None
+returns-in-None c = search tabling

@@ -11,8 +11,8 @@ loop-i-smaller c = search (comment_less, rules)
 pub loop-i-preserved : goal.loop-i-preserved
 loop-i-preserved c = search (comment_more, rules)
 
-pub returns-in-No : goal.returns-in-No
-returns-in-No c = search (comment_stuck, rules)
+pub returns-in-None : goal.returns-in-None
+returns-in-None c = search (comment_stuck, rules)
 
 pub returns : goal.returns
 returns c = search (comment_open, rules)

@@ -1,8 +1,8 @@
-use Rattle.steps.proofs.Laws.Data.{data-whole}
+use Rattle.steps.proofs.Laws.Data.{data_whole}
 use Rattle.heads.proofs.data.data_end.Goals as goal
 
-pub returns-in-To : goal.returns-in-To
-returns-in-To c = search data-whole
+pub returns-in-Some : goal.returns-in-Some
+returns-in-Some c = search data_whole
 
-pub returns-in-No : goal.returns-in-No
-returns-in-No c = search data-whole
+pub returns-in-None : goal.returns-in-None
+returns-in-None c = search data_whole

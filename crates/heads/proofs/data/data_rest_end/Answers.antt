@@ -1,4 +1,4 @@
-use Rattle.steps.proofs.Laws.Data.{in-data, data_over, data_closes, data_stuck, data_more}
+use Rattle.steps.proofs.Laws.Data.{in_data_laws, data_over, data_closes, data_stuck, data_more}
 use Rattle.heads.proofs.data.data_rest_end.Goals as goal
 
 pub returns-then-brackets_at : goal.returns-then-brackets_at
@@ -8,19 +8,19 @@ returns-then-brackets_at c =
     c.mark_end.ensures
 
 pub loop-i-smaller : goal.loop-i-smaller
-loop-i-smaller c = search in-data
+loop-i-smaller c = search in_data_laws
 
 pub loop-i-preserved : goal.loop-i-preserved
 loop-i-preserved c =
     let over = data_over c.args.text.now c.loop-i.i c.data_plain_end-j.ensures c.args.at c.loop-i.invariant in
     data_more c.args.text.now c.args.at c.data_plain_end-j.result over c.brackets_at.ensures c.if-brackets_at.false
-    c.data_character_end.ensures c.in-To.is
+    c.data_character_end.ensures c.in-Some.is
 
-pub returns-in-No : goal.returns-in-No
-returns-in-No c =
+pub returns-in-None : goal.returns-in-None
+returns-in-None c =
     let over = data_over c.args.text.now c.loop-i.i c.data_plain_end-j.ensures c.args.at c.loop-i.invariant in
     data_stuck c.args.text.now c.args.at c.data_plain_end-j.result over c.brackets_at.ensures c.if-brackets_at.false
-    c.data_character_end.ensures c.in-No.is
+    c.data_character_end.ensures c.in-None.is
 
 pub returns : goal.returns
-returns c = search in-data
+returns c = search in_data_laws

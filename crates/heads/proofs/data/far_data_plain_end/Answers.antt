@@ -1,11 +1,11 @@
 use Rattle.std.proofs.lemmas.Bool.{not_from_true, not_from_false}
 use Rattle.steps.specs.Leaves.{data_plain}
 use Rattle.steps.proofs.Laws.Steps.{span_more, span_stops}
-use Rattle.steps.proofs.Laws.Blocks.{far-data-spanning}
+use Rattle.steps.proofs.Laws.Blocks.{far_data_spanning}
 use Rattle.heads.proofs.data.far_data_plain_end.Goals as goal
 
 pub loop-i-init : goal.loop-i-init
-loop-i-init c = search far-data-spanning
+loop-i-init c = search far_data_spanning
 
 pub returns-then-not-is_data_plain : goal.returns-then-not-is_data_plain
 returns-then-not-is_data_plain c = span_stops data_plain c.args.text.now c.args.at c.loop-i.i c.loop-i.invariant
@@ -16,4 +16,4 @@ loop-i-preserved c = span_more data_plain c.args.text.now c.args.at c.loop-i.i c
     c.loop-i-test.true c.is_data_plain.ensures (not_from_true _ c.if-not-is_data_plain.false)
 
 pub returns : goal.returns
-returns c = search far-data-spanning
+returns c = search far_data_spanning

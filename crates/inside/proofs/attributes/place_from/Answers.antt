@@ -26,8 +26,8 @@ loop-at-smaller c = search placing
 pub loop-at-preserved : goal.loop-at-preserved
 loop-at-preserved c = search placing
 
-pub returns-in-No-value_end : goal.returns-in-No-value_end
-returns-in-No-value_end c = search placing
+pub returns-in-None-value_end : goal.returns-in-None-value_end
+returns-in-None-value_end c = search placing
 
-pub returns-in-No : goal.returns-in-No
-returns-in-No c = search placing
+pub returns-in-None : goal.returns-in-None
+returns-in-None c = search placing

@@ -16,8 +16,8 @@ slice_bounds-equal-start c = search naming
 pub slice_bounds-equal-end : goal.slice_bounds-equal-end
 slice_bounds-equal-end c = search naming
 
-pub returns-in-To : goal.returns-in-To
-returns-in-To c = search naming
+pub returns-in-Some : goal.returns-in-Some
+returns-in-Some c = search naming
 
-pub returns-in-No : goal.returns-in-No
-returns-in-No c = search naming
+pub returns-in-None : goal.returns-in-None
+returns-in-None c = search naming

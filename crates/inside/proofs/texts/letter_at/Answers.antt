@@ -4,14 +4,14 @@ use Rattle.inside.proofs.texts.letter_at.Goals as goal
 pub returns-then-text-at : goal.returns-then-text-at
 returns-then-text-at c = search lettering
 
-pub returns-in-Is : goal.returns-in-Is
-returns-in-Is c = letter_reference c.args.text.now
+pub returns-in-Some : goal.returns-in-Some
+returns-in-Some c = letter_reference c.args.text.now
     c.args.at
     c.if-text-at.false c.reference_at.ensures
-    c.in-Is.is
+    c.in-Some.is
 
-pub returns-in-No : goal.returns-in-No
-returns-in-No c = search lettering
+pub returns-in-None : goal.returns-in-None
+returns-in-None c = search lettering
 
 pub returns-then-b-eq13 : goal.returns-then-b-eq13
 returns-then-b-eq13 c = letter_return c.args.text.now

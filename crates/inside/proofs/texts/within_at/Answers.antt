@@ -1,25 +1,25 @@
 use mathlib.Core.Path.{refl}
 use native.Mathlib.Omega.{arith}
-use Rattle.nodes.proofs.Laws.Texts.{within-data, ends_inside, within_out, within_letter}
+use Rattle.nodes.proofs.Laws.Texts.{within_data, ends_inside, within_out, within_letter}
 use Rattle.inside.proofs.texts.within_at.Goals as goal
 
 pub returns-then-text-at : goal.returns-then-text-at
-returns-then-text-at c = search within-data
+returns-then-text-at c = search within_data
 
-pub returns-in-To : goal.returns-in-To
-returns-in-To c = within_out c.args.text.now
+pub returns-in-Some : goal.returns-in-Some
+returns-in-Some c = within_out c.args.text.now
     c.args.at
     c.if-text-at.false c.if-b-eq93.true
-    c.mark_end.ensures c.in-To.is
+    c.mark_end.ensures c.in-Some.is
 
-pub returns-in-No : goal.returns-in-No
-returns-in-No c = search within-data
+pub returns-in-None : goal.returns-in-None
+returns-in-None c = search within_data
 
 pub overflow_add-result-then-b-eq13-2 : goal.overflow_add-result-then-b-eq13-2
 overflow_add-result-then-b-eq13-2 c = omega (arith, ends_inside _ _ c.feed_end.ensures refl)
 
 pub returns-then-b-eq13 : goal.returns-then-b-eq13
-returns-then-b-eq13 c = search within-data
+returns-then-b-eq13 c = search within_data
 
 pub returns : goal.returns
 returns c = within_letter c.args.text.now

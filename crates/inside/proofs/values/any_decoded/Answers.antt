@@ -7,13 +7,13 @@ returns-then-text-at c = search decoding
 pub returns-then-b-quote : goal.returns-then-b-quote
 returns-then-b-quote c = search decoding
 
-pub returns-in-Is : goal.returns-in-Is
-returns-in-Is c = search decoding
+pub returns-in-Some : goal.returns-in-Some
+returns-in-Some c = search decoding
 
-pub returns-in-No : goal.returns-in-No
-returns-in-No c = decode_ampersand _ _ _ c.if-text-at.false
+pub returns-in-None : goal.returns-in-None
+returns-in-None c = decode_ampersand _ _ _ c.if-text-at.false
     c.if-b-quote.false c.if-b-eq38.true c.reference_at.ensures
-    c.in-No.is
+    c.in-None.is
 
 pub returns-then-b-eq13 : goal.returns-then-b-eq13
 returns-then-b-eq13 c = search decoding

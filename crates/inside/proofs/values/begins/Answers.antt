@@ -10,8 +10,8 @@ returns-then-b-front c = search fronting
 pub loop-met-preserved : goal.loop-met-preserved
 loop-met-preserved c = search fronting
 
-pub returns-in-End : goal.returns-in-End
-returns-in-End c = search fronting
+pub returns-in-None : goal.returns-in-None
+returns-in-None c = search fronting
 
 pub returns : goal.returns
 returns c = search fronting

@@ -1,3 +1,4 @@
+use Rattle.std.proofs.Common.{Some}
 use mathlib.Core.Path.{◌≡◌, refl}
 use mathlib.Core.List.{List}
 use Prim.Native.Nat.{ℕ, ◌+◌, ◌<◌}
@@ -6,11 +7,10 @@ use lib.ListN.{length, get_or}
 use Rattle.grammar.proofs.Laws.Tokens.{high_no_blank}
 use Rattle.nodes.specs.Values.{decoded_at}
 use Rattle.nodes.proofs.Laws.Values.{decoding, decode_plain}
-use Rattle.nodes.specs.declared.Char.TheVariants.{Byte}
 use Rattle.inside.proofs.values.decoded.Goals as goal
 
 above : (text : List ℕ) (at q : ℕ) → at < length text → (get_or text at 0 ≡ q → ⊥) → 38 < get_or text at 0
-    → Byte (get_or text at 0) (at + 1) ≡ decoded_at text at q
+    → Some ((get_or text at 0), (at + 1)) ≡ decoded_at text at q
 above text at q h nq a =
     decode_plain text at q h nq (λ e. omega arith) (λ e. omega arith) refl (high_no_blank (get_or text at 0) (omega arith))
 

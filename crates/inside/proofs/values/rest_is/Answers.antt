@@ -18,7 +18,7 @@ loop-b-preserved c = search wording
 
 pub returns-then-word-k : goal.returns-then-word-k
 returns-then-word-k c = word_yes _ _ _ _ _ _ c.loop-b.invariant c.decoded.ensures
-    c.in-End.is c.if-word-k.true
+    c.in-None.is c.if-word-k.true
 
-pub returns-in-End : goal.returns-in-End
-returns-in-End c = search wording
+pub returns-in-None : goal.returns-in-None
+returns-in-None c = search wording

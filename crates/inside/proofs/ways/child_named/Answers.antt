@@ -19,5 +19,5 @@ loop-kid-smaller c = search seeking
 pub loop-kid-preserved : goal.loop-kid-preserved
 loop-kid-preserved c = search seeking
 
-pub returns-in-Done : goal.returns-in-Done
-returns-in-Done c = search seeking
+pub returns-in-None : goal.returns-in-None
+returns-in-None c = search seeking

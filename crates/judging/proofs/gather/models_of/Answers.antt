@@ -19,7 +19,7 @@ bounds-seen-place-then-name_is c = search gathering
 pub with_model-models-requires : goal.with_model-models-requires
 with_model-models-requires c =
     gathering_room c.loop-kid.invariant
-    c.in-Child.is c.name_is.ensures
+    c.in-Some.is c.name_is.ensures
     c.if-name_is.true
     c.kind_at-kind.ensures c.if-seen-place.false
 
@@ -35,8 +35,8 @@ loop-kid-smaller c = search gathering
 pub loop-kid-preserved : goal.loop-kid-preserved
 loop-kid-preserved c = search gathering
 
-pub returns-in-Done : goal.returns-in-Done
-returns-in-Done c = search gathering
+pub returns-in-None : goal.returns-in-None
+returns-in-None c = search gathering
 
 pub first_child-kid-requires : goal.first_child-kid-requires
 first_child-kid-requires c = search gathering

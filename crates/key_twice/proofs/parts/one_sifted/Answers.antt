@@ -17,5 +17,5 @@ loop-kid-smaller c = search meeting
 pub loop-kid-preserved : goal.loop-kid-preserved
 loop-kid-preserved c = search meeting
 
-pub returns-in-Done : goal.returns-in-Done
-returns-in-Done c = search meeting
+pub returns-in-None : goal.returns-in-None
+returns-in-None c = search meeting

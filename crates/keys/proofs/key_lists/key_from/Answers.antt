@@ -1,14 +1,14 @@
 use native.Mathlib.Omega.{arith}
 use mathlib.Core.Path.{ap}
 use mathlib.Core.Bool.{not}
-use Rattle.keys.proofs.Laws.KeyLists.{key-digits, from_great, from_small, from_fits, from_key}
+use Rattle.keys.proofs.Laws.KeyLists.{key_digits, from_great, from_small, from_fits, from_key}
 use Rattle.keys.proofs.key_lists.key_from.Goals as goal
 
 pub returns-then-run-eq0 : goal.returns-then-run-eq0
-returns-then-run-eq0 c = search key-digits
+returns-then-run-eq0 c = search key_digits
 
 pub returns-then-not-word_ends : goal.returns-then-not-word_ends
-returns-then-not-word_ends c = search key-digits
+returns-then-not-word_ends c = search key_digits
 
 pub returns-then-key_limit-run : goal.returns-then-key_limit-run
 returns-then-key_limit-run c =
@@ -31,10 +31,10 @@ returns c =
     (ap not c.if-not-word_ends.false) c.key_limit.ensures (omega (arith, c.if-key_limit-run.false)) c.signed.ensures
 
 pub digits-run-requires : goal.digits-run-requires
-digits-run-requires c = search key-digits
+digits-run-requires c = search key_digits
 
 pub word_ends-requires : goal.word_ends-requires
-word_ends-requires c = search key-digits
+word_ends-requires c = search key_digits
 
 pub key_limit-requires : goal.key_limit-requires
-key_limit-requires c = search key-digits
+key_limit-requires c = search key_digits

@@ -11,12 +11,12 @@ returns-then-power-gt0 c =
 
 pub ten_to-requires : goal.ten_to-requires
 ten_to-requires c =
-    shade_few c.args.amount c.args.power c.ranges.power c.places_of.ensures c.in-Is.is
+    shade_few c.args.amount c.args.power c.ranges.power c.places_of.ensures c.in-Some.is
 
-pub returns-in-Is : goal.returns-in-Is
-returns-in-Is c = search (shade_places, rules)
+pub returns-in-Some : goal.returns-in-Some
+returns-in-Some c = search (shade_places, rules)
 
-pub returns-in-No : goal.returns-in-No
-returns-in-No c =
+pub returns-in-None : goal.returns-in-None
+returns-in-None c =
     shade_little c.args.amount c.args.power c.ranges.power c.places_of.ensures c.requires
-    c.in-No.is c.if-power-gt0.false
+    c.in-None.is c.if-power-gt0.false

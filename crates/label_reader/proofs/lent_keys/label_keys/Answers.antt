@@ -4,14 +4,14 @@ use Rattle.label_reader.proofs.lent_keys.label_keys.Goals as goal
 pub returns-then-n-ne0 : goal.returns-then-n-ne0
 returns-then-n-ne0 c = search keying
 
-pub returns-in-At : goal.returns-in-At
-returns-in-At c =
+pub returns-in-Some : goal.returns-in-Some
+returns-in-Some c =
     keys_found c.args.text.now c.args.lengths.now c.args.dimension c.args.index.0 c.args.keys.now
     c.number_before-n.ensures c.if-n-ne0.false c.named_there.ensures c.keys_from.ensures
-    c.in-At.is
+    c.in-Some.is
 
-pub returns-in-Nothing : goal.returns-in-Nothing
-returns-in-Nothing c = search keying
+pub returns-in-None : goal.returns-in-None
+returns-in-None c = search keying
 
 pub number_before-n-requires : goal.number_before-n-requires
 number_before-n-requires c = search keying

@@ -10,5 +10,5 @@ loop-kid-smaller c = search searching
 pub loop-kid-preserved : goal.loop-kid-preserved
 loop-kid-preserved c = search searching
 
-pub returns-in-Done : goal.returns-in-Done
-returns-in-Done c = search searching
+pub returns-in-None : goal.returns-in-None
+returns-in-None c = search searching

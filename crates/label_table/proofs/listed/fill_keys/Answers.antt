@@ -34,11 +34,11 @@ loop-n-preserved c = search writing
 pub enum_told-1 : goal.enum_told-1
 enum_told-1 c = search writing
 
-pub shape_of-keys-in-Done : goal.shape_of-keys-in-Done
-shape_of-keys-in-Done c = search writing
+pub shape_of-keys-in-None : goal.shape_of-keys-in-None
+shape_of-keys-in-None c = search writing
 
-pub returns-in-Done : goal.returns-in-Done
-returns-in-Done c = search writing
+pub returns-in-None : goal.returns-in-None
+returns-in-None c = search writing
 
 pub shape_of-keys : goal.shape_of-keys
 shape_of-keys c = search writing

@@ -17,7 +17,7 @@ next_label-kid-requires c = search counting
 pub overflow_add-n : goal.overflow_add-n
 overflow_add-n c = omega (
   arith,
-  counting_room c.loop-kid.invariant c.in-Child.is c.next_label-kid.ensures,
+  counting_room c.loop-kid.invariant c.in-Some.is c.next_label-kid.ensures,
 )
 
 pub loop-kid-smaller : goal.loop-kid-smaller
@@ -29,5 +29,5 @@ loop-kid-preserved c = search counting
 pub enum_told-1 : goal.enum_told-1
 enum_told-1 c = search counting
 
-pub returns-in-Done : goal.returns-in-Done
-returns-in-Done c = search counting
+pub returns-in-None : goal.returns-in-None
+returns-in-None c = search counting

@@ -12,7 +12,7 @@ returns-then-key_of-key c =
     let fk : SFits w32 c.args.key = search rules in
     let fv : SFits w32 c.key_of.result = search rules in
     let same = to_z-of_z w32 c.args.key fk in
-    finding_found fk (rw same at c.loop-kid.invariant) c.in-Child.is c.next_label-kid.ensures c.key_of.ensures fv c.if-key_of-key.true
+    finding_found fk (rw same at c.loop-kid.invariant) c.in-Some.is c.next_label-kid.ensures c.key_of.ensures fv c.if-key_of-key.true
 
 pub loop-kid-smaller : goal.loop-kid-smaller
 loop-kid-smaller c = search finding
@@ -22,8 +22,8 @@ loop-kid-preserved c =
     let fk : SFits w32 c.args.key = search rules in
     let fv : SFits w32 c.key_of.result = search rules in
     let same = to_z-of_z w32 c.args.key fk in
-    rw same (finding_more fk (rw same at c.loop-kid.invariant) c.in-Child.is c.next_label-kid.ensures c.key_of.ensures fv
+    rw same (finding_more fk (rw same at c.loop-kid.invariant) c.in-Some.is c.next_label-kid.ensures c.key_of.ensures fv
     c.if-key_of-key.false)
 
-pub returns-in-Done : goal.returns-in-Done
-returns-in-Done c = search finding
+pub returns-in-None : goal.returns-in-None
+returns-in-None c = search finding

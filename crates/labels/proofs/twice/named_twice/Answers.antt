@@ -20,5 +20,5 @@ loop-kid-smaller c = search (lending, asking)
 pub loop-kid-preserved : goal.loop-kid-preserved
 loop-kid-preserved c = search (lending, asking)
 
-pub returns-in-Done : goal.returns-in-Done
-returns-in-Done c = search (lending, asking)
+pub returns-in-None : goal.returns-in-None
+returns-in-None c = search (lending, asking)

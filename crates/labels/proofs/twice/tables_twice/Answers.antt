@@ -20,8 +20,8 @@ loop-kid-smaller c = search (lending, asking)
 pub loop-kid-preserved : goal.loop-kid-preserved
 loop-kid-preserved c = search (lending, asking)
 
-pub returns-in-Done : goal.returns-in-Done
-returns-in-Done c = search (lending, asking)
+pub returns-in-None : goal.returns-in-None
+returns-in-None c = search (lending, asking)
 
 pub first_child-kid-requires : goal.first_child-kid-requires
 first_child-kid-requires c = search (lending, asking)
@@ -44,5 +44,5 @@ shape_of-work-then-named_twice c = search (lending, asking)
 pub enum_told-1 : goal.enum_told-1
 enum_told-1 c = search (lending, asking)
 
-pub shape_of-work-in-Done : goal.shape_of-work-in-Done
-shape_of-work-in-Done c = search (lending, asking)
+pub shape_of-work-in-None : goal.shape_of-work-in-None
+shape_of-work-in-None c = search (lending, asking)

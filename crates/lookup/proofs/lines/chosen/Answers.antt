@@ -1,11 +1,11 @@
 use Rattle.schema.proofs.Laws.Lines.{by_word_lem}
 use Rattle.lookup.proofs.lines.chosen.Goals as goal
 
-pub returns-in-At : goal.returns-in-At
-returns-in-At c = search by_word_lem
+pub returns-in-Some : goal.returns-in-Some
+returns-in-Some c = search by_word_lem
 
-pub returns-in-Nothing : goal.returns-in-Nothing
-returns-in-Nothing c = search by_word_lem
+pub returns-in-None : goal.returns-in-None
+returns-in-None c = search by_word_lem
 
 pub choice_cell-w-requires : goal.choice_cell-w-requires
 choice_cell-w-requires c = search by_word_lem

@@ -1,26 +1,26 @@
-use Rattle.schema.proofs.Laws.Searches.{searching-words}
+use Rattle.schema.proofs.Laws.Searches.{searching_words}
 use Rattle.lookup.proofs.words.rest_place.Goals as goal
 
 pub loop-i-init : goal.loop-i-init
-loop-i-init c = search searching-words
+loop-i-init c = search searching_words
 
 pub word-requires : goal.word-requires
-word-requires c = search searching-words
+word-requires c = search searching_words
 
 pub rest_is-requires : goal.rest_is-requires
-rest_is-requires c = search searching-words
+rest_is-requires c = search searching_words
 
 pub returns-then-rest_is : goal.returns-then-rest_is
-returns-then-rest_is c = search searching-words
+returns-then-rest_is c = search searching_words
 
 pub overflow_add-i : goal.overflow_add-i
-overflow_add-i c = search searching-words
+overflow_add-i c = search searching_words
 
 pub loop-i-smaller : goal.loop-i-smaller
-loop-i-smaller c = search searching-words
+loop-i-smaller c = search searching_words
 
 pub loop-i-preserved : goal.loop-i-preserved
-loop-i-preserved c = search searching-words
+loop-i-preserved c = search searching_words
 
 pub returns : goal.returns
-returns c = search searching-words
+returns c = search searching_words

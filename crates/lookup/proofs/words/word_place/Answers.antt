@@ -16,8 +16,8 @@ quote_at-requires c = search placing
 pub rest_place-requires : goal.rest_place-requires
 rest_place-requires c = search placing
 
-pub returns-in-At : goal.returns-in-At
-returns-in-At c = search placing
+pub returns-in-Some : goal.returns-in-Some
+returns-in-Some c = search placing
 
 pub enum_told-1 : goal.enum_told-1
 enum_told-1 c = search placing
@@ -25,5 +25,5 @@ enum_told-1 c = search placing
 pub returns-then-from-to : goal.returns-then-from-to
 returns-then-from-to c = search placing
 
-pub returns-in-Nothing : goal.returns-in-Nothing
-returns-in-Nothing c = search placing
+pub returns-in-None : goal.returns-in-None
+returns-in-None c = search placing

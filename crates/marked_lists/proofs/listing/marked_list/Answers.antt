@@ -31,5 +31,5 @@ shape_of-work c = search overModel
 pub returns-else-kind-ge32 : goal.returns-else-kind-ge32
 returns-else-kind-ge32 c = search (c.attribute_number-surface.ensures, overModel)
 
-pub returns-in-Nothing : goal.returns-in-Nothing
-returns-in-Nothing c = search overModel
+pub returns-in-None : goal.returns-in-None
+returns-in-None c = search overModel

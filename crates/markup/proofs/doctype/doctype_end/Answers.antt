@@ -1,8 +1,8 @@
 use Rattle.steps.proofs.Laws.Doctype.{doctypes}
 use Rattle.markup.proofs.doctype.doctype_end.Goals as goal
 
-pub returns-in-To : goal.returns-in-To
-returns-in-To c = search doctypes
+pub returns-in-Some : goal.returns-in-Some
+returns-in-Some c = search doctypes
 
-pub returns-in-No : goal.returns-in-No
-returns-in-No c = search doctypes
+pub returns-in-None : goal.returns-in-None
+returns-in-None c = search doctypes

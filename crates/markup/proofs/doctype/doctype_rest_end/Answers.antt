@@ -1,18 +1,18 @@
-use Rattle.steps.proofs.Laws.Doctype.{in-doctype, doctype_more}
+use Rattle.steps.proofs.Laws.Doctype.{in_doctype, doctype_more}
 use Rattle.markup.proofs.doctype.doctype_rest_end.Goals as goal
 
 pub returns-then-text-i-eq62 : goal.returns-then-text-i-eq62
-returns-then-text-i-eq62 c = search in-doctype
+returns-then-text-i-eq62 c = search in_doctype
 
 pub loop-i-smaller : goal.loop-i-smaller
-loop-i-smaller c = search in-doctype
+loop-i-smaller c = search in_doctype
 
 pub loop-i-preserved : goal.loop-i-preserved
 loop-i-preserved c = doctype_more c.args.text.now c.args.at c.loop-i.i c.loop-i.invariant c.loop-i-test.true
-    c.if-text-i-eq62.false c.skipped_end.ensures c.in-To.is
+    c.if-text-i-eq62.false c.skipped_end.ensures c.in-Some.is
 
-pub returns-in-No : goal.returns-in-No
-returns-in-No c = search in-doctype
+pub returns-in-None : goal.returns-in-None
+returns-in-None c = search in_doctype
 
 pub returns : goal.returns
-returns c = search in-doctype
+returns c = search in_doctype

@@ -1,17 +1,17 @@
-use Rattle.steps.proofs.Laws.Pieces.{halting-at}
+use Rattle.steps.proofs.Laws.Pieces.{halting_at}
 use Rattle.markup.proofs.pieces.halt_at.Goals as goal
 
 pub returns-in-Close : goal.returns-in-Close
-returns-in-Close c = search halting-at
+returns-in-Close c = search halting_at
 
 pub returns-in-Comment : goal.returns-in-Comment
-returns-in-Comment c = search halting-at
+returns-in-Comment c = search halting_at
 
 pub returns-in-Data : goal.returns-in-Data
-returns-in-Data c = search halting-at
+returns-in-Data c = search halting_at
 
 pub returns-in-Start : goal.returns-in-Start
-returns-in-Start c = search halting-at
+returns-in-Start c = search halting_at
 
 pub returns-in-Text : goal.returns-in-Text
-returns-in-Text c = search halting-at
+returns-in-Text c = search halting_at

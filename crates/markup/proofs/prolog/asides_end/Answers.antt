@@ -10,5 +10,5 @@ loop-at-smaller c = search asides
 pub loop-at-preserved : goal.loop-at-preserved
 loop-at-preserved c = search asides
 
-pub returns-in-No : goal.returns-in-No
-returns-in-No c = search asides
+pub returns-in-None : goal.returns-in-None
+returns-in-None c = search asides

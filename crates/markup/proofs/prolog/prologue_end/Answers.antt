@@ -1,8 +1,8 @@
 use Rattle.steps.proofs.Laws.Doctype.{prologues}
 use Rattle.markup.proofs.prolog.prologue_end.Goals as goal
 
-pub returns-in-To : goal.returns-in-To
-returns-in-To c = search prologues
+pub returns-in-Some : goal.returns-in-Some
+returns-in-Some c = search prologues
 
-pub returns-in-No : goal.returns-in-No
-returns-in-No c = search prologues
+pub returns-in-None : goal.returns-in-None
+returns-in-None c = search prologues

@@ -16,5 +16,5 @@ returns-then-text-i-2 c = search quoted
 pub returns-else-text-i-2 : goal.returns-else-text-i-2
 returns-else-text-i-2 c = search quoted
 
-pub returns-in-No : goal.returns-in-No
-returns-in-No c = search quoted
+pub returns-in-None : goal.returns-in-None
+returns-in-None c = search quoted

@@ -7,8 +7,8 @@ returns-then-text-at c = search typing
 pub returns-then-not-starts : goal.returns-then-not-starts
 returns-then-not-starts c = search typing
 
-pub returns-in-To : goal.returns-in-To
-returns-in-To c = search typing
+pub returns-in-Some : goal.returns-in-Some
+returns-in-Some c = search typing
 
-pub returns-in-No : goal.returns-in-No
-returns-in-No c = search typing
+pub returns-in-None : goal.returns-in-None
+returns-in-None c = search typing

@@ -10,7 +10,7 @@ slice_bounds-close_end-count c = omega (
   arith,
   name_span c.args.text.now
       c.args.from 0 c.name_end.ensures
-      c.in-To.is c.if-text-from.false,
+      c.in-Some.is c.if-text-from.false,
 )
 
 pub slice_bounds-close_end-start : goal.slice_bounds-close_end-start
@@ -18,7 +18,7 @@ slice_bounds-close_end-start c = omega (
   arith,
   name_span c.args.text.now
       c.args.from 0 c.name_end.ensures
-      c.in-To.is c.if-text-from.false,
+      c.in-Some.is c.if-text-from.false,
 )
 
 pub slice_bounds-close_end-end : goal.slice_bounds-close_end-end
@@ -26,13 +26,13 @@ slice_bounds-close_end-end c = omega (
   arith,
   name_span c.args.text.now
       c.args.from 0 c.name_end.ensures
-      c.in-To.is c.if-text-from.false,
+      c.in-Some.is c.if-text-from.false,
 )
 
-pub returns-in-To : goal.returns-in-To
-returns-in-To c =
-    closing_whole c.args.text.now c.args.from c.args.at c.name_end.ensures c.in-To.is
+pub returns-in-Some : goal.returns-in-Some
+returns-in-Some c =
+    closing_whole c.args.text.now c.args.from c.args.at c.name_end.ensures c.in-Some.is
     c.close_end.ensures
 
-pub returns-in-No : goal.returns-in-No
-returns-in-No c = search closing
+pub returns-in-None : goal.returns-in-None
+returns-in-None c = search closing

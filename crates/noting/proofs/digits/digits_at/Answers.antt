@@ -13,8 +13,8 @@ loop-b-smaller c = search reading
 pub loop-b-preserved : goal.loop-b-preserved
 loop-b-preserved c = search reading
 
-pub returns-in-End : goal.returns-in-End
-returns-in-End c = search reading
+pub returns-in-None : goal.returns-in-None
+returns-in-None c = search reading
 
 pub bounds-text-v : goal.bounds-text-v
 bounds-text-v c = search reading
@@ -25,11 +25,6 @@ overflow_add-i c = search reading
 pub decoded-requires : goal.decoded-requires
 decoded-requires c = search reading
 
-pub enum_known-b : goal.enum_known-b
-enum_known-b c = search reading
-
 pub one_more-dims-requires : goal.one_more-dims-requires
 one_more-dims-requires c = search reading
 
-pub enum_told-1 : goal.enum_told-1
-enum_told-1 c = search reading

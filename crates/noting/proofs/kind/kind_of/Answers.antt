@@ -1,8 +1,8 @@
 use Rattle.maps.proofs.Laws.MapKind.{asking}
 use Rattle.noting.proofs.kind.kind_of.Goals as goal
 
-pub returns-in-At : goal.returns-in-At
-returns-in-At c = search asking
+pub returns-in-Some : goal.returns-in-Some
+returns-in-Some c = search asking
 
-pub returns-in-Nothing : goal.returns-in-Nothing
-returns-in-Nothing c = search asking
+pub returns-in-None : goal.returns-in-None
+returns-in-None c = search asking

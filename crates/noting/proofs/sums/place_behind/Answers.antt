@@ -1,8 +1,8 @@
-use Rattle.maps.proofs.Laws.Sums.{behind-so}
+use Rattle.maps.proofs.Laws.Sums.{behind_so}
 use Rattle.noting.proofs.sums.place_behind.Goals as goal
 
-pub returns-in-To : goal.returns-in-To
-returns-in-To c = search behind-so
+pub returns-in-Some : goal.returns-in-Some
+returns-in-Some c = search behind_so
 
-pub returns-in-No : goal.returns-in-No
-returns-in-No c = search behind-so
+pub returns-in-None : goal.returns-in-None
+returns-in-None c = search behind_so

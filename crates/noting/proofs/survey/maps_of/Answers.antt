@@ -19,8 +19,8 @@ loop-kid-smaller c = search surveying
 pub loop-kid-preserved : goal.loop-kid-preserved
 loop-kid-preserved c = search surveying
 
-pub returns-in-Done : goal.returns-in-Done
-returns-in-Done c = search surveying
+pub returns-in-None : goal.returns-in-None
+returns-in-None c = search surveying
 
 pub no_maps-maps-requires : goal.no_maps-maps-requires
 no_maps-maps-requires c = search surveying

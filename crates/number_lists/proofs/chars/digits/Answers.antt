@@ -16,8 +16,8 @@ overflow_add-n c = search running
 pub loop-k-preserved : goal.loop-k-preserved
 loop-k-preserved c = search running
 
-pub returns-in-End : goal.returns-in-End
-returns-in-End c = search running
+pub returns-in-None : goal.returns-in-None
+returns-in-None c = search running
 
 pub returns : goal.returns
 returns c = search running

@@ -1,38 +1,29 @@
-use Rattle.numbers.proofs.Laws.Signs.{decimals-of}
+use Rattle.numbers.proofs.Laws.Signs.{decimals_of}
 use Rattle.number_values.proofs.decimals.decimal_value.Goals as goal
 
 pub returns-then-text-at : goal.returns-then-text-at
-returns-then-text-at c = search decimals-of
+returns-then-text-at c = search decimals_of
 
 pub bounds-text-at : goal.bounds-text-at
-bounds-text-at c = search decimals-of
+bounds-text-at c = search decimals_of
 
 pub overflow_add-at : goal.overflow_add-at
-overflow_add-at c = search decimals-of
+overflow_add-at c = search decimals_of
 
 pub decimal_at-requires : goal.decimal_at-requires
-decimal_at-requires c = search decimals-of
-
-pub enum_known-d : goal.enum_known-d
-enum_known-d c = search decimals-of
+decimal_at-requires c = search decimals_of
 
 pub char_at-requires : goal.char_at-requires
-char_at-requires c = search decimals-of
+char_at-requires c = search decimals_of
 
 pub enum_told-1 : goal.enum_told-1
-enum_told-1 c = search decimals-of
+enum_told-1 c = search decimals_of
 
-pub enum_told-in-End : goal.enum_told-in-End
-enum_told-in-End c = search decimals-of
+pub returns-in-None : goal.returns-in-None
+returns-in-None c = search decimals_of
 
-pub enum_told-in-Fails : goal.enum_told-in-Fails
-enum_told-in-Fails c = search decimals-of
+pub returns-in-Some-char_at : goal.returns-in-Some-char_at
+returns-in-Some-char_at c = search decimals_of
 
-pub returns-in-Byte : goal.returns-in-Byte
-returns-in-Byte c = search decimals-of
-
-pub returns-in-End : goal.returns-in-End
-returns-in-End c = search decimals-of
-
-pub returns-in-Fails : goal.returns-in-Fails
-returns-in-Fails c = search decimals-of
+pub returns-in-None-char_at : goal.returns-in-None-char_at
+returns-in-None-char_at c = search decimals_of

@@ -10,9 +10,6 @@ blanks-from-requires c = search checking
 pub decimal_at-requires : goal.decimal_at-requires
 decimal_at-requires c = search checking
 
-pub enum_known-d : goal.enum_known-d
-enum_known-d c = search checking
-
 pub overflow_sub-left : goal.overflow_sub-left
 overflow_sub-left c = search checking
 
@@ -31,8 +28,8 @@ loop-left-preserved c = search checking
 pub enum_told-1 : goal.enum_told-1
 enum_told-1 c = search checking
 
-pub returns-in-Fails : goal.returns-in-Fails
-returns-in-Fails c = search checking
+pub returns-in-None : goal.returns-in-None
+returns-in-None c = search checking
 
 pub blanks-from-requires-2 : goal.blanks-from-requires-2
 blanks-from-requires-2 c = search checking
@@ -40,14 +37,8 @@ blanks-from-requires-2 c = search checking
 pub letter-requires : goal.letter-requires
 letter-requires c = search checking
 
-pub enum_told-in-Byte : goal.enum_told-in-Byte
-enum_told-in-Byte c = search checking
+pub returns-in-Some-letter : goal.returns-in-Some-letter
+returns-in-Some-letter c = search checking
 
-pub enum_told-in-End : goal.enum_told-in-End
-enum_told-in-End c = search checking
-
-pub returns-in-Byte : goal.returns-in-Byte
-returns-in-Byte c = search checking
-
-pub returns-in-End : goal.returns-in-End
-returns-in-End c = search checking
+pub returns-in-None-letter : goal.returns-in-None-letter
+returns-in-None-letter c = search checking

@@ -9,19 +9,19 @@ pub ten_to-requires : goal.ten_to-requires
 ten_to-requires c =
     let d = c.args.d in
     let f : SFits w64 d.power = search rules in
-    one_few d (rw (to_z-of_z w64 d.power f) at c.places_of.ensures) c.in-Is.is
+    one_few d (rw (to_z-of_z w64 d.power f) at c.places_of.ensures) c.in-Some.is
 
-pub returns-in-Is : goal.returns-in-Is
-returns-in-Is c =
+pub returns-in-Some : goal.returns-in-Some
+returns-in-Some c =
     let d = c.args.d in
     let f : SFits w64 d.power = search rules in
     let g : SFits w64 d.amount = search rules in
     one_value d (rw (to_z-of_z w64 d.power f) at c.places_of.ensures)
-    c.in-Is.is c.ten_to.ensures
+    c.in-Some.is c.ten_to.ensures
     (rw (to_z-of_z w64 d.amount g) at c.amount_is.ensures)
 
-pub returns-in-No : goal.returns-in-No
-returns-in-No c =
+pub returns-in-None : goal.returns-in-None
+returns-in-None c =
     let d = c.args.d in
     let f : SFits w64 d.power = search rules in
-    not_one d (rw (to_z-of_z w64 d.power f) at c.places_of.ensures) c.in-No.is (search rules)
+    not_one d (rw (to_z-of_z w64 d.power f) at c.places_of.ensures) c.in-None.is (search rules)

@@ -29,19 +29,16 @@ power_digits-requires c = search powering
 pub returns-then-is_mark : goal.returns-then-is_mark
 returns-then-is_mark c =
     let f : SFits w64 c.args.amount = search rules in
-    powered_mark _ _ _ _ _ c.requires.0 c.in-Byte.is
+    powered_mark _ _ _ _ _ c.requires.0 c.in-Some.is
     c.is_blank.ensures c.if-is_blank.false
     c.is_mark.ensures c.if-is_mark.true c.sign_at-lead.ensures
     (rw (to_z-of_z w64 c.args.amount f) at c.power_digits.ensures)
 
-pub enum_told-1 : goal.enum_told-1
-enum_told-1 c = search powering
-
-pub signed-requires-in-End : goal.signed-requires-in-End
-signed-requires-in-End c = search powering
+pub signed-requires-in-None : goal.signed-requires-in-None
+signed-requires-in-None c = search powering
 
 pub returns-else-is_mark : goal.returns-else-is_mark
 returns-else-is_mark c = search powering
 
-pub returns-in-End : goal.returns-in-End
-returns-in-End c = search powering
+pub returns-in-None : goal.returns-in-None
+returns-in-None c = search powering

@@ -10,11 +10,11 @@ returns-then-not-word_ends c = search raising
 pub less_places-requires : goal.less_places-requires
 less_places-requires c = search raising
 
-pub returns-in-Is : goal.returns-in-Is
-returns-in-Is c = search raising
+pub returns-in-Some : goal.returns-in-Some
+returns-in-Some c = search raising
 
-pub returns-in-No : goal.returns-in-No
-returns-in-No c = search raising
+pub returns-in-None : goal.returns-in-None
+returns-in-None c = search raising
 
 pub digits-run-requires : goal.digits-run-requires
 digits-run-requires c = search raising

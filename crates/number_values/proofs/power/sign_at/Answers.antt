@@ -10,5 +10,5 @@ returns-then-b-eq43 c = search signs_of
 pub returns-else-b-eq43 : goal.returns-else-b-eq43
 returns-else-b-eq43 c = search signs_of
 
-pub returns-in-End : goal.returns-in-End
-returns-in-End c = search signs_of
+pub returns-in-None : goal.returns-in-None
+returns-in-None c = search signs_of

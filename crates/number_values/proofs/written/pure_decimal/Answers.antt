@@ -1,5 +1,4 @@
 use Rattle.numbers.proofs.Laws.Spelled.{purely, pure_other}
-use mathlib.Core.Path.{sym, ◌∙◌}
 use native.Mathlib.Omega.{arith}
 use borrow.Author.Rules.{rules}
 use Rattle.number_values.proofs.written.pure_decimal.Goals as goal
@@ -13,9 +12,6 @@ returns-then-run-eq0 c = search purely
 pub char_at-c-requires : goal.char_at-c-requires
 char_at-c-requires c = search purely
 
-pub enum_known-c : goal.enum_known-c
-enum_known-c c = search purely
-
 pub places_at-requires : goal.places_at-requires
 places_at-requires c = search purely
 
@@ -27,19 +23,16 @@ signed-requires c = search purely
 
 pub power_at-requires : goal.power_at-requires
 power_at-requires c =
-    (sym c.in-Byte.is ∙ c.char_at-c.ensures, omega arith)
+    (c.char_at-c.ensures, omega arith)
 
-pub enum_told-1 : goal.enum_told-1
-enum_told-1 c = search purely
+pub signed-requires-in-None : goal.signed-requires-in-None
+signed-requires-in-None c = search purely
 
-pub signed-requires-in-End : goal.signed-requires-in-End
-signed-requires-in-End c = search purely
-
-pub power_at-requires-in-End : goal.power_at-requires-in-End
-power_at-requires-in-End c = search purely
+pub power_at-requires-in-None : goal.power_at-requires-in-None
+power_at-requires-in-None c = search purely
 
 pub returns-else-b-eq46 : goal.returns-else-b-eq46
 returns-else-b-eq46 c = search (pure_other, rules) fits 20000
 
-pub returns-in-End : goal.returns-in-End
-returns-in-End c = search purely
+pub returns-in-None : goal.returns-in-None
+returns-in-None c = search purely

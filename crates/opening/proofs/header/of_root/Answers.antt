@@ -25,8 +25,8 @@ enum_known-m c = search rooted
 pub enum_told-1 : goal.enum_told-1
 enum_told-1 c = search rooted
 
-pub returns-in-Child : goal.returns-in-Child
-returns-in-Child c = search rooted
+pub returns-in-Some : goal.returns-in-Some
+returns-in-Some c = search rooted
 
-pub returns-in-Done : goal.returns-in-Done
-returns-in-Done c = search rooted
+pub returns-in-None : goal.returns-in-None
+returns-in-None c = search rooted

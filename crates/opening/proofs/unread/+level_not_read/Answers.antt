@@ -25,5 +25,5 @@ loop-kid-smaller t c = search levelling
 pub loop-kid-preserved : goal.loop-kid-preserved
 loop-kid-preserved t c = search levelling
 
-pub returns-in-Done : goal.returns-in-Done
-returns-in-Done t c = search levelling
+pub returns-in-None : goal.returns-in-None
+returns-in-None t c = search levelling

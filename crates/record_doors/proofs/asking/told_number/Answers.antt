@@ -1,11 +1,11 @@
-use Rattle.record_doors.proofs.Laws.Numbers.{told-numbers}
+use Rattle.record_doors.proofs.Laws.Numbers.{told_numbers}
 use Rattle.record_doors.proofs.asking.told_number.Goals as goal
 
 pub returns-in-Is : goal.returns-in-Is
-returns-in-Is c = search told-numbers
+returns-in-Is c = search told_numbers
 
 pub returns-in-BadList : goal.returns-in-BadList
-returns-in-BadList c = search told-numbers
+returns-in-BadList c = search told_numbers
 
 pub returns-in-Nothing : goal.returns-in-Nothing
-returns-in-Nothing c = search told-numbers
+returns-in-Nothing c = search told_numbers

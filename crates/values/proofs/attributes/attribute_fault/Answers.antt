@@ -4,13 +4,13 @@ use Rattle.values.proofs.attributes.attribute_fault.Goals as goal
 pub returns-then-attribute_cell-eq0 : goal.returns-then-attribute_cell-eq0
 returns-then-attribute_cell-eq0 c = search asking
 
-pub returns-in-At : goal.returns-in-At
-returns-in-At c = search asking
+pub returns-in-Some : goal.returns-in-Some
+returns-in-Some c = search asking
 
 pub returns-else-attribute_cell-eq0 : goal.returns-else-attribute_cell-eq0
 returns-else-attribute_cell-eq0 c =
     asked_spared c.args.table.now c.args.letters.now c.requires c.attribute_cell-w.ensures.0
-    c.word.ensures c.seek-here.ensures c.in-Nothing.is
+    c.word.ensures c.seek-here.ensures c.in-None.is
     c.attribute_cell.ensures.0 c.if-attribute_cell-eq0.false
 
 pub attribute_cell-w-requires : goal.attribute_cell-w-requires

@@ -21,11 +21,11 @@ loop-f-smaller c = search listing
 pub loop-f-preserved : goal.loop-f-preserved
 loop-f-preserved c = search listing
 
-pub returns-in-No-value_end : goal.returns-in-No-value_end
-returns-in-No-value_end c = search listing
+pub returns-in-None-value_end : goal.returns-in-None-value_end
+returns-in-None-value_end c = search listing
 
-pub returns-in-No : goal.returns-in-No
-returns-in-No c = search listing
+pub returns-in-None : goal.returns-in-None
+returns-in-None c = search listing
 
 pub returns : goal.returns
 returns c = listing_end c.loop-f.invariant c.tag_ends.ensures (ap not c.loop-f-test.false)
@@ -39,9 +39,6 @@ tag_ends-requires c = search listing
 pub key_at-requires : goal.key_at-requires
 key_at-requires c = search listing
 
-pub enum_known-f : goal.enum_known-f
-enum_known-f c = search listing
-
 pub name_listed-requires : goal.name_listed-requires
 name_listed-requires c = search listing
 
@@ -53,6 +50,3 @@ enum_known-j c = search listing
 
 pub enum_told-1 : goal.enum_told-1
 enum_told-1 c = search listing
-
-pub enum_told-in-No : goal.enum_told-in-No
-enum_told-in-No c = search listing
