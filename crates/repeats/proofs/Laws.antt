@@ -1,3 +1,4 @@
 pub mod Halving
 pub mod OneWay
 pub mod Near
+pub mod Exchange
