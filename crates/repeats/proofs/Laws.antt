@@ -1,4 +1,5 @@
 pub mod Halving
 pub mod OneWay
 pub mod Near
-pub mod Exchange
+pub mod Permuted
+pub mod Refusal
