@@ -13,20 +13,13 @@ use records::{Outcome, Place};
 fn good_count(n: usize) -> bool
     ensures { result ≡ good_count n }
 {
-    if n < 1 { false } else { n <= 1_048_576 }
+    1 <= n && n <= 1_048_576
 }
 
 fn all_legal(records: &[u64]) -> bool
     ensures { result ≡ all_legal seven records.now }
 {
-    let mut i = 0;
-    while i < records.len() {
-        if !legal(records[i]) {
-            return false;
-        }
-        i += 1;
-    }
-    true
+    records.iter().all(|r| legal(*r))
 }
 
 fn put_head(sheet: &mut [u8], n: usize)
@@ -56,10 +49,8 @@ fn put_records(sheet: &mut [u8], records: &[u64])
     requires { (4 + 7 * length records.now ≤ length sheet.old) × (all_legal seven records.now ≡ true) }
     ensures { sheet.new ≡ wrote 4 (body 7 (with_ends seven records.now)) sheet.old }
 {
-    let mut i = 0;
-    while i < records.len() {
-        put_word(sheet, 4 + 7 * i, records[i] * 4);
-        i += 1;
+    for (i, record) in records.iter().enumerate() {
+        put_word(sheet, 4 + 7 * i, *record * 4);
     }
 }
 
@@ -106,12 +97,10 @@ fn count_at(sheet: &[u8]) -> usize
 fn said(b: u8) -> usize
     ensures { result ≡ bytes_said b }
 {
-    if b == 5 {
-        5
-    } else if b == 7 {
-        7
-    } else {
-        0
+    match b {
+        5 => 5,
+        7 => 7,
+        _ => 0,
     }
 }
 
@@ -140,12 +129,10 @@ fn all_good(sheet: &[u8], width: usize, n: usize) -> bool
     requires { length sheet.now ≡ 4 + (width_said width).bytes * n }
     ensures { result ≡ all_good (width_said width) (numbers_in (width_said width).bytes n (drop 4 sheet.now)) }
 {
-    let mut i = 0;
-    while i < n {
+    for i in 0..n {
         if !good_word(width, word_at(sheet, width, Place(i))) {
             return false;
         }
-        i += 1;
     }
     true
 }
@@ -155,10 +142,8 @@ fn take_records(sheet: &[u8], width: usize, records: &mut [u64], n: usize)
     ensures { records.new ≡ wrote 0 (held_by seven (width_said width) (numbers_in (width_said width).bytes n
         (drop 4 sheet.now))) records.old }
 {
-    let mut i = 0;
-    while i < n {
+    for i in 0..n {
         records[i] = record_of(width, word_at(sheet, width, Place(i)));
-        i += 1;
     }
 }
 

@@ -51,10 +51,8 @@ pub(crate) fn good_word(width: usize, word: u64) -> bool
 {
     if width == 5 {
         legal_five(word)
-    } else if word % 4 == 0 {
-        legal(word / 4)
     } else {
-        false
+        word % 4 == 0 && legal(word / 4)
     }
 }
 

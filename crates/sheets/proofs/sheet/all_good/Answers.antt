@@ -26,7 +26,7 @@ returns-then-not-good_word c =
     let ask = c.good_word in
     let read = c.word_at in
     let a = c.args in
-    sym (c.loop-i.invariant.1
+    sym (c.loop-i.invariant
     ∙ step a.width a.n c.loop-i.i a.sheet.now (omega arith) read.ensures ask.ensures
     ∙ ap (λ (b : Bool). b && all_good (width_said a.width) (drop (c.loop-i.i + 1) (words a.width a.n a.sheet.now)))
     c.if-not-good_word.true)
@@ -35,17 +35,15 @@ pub loop-i-preserved : goal.loop-i-preserved
 loop-i-preserved c =
     let ask = c.good_word in
     let read = c.word_at in
-    let a = c.args in (
-      omega arith,
-      c.loop-i.invariant.1
-          ∙ step a.width a.n c.loop-i.i a.sheet.now (omega arith) read.ensures ask.ensures
-          ∙ ap (λ (b : Bool). b && all_good (width_said a.width) (drop (c.loop-i.i + 1) (words a.width a.n a.sheet.now)))
-          c.if-not-good_word.false,
-    )
+    let a = c.args in
+    c.loop-i.invariant
+    ∙ step a.width a.n c.loop-i.i a.sheet.now (omega arith) read.ensures ask.ensures
+    ∙ ap (λ (b : Bool). b && all_good (width_said a.width) (drop (c.loop-i.i + 1) (words a.width a.n a.sheet.now)))
+    c.if-not-good_word.false
 
 pub returns : goal.returns
 returns c =
     let a = c.args in
     let ns = words a.width a.n a.sheet.now in
-    sym (c.loop-i.invariant.1 ∙ all_end (good_word (width_said a.width)) ns c.loop-i.i
+    sym (c.loop-i.invariant ∙ all_end (good_word (width_said a.width)) ns c.loop-i.i
     (omega (arith, length_numbers_in (width_said a.width).bytes a.n (drop 4 a.sheet.now))))

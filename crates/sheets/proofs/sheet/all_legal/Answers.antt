@@ -1,29 +1,20 @@
-use mathlib.Core.Path.{sym, ap, ◌∙◌}
-use mathlib.Core.Bool.{Bool, ◌&&◌}
-use Prim.Native.Nat.{◌+◌}
-use lib.ListN.{drop}
-use Rattle.records.specs.Width.{seven}
+use Rattle.std.specs.Prelude.{◌≡◌, refl, Bool, ◌&&◌, List, [], ◌∷◌, ℕ}
+use Rattle.std.specs.List.{list_all}
+use Rattle.std.proofs.Common.{ap, ◌∙◌, rules, tests}
+use Rattle.std.proofs.lemmas.Iterator.{YieldsList-from_slice}
+use Rattle.std.proofs.lemmas.Iterator.Search.{all_from_yields_List}
+use Rattle.lists.specs.Lists.{all}
 use Rattle.records.specs.Record.{legal_record}
-use Rattle.records.specs.Sheet.{all_legal}
-use Rattle.records.proofs.Laws.Computed.{all_step, all_end}
-use native.Mathlib.Omega.{arith}
 use Rattle.sheets.proofs.sheet.all_legal.Goals as goal
 
-pub returns-then-not-legal : goal.returns-then-not-legal
-returns-then-not-legal c =
-    let rs = c.args.records.now in
-    let i = c.loop-i.i in
-    sym (c.loop-i.invariant.1 ∙ all_step legal_record rs i _ (omega arith) c.legal.ensures
-    ∙ ap (λ (b : Bool). b && all_legal seven (drop (i + 1) rs)) c.if-not-legal.true)
-
-pub loop-i-preserved : goal.loop-i-preserved
-loop-i-preserved c =
-    let rs = c.args.records.now in
-    let i = c.loop-i.i in (
-      omega arith,
-      c.loop-i.invariant.1 ∙ all_step legal_record rs i _ (omega arith) c.legal.ensures
-          ∙ ap (λ (b : Bool). b && all_legal seven (drop (i + 1) rs)) c.if-not-legal.false,
-    )
+-- the library's word for it
+all_same : (p : ℕ → Bool) (xs : List ℕ) → list_all p xs ≡ all p xs
+unfolding all
+all_same p [] = refl
+all_same p (x ∷ xs) = ap (λ (b : Bool). p x && b) (all_same p xs)
 
 pub returns : goal.returns
-returns c = sym (c.loop-i.invariant.1 ∙ all_end legal_record c.args.records.now c.loop-i.i (omega arith))
+returns c =
+    let rs = c.args.records.now in
+    all_from_yields_List legal_record _ _ _ c.all.ensures.ran (YieldsList-from_slice rs cc) (λ x b q k. search (rules, tests))
+    ∙ all_same legal_record rs

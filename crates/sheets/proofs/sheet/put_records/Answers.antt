@@ -1,4 +1,4 @@
-use mathlib.Core.Path.{◌≡◌, refl, sym, ap, ◌∙◌}
+use mathlib.Core.Path.{◌≡◌, sym, ap, ◌∙◌}
 use mathlib.Core.List.{List}
 use mathlib.Core.Bool.{true}
 use Prim.Native.Nat.{ℕ, ◌+◌, ◌*◌, ◌^◌, ◌<◌}
@@ -20,10 +20,10 @@ small rs i h e = legal_size seven (get_or rs i 0) (all_at (legal_in seven) rs i 
 
 pub loop-i-init : goal.loop-i-init
 unfolding body
-loop-i-init c = (omega arith, (refl, sym (wrote_none 4 _)))
+loop-i-init c = sym (wrote_none 4 _)
 
-pub overflow_mul-records : goal.overflow_mul-records
-overflow_mul-records c =
+pub overflow_mul-record : goal.overflow_mul-record
+overflow_mul-record c =
     omega (arith, small c.args.records.now c.loop-i.i (omega arith) c.requires.1)
 
 pub loop-i-preserved : goal.loop-i-preserved
@@ -36,14 +36,9 @@ loop-i-preserved c =
     let i = c.loop-i.i in
     let many = length-map rs (word_of seven) in
     let word = get_or-map (word_of seven) rs i 0 in
-    let at_i : 4 + 7 * i ≡ 4 + length (body 7 (take i ns)) = omega (arith, length_body_take 7 ns i (omega arith)) in (
-      omega arith,
-      (
-        omega (arith, call.auto.sheet),
-        call.ensures
-            ∙ ap (λ (l : List ℕ). wrote (4 + 7 * i) (bytes_of 7 (get_or rs i 0 * 4)) l) c.loop-i.invariant.1.1
-            ∙ ap (λ (n : ℕ). wrote (4 + 7 * i) (bytes_of 7 n) (wrote 4 (body 7 (take i ns)) s₀)) (sym word)
-            ∙ wrote_on 4 (4 + 7 * i) (body 7 (take i ns)) (bytes_of 7 (get_or ns i 0)) s₀ at_i (omega arith)
-            ∙ ap (λ (l : List ℕ). wrote 4 l s₀) (sym (body_next 7 ns i (omega arith))),
-      ),
-    )
+    let at_i : 4 + 7 * i ≡ 4 + length (body 7 (take i ns)) = omega (arith, length_body_take 7 ns i (omega arith)) in
+    call.ensures
+    ∙ ap (λ (l : List ℕ). wrote (4 + 7 * i) (bytes_of 7 (get_or rs i 0 * 4)) l) c.loop-i.invariant
+    ∙ ap (λ (n : ℕ). wrote (4 + 7 * i) (bytes_of 7 n) (wrote 4 (body 7 (take i ns)) s₀)) (sym word)
+    ∙ wrote_on 4 (4 + 7 * i) (body 7 (take i ns)) (bytes_of 7 (get_or ns i 0)) s₀ at_i (omega arith)
+    ∙ ap (λ (l : List ℕ). wrote 4 l s₀) (sym (body_next 7 ns i (omega arith)))

@@ -1,6 +1,5 @@
 use mathlib.Core.Path.{◌≡◌}
-use Prim.Native.Nat.{◌≤◌, ◌-◌}
-use lib.ListN.{length, take}
+use lib.ListN.{take}
 use Rattle.records.specs.Width.{seven}
 use Rattle.records.specs.Sheet.{with_ends}
 use Rattle.records.specs.Fill.{wrote}
@@ -9,8 +8,4 @@ use Rattle.sheets.proofs.sheet.put_records.Given as goal
 
 -- the records passed stand behind the head
 abbrev pub invariant-loop-i : goal.invariant-loop-i
-invariant-loop-i l = (l.i ≤ length l.records)
-    × ((length l.sheet ≡ length l.initial.sheet) × (l.sheet ≡ wrote 4 (body 7 (take l.i (with_ends seven l.records))) l.initial.sheet))
-
-abbrev pub decreases-loop-i : goal.decreases-loop-i
-decreases-loop-i l = length l.records - l.i
+invariant-loop-i l = l.sheet ≡ wrote 4 (body 7 (take l.i (with_ends seven l.records))) l.initial.sheet

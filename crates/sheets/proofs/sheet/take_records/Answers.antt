@@ -1,7 +1,7 @@
 use mathlib.Core.Path.{◌≡◌, sym, ap, ◌∙◌}
 use mathlib.Core.List.{List}
 use Prim.Native.Nat.{ℕ, ◌+◌, ◌*◌, ◌<◌}
-use lib.ListN.{length, get_or, set, take, drop, length-set, length-map}
+use lib.ListN.{length, get_or, set, take, drop, length-map}
 use lib.Seq.{take-length}
 use Rattle.records.specs.Width.{seven, width_said}
 use Rattle.records.specs.Record.{carried}
@@ -38,21 +38,16 @@ loop-i-preserved c =
     let b = a.width in
     let hs = held b a.n s in
     let e : 0 + i ≡ i = omega arith in
-    let r = c.record_of.result in (
-      omega arith,
-      (
-        simp length-set (omega arith),
-        ap (λ (l : List ℕ). set l i r) c.loop-i.invariant.1.1
-            ∙ ap (λ (k : ℕ). set (wrote 0 (take i hs) a.records.now) k r) (sym e)
-            ∙ wrote_next 0 i r hs a.records.now (omega (arith, held-long b a.n s)) (omega arith)
-            (held_at b a.n i s (omega arith) c.word_at.ensures c.record_of.ensures),
-      ),
-    )
+    let r = c.record_of.result in
+    ap (λ (l : List ℕ). set l i r) c.loop-i.invariant
+    ∙ ap (λ (k : ℕ). set (wrote 0 (take i hs) a.records.now) k r) (sym e)
+    ∙ wrote_next 0 i r hs a.records.now (omega (arith, held-long b a.n s)) (omega arith)
+    (held_at b a.n i s (omega arith) c.word_at.ensures c.record_of.ensures)
 
 pub returns : goal.returns
 returns c =
     let a = c.args in
     let hs = held a.width a.n a.sheet.now in
     let ends : c.loop-i.i ≡ length hs = omega (arith, held-long a.width a.n a.sheet.now) in
-    c.loop-i.invariant.1.1 ∙ ap (λ (n : ℕ). wrote 0 (take n hs) a.records.now) ends
+    c.loop-i.invariant ∙ ap (λ (n : ℕ). wrote 0 (take n hs) a.records.now) ends
     ∙ ap (λ (l : List ℕ). wrote 0 l a.records.now) (take-length hs)

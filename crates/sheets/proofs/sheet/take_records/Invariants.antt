@@ -1,7 +1,7 @@
 use mathlib.Core.Path.{◌≡◌}
 use mathlib.Core.List.{List}
-use Prim.Native.Nat.{ℕ, ◌≤◌, ◌-◌}
-use lib.ListN.{length, take, drop}
+use Prim.Native.Nat.{ℕ}
+use lib.ListN.{take, drop}
 use Rattle.records.specs.Width.{seven, width_said}
 use Rattle.records.specs.Sheet.{held_by}
 use Rattle.records.specs.Fill.{wrote}
@@ -13,8 +13,4 @@ held b n s = held_by seven (width_said b) (numbers_in (width_said b).bytes n (dr
 
 -- the records passed stand in front
 abbrev pub invariant-loop-i : goal.invariant-loop-i
-invariant-loop-i l = (l.i ≤ l.n)
-    × ((length l.records ≡ length l.initial.records) × (l.records ≡ wrote 0 (take l.i (held l.width l.n l.sheet)) l.initial.records))
-
-abbrev pub decreases-loop-i : goal.decreases-loop-i
-decreases-loop-i l = l.n - l.i
+invariant-loop-i l = l.records ≡ wrote 0 (take l.i (held l.width l.n l.sheet)) l.initial.records

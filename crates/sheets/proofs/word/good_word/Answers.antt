@@ -28,4 +28,5 @@ pub returns-then-word-eq0 : goal.returns-then-word-eq0
 returns-then-word-eq0 c = c.legal.ensures ∙ ended _ _ c.if-width-eq5.false c.if-word-eq0.true
 
 pub returns-else-word-eq0 : goal.returns-else-word-eq0
-returns-else-word-eq0 c = not-ended _ _ c.if-width-eq5.false c.if-word-eq0.false
+returns-else-word-eq0 c =
+    ne_eqb (c.args.word % 4) 0 c.if-word-eq0.false ∙ not-ended _ _ c.if-width-eq5.false c.if-word-eq0.false
