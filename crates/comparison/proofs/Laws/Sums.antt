@@ -2,11 +2,11 @@
 -- second's. Assumes nothing.
 use Rattle.std.specs.Prelude.{◌≡◌, Bool, not, ◌||◌, List, [], ◌∷◌, ℕ, zero, suc, ◌+◌, ◌≤◌, ◌<◌, eqb, ltb, length, get_or}
 use Rattle.std.proofs.Math.Path.{refl, ap}
-use Rattle.std.proofs.Common.{sym, ◌∙◌, arith, add-one, eqb-true, ltb-true}
+use Rattle.std.proofs.Common.{sym, ◌∙◌, arith, inl, inr, add-one, eqb-true, ltb-true}
 use Rattle.std.proofs.Math.Bool.{true, false, cond}
 use Rattle.lists.specs.Lists.{any, count, two_of}
 use Rattle.lists.proofs.Laws.Booleans.{and_left, and_right, or_left, or_right, or_second, both_ways}
-use Rattle.lists.proofs.Laws.Numbers.{eqb_turned}
+use Rattle.lists.proofs.Laws.Numbers.{eqb_turned, lt?}
 use Rattle.comparison.specs.Compare.{count_below, has_at, has_record, same_at, moved_at, only_at, same, moved, first_only, second_only}
 
 -- ---- Counting over numbers below n.
@@ -30,6 +30,15 @@ pub below_no : (i : ℕ) (p : ℕ → Bool) (n : ℕ) → n ≡ count_below i p 
 unfolding count_below
 below_no i p n e h = let s : count_below (suc i) p ≡ 0 + count_below i p = rw h refl in let z : count_below (i + 1) p ≡ count_below
     (suc i) p = ap (λ (k : ℕ). count_below k p) (add-one i) in omega arith
+
+-- numbers of which none passes
+pub below_past : (m n : ℕ) (p : ℕ → Bool) → ((i : ℕ) → m ≤ i → p i ≡ false) → m ≤ n → count_below n p ≡ count_below m p
+unfolding count_below
+below_past m zero p h le = let e : zero ≡ m = omega arith in ap (λ (k : ℕ). count_below k p) e
+below_past m (suc n) p h le = elim (lt? n m) [
+  | inl few ↦ let e : suc n ≡ m = omega arith in ap (λ (k : ℕ). count_below k p) e
+  | inr more ↦ rw (h n more) (let e = below_past m n p h more in omega arith)
+]
 
 -- two tests that share out a third
 shared : (n : ℕ) (p q r : ℕ → Bool) → ((i : ℕ) → cond (p i) 1 0 + cond (q i) 1 0 ≡ cond (r i) 1 0)

@@ -1,18 +1,19 @@
-use native.Mathlib.Omega.{arith}
+use Rattle.std.proofs.Common.{◌∙◌, arith}
 use Rattle.matching.proofs.Laws.Side.{level_start, level_few, level_yes, level_no, level_end}
 use Rattle.matching.proofs.level.same_in.Goals as goal
+use Rattle.matching.proofs.level.same_in.Goals.{then-record, else-record}
 
 pub loop-i-init : goal.loop-i-init
-loop-i-init c = level_start _ _ _
+loop-i-init c = level_start c.args.first c.args.second
 
-pub overflow_add-k : goal.overflow_add-k
-overflow_add-k c = let f = level_few c.loop-i.invariant in omega arith
-
-pub loop-i-preserved-then-here : goal.loop-i-preserved-then-here
-loop-i-preserved-then-here c = level_yes c.loop-i.invariant (omega arith) c.same_at-here.ensures c.if-here.true
+pub overflow_add-same : goal.overflow_add-same
+overflow_add-same c = let few = level_few c.args.first c.args.second c.loop-i.invariant in omega arith
 
 pub loop-i-preserved : goal.loop-i-preserved
-loop-i-preserved c = level_no c.loop-i.invariant (omega arith) c.same_at-here.ensures c.if-here.false
+loop-i-preserved c = elim c.if-record.branch [
+  | then-record w ↦ w.same-is ∙ level_yes c.args.first c.args.second (omega arith) c.record.ensures.is c.record-in-loop-i.ensures.is c.loop-i.invariant w.if-record.true
+  | else-record w ↦ w.same-is ∙ level_no c.args.first c.args.second (omega arith) c.record.ensures.is c.record-in-loop-i.ensures.is c.loop-i.invariant w.if-record.false
+]
 
 pub returns : goal.returns
-returns c = level_end c.loop-i.invariant c.requires (omega arith)
+returns c = level_end c.args.first c.args.second {n = c.loop-i.i} (omega arith) c.loop-i.invariant
