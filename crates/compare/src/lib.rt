@@ -1,7 +1,9 @@
 // Two sheets side by side.
 #![tactic(auto)]
 
-// The paper's number of two sheets.
+// The layout of a sheet.
+mod width;
+// Why two sheets are not compared.
 mod refusal;
 // How many locations are the same, moved, in the first only and in the second only.
 mod counting;

@@ -1,75 +1,107 @@
-// The paper's number of two sheets.
-ghost use Rattle.std.specs.Prelude.{◌≡◌, true, eqb, length};
+// Why two sheets are not compared.
+ghost use Rattle.std.specs.Prelude.{◌≡◌, true, ◌≤◌, ◌+◌, eqb, length, MatchResult};
 ghost use Rattle.lists.specs.Lists.{two_of};
 ghost use Rattle.records.specs.Sheet.{count_of};
 ghost use Rattle.comparison.specs.Compare.{well_formed, records_of, compare_refusal};
-ghost use Rattle.comparison.specs.Accepted.{sheet_refusal};
-ghost use Rattle.compare.specs.Refused.{sheets_refusal, front_refusal, SheetFits};
+ghost use Rattle.comparison.specs.Accepted.{sheet_refusal, Accepted};
+ghost use Rattle.compare.specs.Refused.{number_of, SheetFits, Begun};
 
+use super::width::width;
+use matching::Sheet;
 use repeats::repeats_in;
 use sheets::unpack;
 
-// 15, 16 of one sheet, or 0.
-fn sheet_refusal(sheet: &[u8], work: &mut [u64]) -> u64
-    ensures { result ≡ sheet_refusal sheet.now }
-{
-    let said = unpack(sheet, work);
-    if said.number == 17 { 0 } else { said.number }
+#[derive(Clone, Copy)]
+pub(crate) enum Refusal {
+    NoSheet,
+    BadRecord,
+    NoRoom,
+    Repeated,
 }
 
-// How many records the sheet has.
-pub(crate) fn count_in(sheet: &[u8]) -> usize
-    requires { well_formed sheet.now ≡ true }
-    ensures { result ≡ count_of sheet.now }
+impl Refusal {
+    // The paper's number.
+    pub(crate) fn number(self) -> u64
+        ensures { result ≡ number_of self }
+    {
+        match self {
+            Refusal::NoSheet => 15,
+            Refusal::BadRecord => 16,
+            Refusal::NoRoom => 13,
+            Refusal::Repeated => 14,
+        }
+    }
+}
+
+// The sheet, no longer judged.
+fn opened(bytes: &[u8]) -> Sheet
+    requires { well_formed bytes.now ≡ true }
+    ensures { result.bytes.now ≡ bytes.now }
 {
-    if sheet[0] == 5 {
-        (sheet.len() - 4) / 5
-    } else {
-        (sheet.len() - 4) / 7
+    Sheet {
+        bytes,
+        count: (bytes.len() - 4) / width(bytes),
+    }
+}
+
+// The sheet, unless 15 or 16 applies to it.
+fn judged<'a>(bytes: &'a [u8], work: &mut [u64]) -> Result<Sheet<'a>, Refusal>
+    ensures { MatchResult result
+        (λ s. (s.bytes.now ≡ bytes.now) × (sheet_refusal bytes.now ≡ 0))
+        (λ e. number_of e ≡ sheet_refusal bytes.now) }
+{
+    match unpack(bytes, work).number {
+        15 => Err(Refusal::NoSheet),
+        16 => Err(Refusal::BadRecord),
+        _ => Ok(opened(bytes)),
     }
 }
 
 // The sheet has a location twice.
-pub(crate) fn location_twice(sheet: &[u8], work: &mut [u64]) -> bool
-    requires { SheetFits sheet.now (length work.old) }
-    ensures { result ≡ two_of eqb (records_of sheet.now) }
+pub(crate) fn location_twice(sheet: Sheet, work: &mut [u64]) -> bool
+    requires { SheetFits sheet.bytes.now (length work.old) }
+    ensures { result ≡ two_of eqb (records_of sheet.entry.bytes.now) }
 {
-    let said = unpack(sheet, work);
-    repeats_in(work, said.value as usize) == 14
+    unpack(sheet.bytes, work);
+    repeats_in(work, sheet.count) == 14
 }
 
-// 15, 16 of the first sheet, then of the second, or 0.
-fn sheets_refusal(first: &[u8], second: &[u8], work: &mut [u64]) -> u64
-    ensures { result ≡ sheets_refusal first.now second.now }
+// Both sheets, unless they are refused, but for a location twice in the second.
+pub(crate) fn begun<'a>(
+    first: &'a [u8],
+    second: &'a [u8],
+    work: &mut [u64],
+) -> Result<(Sheet<'a>, Sheet<'a>), Refusal>
+    ensures { MatchResult result
+        (λ p. (p.0.bytes.now ≡ first.now) × (p.1.bytes.now ≡ second.now) × Begun first.now second.now (length work.old))
+        (λ e. number_of e ≡ compare_refusal first.now second.now (length work.old)) }
 {
-    let one = sheet_refusal(first, work);
-    if one != 0 {
-        return one;
+    let one = judged(first, work)?;
+    let two = judged(second, work)?;
+    if work.len() < one.count + two.count {
+        return Err(Refusal::NoRoom);
     }
-    sheet_refusal(second, work)
+    if location_twice(one, work) {
+        Err(Refusal::Repeated)
+    } else {
+        Ok((one, two))
+    }
 }
 
-// The paper's number, or 0, but for a location twice in the second sheet.
-pub(crate) fn front_refusal(first: &[u8], second: &[u8], work: &mut [u64]) -> u64
-    ensures { result ≡ front_refusal first.now second.now (length work.old) }
+// Both sheets, unless they are refused.
+pub(crate) fn accepted<'a>(
+    first: &'a [u8],
+    second: &'a [u8],
+    work: &mut [u64],
+) -> Result<(Sheet<'a>, Sheet<'a>), Refusal>
+    ensures { MatchResult result
+        (λ p. (p.0.bytes.now ≡ first.now) × (p.1.bytes.now ≡ second.now) × (compare_refusal first.now second.now (length work.old) ≡ 0))
+        (λ e. number_of e ≡ compare_refusal first.now second.now (length work.old)) }
 {
-    let number = sheets_refusal(first, second, work);
-    if number != 0 {
-        return number;
+    let (one, two) = begun(first, second, work)?;
+    if location_twice(two, work) {
+        Err(Refusal::Repeated)
+    } else {
+        Ok((one, two))
     }
-    if work.len() < count_in(first) + count_in(second) {
-        return 13;
-    }
-    if location_twice(first, work) { 14 } else { 0 }
-}
-
-// The paper's number, or 0.
-pub(crate) fn refusal(first: &[u8], second: &[u8], work: &mut [u64]) -> u64
-    ensures { result ≡ compare_refusal first.now second.now (length work.old) }
-{
-    let number = front_refusal(first, second, work);
-    if number != 0 {
-        return number;
-    }
-    if location_twice(second, work) { 14 } else { 0 }
 }

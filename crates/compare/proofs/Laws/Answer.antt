@@ -1,17 +1,17 @@
 -- What the answer comes to: refused, or counted. Assumes nothing.
-use Rattle.std.specs.Prelude.{◌≡◌, refl, Bool, true, false, not, ◌&&◌, List, ℕ, ◌-◌, ◌≤◌, eqb, length}
+use Rattle.std.specs.Prelude.{◌≡◌, refl, Bool, true, false, not, ◌&&◌, List, ℕ, ◌+◌, ◌-◌, ◌≤◌, eqb, length}
 use Rattle.std.proofs.Math.Path.{sym, ap}
 use Rattle.std.proofs.Common.{◌∙◌, arith, eq-eqb, ne_eqb}
 use Rattle.lists.specs.Lists.{count, two_of}
-use Rattle.records.specs.Outcome.{ends, applies, passes, gives_first}
 use Rattle.records.specs.Sheet.{count_of}
 use Rattle.comparison.specs.Compare.{records_of, has_record, same, moved, first_only, second_only, compare_refusal, compared}
-use Rattle.comparison.specs.declared.Compared.{Compared}
-use Rattle.comparison.proofs.Laws.Accepted.{fine}
+use Rattle.comparison.specs.Accepted.{sheet_refusal}
 use Rattle.comparison.proofs.Laws.Held.{held_long}
 use Rattle.comparison.proofs.Laws.Sums.{both_is, only_is, both_turned}
-use Rattle.matching.specs.Side.{Beside, Walkable}
-use Rattle.compare.specs.Refused.{sheet_repeat_refusal, SheetFits, Begun}
+use Rattle.matching.specs.declared.sheet.Sheet.{Sheet}
+use Rattle.compare.specs.declared.refusal.Refusal.{Refusal}
+use Rattle.compare.specs.Refused.{number_of, SheetFits, Begun}
+use Rattle.compare.proofs.Laws.Rows.{refused, second_twice, none_refused}
 use Rattle.compare.proofs.Laws.Covered.{left_out}
 
 -- refused, all is 0
@@ -19,9 +19,9 @@ zeros : (n : ℕ) (a b : List ℕ) → (n ≡ 0 → ⊥) → compared n a b ≡ 
 unfolding compared
 zeros n a b h = rw (ne_eqb n 0 h) refl
 
-pub refused_is : (a b : List ℕ) {n m : ℕ} → n ≡ m → (n ≡ 0 → ⊥)
+pub refused_is : (a b : List ℕ) (r : Refusal) {n m : ℕ} → n ≡ number_of r → number_of r ≡ m
     → record { number = n; same = 0; moved = 0; first = 0; second = 0 } ≡ compared m a b
-refused_is a b {n} {m} e h = sym (zeros n a b h) ∙ ap (λ (k : ℕ). compared k a b) e
+refused_is a b r {n} {m} e h = sym (zeros n a b (λ z. refused r (sym e ∙ z))) ∙ ap (λ (k : ℕ). compared k a b) (e ∙ h)
 
 -- ---- The sums.
 
@@ -39,59 +39,79 @@ counted_sums a b oa ob {k} {both} {n} {m} ks is ns ms =
     let z : m - both ≡ second_only a b = omega arith in
     λ j. record { number = 0; same = ks j; moved = x j; first = y j; second = z j }
 
-module _ {s t : List ℕ} {room n m : ℕ} (ok : Begun s t room) (ns : n ≡ count_of s) (ms : m ≡ count_of t) where
-  abbrev a : List ℕ
-  a = records_of s
+module _ (x y : Sheet) {s t : List ℕ} {room : ℕ} (p : x.bytes.now ≡ s) (q : y.bytes.now ≡ t) (ok : Begun s t room) where
+  long_first : x.count ≡ length (records_of s)
+  long_first = x.counts ∙ ap count_of p ∙ sym (held_long s)
 
-  abbrev b : List ℕ
-  b = records_of t
+  long_second : y.count ≡ length (records_of t)
+  long_second = y.counts ∙ ap count_of q ∙ sym (held_long t)
 
-  pub laid_beside : Beside s t n m
-  laid_beside = record { one = (fine s ok.one).0; two = (fine t ok.two).0; ns = ns; ms = ms }
+  pub single_first : two_of eqb (records_of x.bytes.now) ≡ false
+  single_first = ap (λ (l : List ℕ). two_of eqb (records_of l)) p ∙ ok.first_once
 
-  pub laid_walkable : Walkable s t n m room
-  laid_walkable = let f = ok.fits in record { beside = laid_beside; fits = omega arith; single = ok.first_once }
+  pub fits_both : x.count + y.count ≤ room
+  fits_both = let f = ok.fits in let n = x.counts ∙ ap count_of p in let m = y.counts ∙ ap count_of q in omega arith
 
-  pub laid_fits : {after : ℕ} → after ≡ room → SheetFits t after
-  laid_fits e = let f = ok.fits in record { fine = ok.two; fits = omega arith }
+  pub fits_second : {after : ℕ} → after ≡ room → SheetFits y.bytes.now after
+  fits_second e =
+      let f = ok.fits in
+      let m = ap count_of q in
+      record { fine = ap sheet_refusal q ∙ ok.two; fits = omega arith }
 
-  module _ {both : ℕ} (is : both ≡ count (has_record b) a) {c : Bool} (twice : c ≡ (not (eqb both m) && two_of eqb b)) where
-    asked : c ≡ two_of eqb b
-    asked = twice ∙ left_out a ok.first_once b (ms ∙ sym (held_long t)) is
+  module _ {c : Bool} (is : c ≡ two_of eqb (records_of y.bytes.now)) where
+    there : c ≡ two_of eqb (records_of t)
+    there = is ∙ ap (λ (l : List ℕ). two_of eqb (records_of l)) q
 
-    pub repeat_is : c ≡ true → record { number = 14; same = 0; moved = 0; first = 0; second = 0 } ≡ compared (sheet_repeat_refusal t) a b
-    unfolding sheet_repeat_refusal
-    repeat_is h = refused_is a b (sym (gives_first (applies (sym asked ∙ h)))) (λ z. omega arith)
+    pub number_twice : c ≡ true → 14 ≡ compare_refusal s t room
+    number_twice h = second_twice s t room ok.one ok.two ok.fits (sym there ∙ h)
+
+    pub none_twice : c ≡ false → compare_refusal s t room ≡ 0
+    none_twice h = none_refused s t room ok.one ok.two ok.fits ok.first_once (sym there ∙ h)
+
+  module _ {both : ℕ} (is : both ≡ count (has_record (records_of y.bytes.now)) (records_of x.bytes.now)) {c : Bool}
+      (twice : c ≡ (not (eqb both y.count) && two_of eqb (records_of y.bytes.now))) where
+    in_both : both ≡ count (has_record (records_of t)) (records_of s)
+    in_both = is ∙ ap (λ (l : List ℕ). count (has_record (records_of l)) (records_of x.bytes.now)) q
+        ∙ ap (λ (l : List ℕ). count (has_record (records_of t)) (records_of l)) p
+
+    -- the test that may be left out
+    asked : c ≡ two_of eqb (records_of t)
+    asked = twice ∙ ap (λ (l : List ℕ). not (eqb both y.count) && two_of eqb (records_of l)) q
+        ∙ left_out (records_of s) ok.first_once (records_of t) long_second in_both
+
+    pub repeat_is : c ≡ true → 14 ≡ compare_refusal s t room
+    repeat_is h = second_twice s t room ok.one ok.two ok.fits (sym asked ∙ h)
 
     module _ (h : c ≡ false) where
-      second_once : two_of eqb b ≡ false
+      second_once : two_of eqb (records_of t) ≡ false
       second_once = sym asked ∙ h
 
-      pub both_few : both ≤ n
-      both_few = let e = only_is a b in let l = held_long s in omega arith
+      pub both_few : both ≤ x.count
+      both_few = let e = only_is (records_of s) (records_of t) in let l = long_first in let i = in_both in omega arith
 
-      pub both_fits : both ≤ m
-      both_fits = let e = only_is b a in let l = held_long t in let q = both_turned a b ok.first_once second_once in omega arith
+      pub both_fits : both ≤ y.count
+      both_fits =
+          let e = only_is (records_of t) (records_of s) in
+          let l = long_second in
+          let i = in_both in
+          let z = both_turned (records_of s) (records_of t) ok.first_once second_once in
+          omega arith
 
-      module _ {k : ℕ} (ks : k ≡ same a b) where
+      module _ {k : ℕ} (same_is : k ≡ same (records_of x.bytes.now) (records_of y.bytes.now)) where
+        at_same : k ≡ same (records_of s) (records_of t)
+        at_same = same_is ∙ ap (λ (l : List ℕ). same (records_of l) (records_of y.bytes.now)) p ∙ ap (λ (l : List ℕ). same (records_of s) (records_of l)) q
+
         pub same_few : k ≤ both
-        same_few = let e = both_is a b in omega arith
+        same_few = let e = both_is (records_of s) (records_of t) in let i = in_both in let j = at_same in omega arith
 
-        pub compared_is : record { number = 0; same = k; moved = both - k; first = n - both; second = m - both }
-            ≡ compared (sheet_repeat_refusal t) a b
-        unfolding sheet_repeat_refusal
-        compared_is = whole ∙ ap (λ (x : ℕ). compared x a b) (sym (gives_first (passes second_once ends)))
-          where
-            whole : record { number = 0; same = k; moved = both - k; first = n - both; second = m - both } ≡ compared 0 a b
-            whole = counted_sums a b ok.first_once second_once ks is (ns ∙ sym (held_long s)) (ms ∙ sym (held_long t))
-
-pub counted_is : (s t : List ℕ) (room : ℕ) {r : Compared} → compare_refusal s t room ≡ sheet_repeat_refusal t
-    → r ≡ compared (sheet_repeat_refusal t) (records_of s) (records_of t) → r ≡ compared (compare_refusal s t room) (records_of s) (records_of t)
-counted_is s t room e is = is ∙ ap (λ (k : ℕ). compared k (records_of s) (records_of t)) (sym e)
+        pub compared_is : record { number = 0; same = k; moved = both - k; first = x.count - both; second = y.count - both }
+            ≡ compared (compare_refusal s t room) (records_of s) (records_of t)
+        compared_is = counted_sums (records_of s) (records_of t) ok.first_once second_once at_same in_both long_first long_second
+            ∙ ap (λ (n : ℕ). compared n (records_of s) (records_of t)) (sym (none_refused s t room ok.one ok.two ok.fits ok.first_once second_once))
 
 -- ---- The test that may be left out.
 
-pub none_beyond : (both m : ℕ) (t : Bool) → both ≡ m → false ≡ (not (eqb both m) && t)
+pub none_beyond : (both m : ℕ) (t : Bool) → both ≡ m → not (eqb both m) ≡ (not (eqb both m) && t)
 none_beyond both m t h = rw (eq-eqb both m h) refl
 
 pub some_beyond : (both m : ℕ) (t : Bool) {r : Bool} → (both ≡ m → ⊥) → r ≡ t → r ≡ (not (eqb both m) && t)

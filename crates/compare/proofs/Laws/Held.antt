@@ -34,14 +34,11 @@ module _ {s before : List ℕ} {o : Outcome} {after : List ℕ} (u : Unpacks s b
       u.holds ∙ ap (λ (n : ℕ). unpacked_into seven (width_of s) n s before) zero
 
 -- whether a location stands in it twice, by the check of repeats
-pub twice_told : {s before : List ℕ} {o : Outcome} {after last : List ℕ} {r : ℕ} → Unpacks s before o after → SheetFits s (length before)
-    → ChecksRepeats o.value (take o.value after) after r last → eqb r 14 ≡ two_of eqb (records_of s)
-twice_told {s} {before} {o} {after} {last} {r} u fit checked =
-    let ok = fit.fine in
+pub twice_told : {s before : List ℕ} {o : Outcome} {after last : List ℕ} {n r : ℕ} → n ≡ count_of s → Unpacks s before o after
+    → SheetFits s (length before) → ChecksRepeats n (take n after) after r last → eqb r 14 ≡ two_of eqb (records_of s)
+twice_told {s} {before} {o} {after} {last} {n} {r} value u fit checked =
+    let holds = unpacked_holds u fit.fine fit.fits in
     let room = fit.fits in
-    let n = o.value in
-    let value : n ≡ count_of s = unpacked_value u ok room in
-    let holds = unpacked_holds u ok room in
     let long : length (records_of s) ≡ count_of s = held_long s in
     let whole : length (wrote 0 (records_of s) before) ≡ length before = length_wrote 0 (records_of s) before (omega arith) in
     let same : length after ≡ length before = ap length holds ∙ whole in

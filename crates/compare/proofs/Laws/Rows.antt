@@ -1,17 +1,74 @@
--- The order of refusals, as the code asks for them. Assumes nothing.
+-- The paper's number of two sheets, by the rows in the order in which the code asks for them. Assumes nothing.
 use Rattle.std.specs.Prelude.{◌≡◌, refl, Bool, true, false, not, ◌||◌, List, [], ◌∷◌, ℕ, ◌+◌, ◌≤◌, ◌<◌, ltb, length}
 use Rattle.std.proofs.Math.Path.{sym}
 use Rattle.std.proofs.Common.{ap, ◌∙◌, arith}
-use borrow.Author.Tests.{lt-ltb, le-ltb, ltb-false}
+use borrow.Author.Tests.{lt-ltb, le-ltb}
 use Rattle.std.proofs.Math.Dec.{eqb}
 use Rattle.lists.specs.Lists.{two_of}
 use Rattle.lists.specs.Refusals.{Refusal, ◌when◌, first}
+use Rattle.lists.proofs.Laws.Booleans.{or_first, or_second, or_neither}
 use Rattle.records.specs.Outcome.{ends, applies, passes, gives_first}
 use Rattle.records.specs.Sheet.{count_of, width_of, Unpacks, unpack_refusal}
 use Rattle.records.specs.declared.outcome.Outcome.{Outcome}
 use Rattle.comparison.specs.Compare.{records_of, well_formed, well_filled, compare_refusal}
 use Rattle.comparison.specs.Accepted.{sheet_refusal}
-use Rattle.compare.specs.Refused.{sheets_refusal, front_refusal, sheet_repeat_refusal, SheetFits, Begun}
+use Rattle.comparison.proofs.Laws.Accepted.{fine}
+use Rattle.comparison.proofs.Laws.Counts.{formed_most}
+use Rattle.matching.specs.declared.sheet.Sheet.{Sheet}
+use Rattle.compare.specs.declared.refusal.Refusal as why
+use Rattle.compare.specs.declared.refusal.Refusal.TheVariants.{NoSheet, BadRecord, NoRoom, Repeated}
+use Rattle.compare.specs.Refused.{number_of, SheetFits, Begun}
+
+-- a refusal has a number
+pub refused : (r : why.Refusal) → number_of r ≡ 0 → ⊥
+refused NoSheet h = omega arith
+refused BadRecord h = omega arith
+refused NoRoom h = omega arith
+refused Repeated h = omega arith
+
+-- ---- One sheet, by the number of unpacking.
+
+fifteen : (a b c : Bool) → first (15 when a ∷ 16 when b ∷ 17 when c ∷ []) ≡ 15 → 15 ≡ first (15 when a ∷ 16 when b ∷ [])
+unfolding first
+fifteen true b c h = refl
+fifteen false true c h = absurd (let z : ◌≡◌ {A = ℕ} 16 15 = h in omega arith)
+fifteen false false true h = absurd (let z : ◌≡◌ {A = ℕ} 17 15 = h in omega arith)
+fifteen false false false h = absurd (let z : ◌≡◌ {A = ℕ} 0 15 = h in omega arith)
+
+sixteen : (a b c : Bool) → first (15 when a ∷ 16 when b ∷ 17 when c ∷ []) ≡ 16 → 16 ≡ first (15 when a ∷ 16 when b ∷ [])
+unfolding first
+sixteen true b c h = absurd (let z : ◌≡◌ {A = ℕ} 15 16 = h in omega arith)
+sixteen false true c h = refl
+sixteen false false true h = absurd (let z : ◌≡◌ {A = ℕ} 17 16 = h in omega arith)
+sixteen false false false h = absurd (let z : ◌≡◌ {A = ℕ} 0 16 = h in omega arith)
+
+neither : (a b c : Bool) → (first (15 when a ∷ 16 when b ∷ 17 when c ∷ []) ≡ 15 → ⊥)
+    → (first (15 when a ∷ 16 when b ∷ 17 when c ∷ []) ≡ 16 → ⊥) → first (15 when a ∷ 16 when b ∷ []) ≡ 0
+unfolding first
+neither true b c h k = absurd (h refl)
+neither false true c h k = absurd (k refl)
+neither false false c h k = refl
+
+module _ {s before : List ℕ} {o : Outcome} {after : List ℕ} (u : Unpacks s before o after) where
+  abbrev short : Bool
+  short = ltb (length before) (count_of s)
+
+  said : o.number ≡ unpack_refusal (width_of s) s (length before)
+  said = ap (λ (a : Outcome). a.number) u.answers
+
+  pub judged_form : o.number ≡ 15 → 15 ≡ sheet_refusal s
+  unfolding unpack_refusal sheet_refusal
+  judged_form h = fifteen (not (well_formed s)) (not (well_filled s)) short (sym said ∙ h)
+
+  pub judged_words : o.number ≡ 16 → 16 ≡ sheet_refusal s
+  unfolding unpack_refusal sheet_refusal
+  judged_words h = sixteen (not (well_formed s)) (not (well_filled s)) short (sym said ∙ h)
+
+  pub judged_fine : (o.number ≡ 15 → ⊥) → (o.number ≡ 16 → ⊥) → sheet_refusal s ≡ 0
+  unfolding unpack_refusal sheet_refusal
+  judged_fine h k = neither (not (well_formed s)) (not (well_filled s)) short (λ e. h (said ∙ e)) (λ e. k (said ∙ e))
+
+-- ---- Both sheets.
 
 kept : (a b : Bool) (l : List Refusal) → (first (15 when a ∷ 16 when b ∷ []) ≡ 0 → ⊥) → first (15 when a ∷ 16 when b ∷ []) ≡ first
     (15 when a ∷ 16 when b ∷ l)
@@ -26,162 +83,63 @@ past true b l h = absurd (let z : ◌≡◌ {A = ℕ} 15 0 = h in omega arith)
 past false true l h = absurd (let z : ◌≡◌ {A = ℕ} 16 0 = h in omega arith)
 past false false l h = refl
 
-kept_four : (a b c d : Bool) (l : List Refusal) → (first (15 when not a ∷ 16 when not b ∷ 15 when not c ∷ 16 when not d ∷ []) ≡ 0 → ⊥)
-    → first (15 when not a ∷ 16 when not b ∷ 15 when not c ∷ 16 when not d ∷ []) ≡ first
-    (15 when not a ∷ 16 when not b ∷ 15 when not c ∷ 16 when not d ∷ l)
-unfolding first
-kept_four false b c d l h = refl
-kept_four true false c d l h = refl
-kept_four true true false d l h = refl
-kept_four true true true false l h = refl
-kept_four true true true true l h = absurd (h refl)
+module _ (s t : List ℕ) (room : ℕ) where
+  pub first_refused : (r : why.Refusal) → number_of r ≡ sheet_refusal s → number_of r ≡ compare_refusal s t room
+  unfolding sheet_refusal compare_refusal
+  first_refused r e = e ∙ kept (not (well_formed s)) (not (well_filled s)) _ (λ z. refused r (e ∙ z))
 
-none_four : (a b c d : Bool) → first (15 when not a ∷ 16 when not b ∷ 15 when not c ∷ 16 when not d ∷ []) ≡ 0
-    → (first (15 when not a ∷ 16 when not b ∷ []) ≡ 0) × (first (15 when not c ∷ 16 when not d ∷ []) ≡ 0)
-unfolding first
-none_four false b c d h = absurd (let z : ◌≡◌ {A = ℕ} 15 0 = h in omega arith)
-none_four true false c d h = absurd (let z : ◌≡◌ {A = ℕ} 16 0 = h in omega arith)
-none_four true true false d h = absurd (let z : ◌≡◌ {A = ℕ} 15 0 = h in omega arith)
-none_four true true true false h = absurd (let z : ◌≡◌ {A = ℕ} 16 0 = h in omega arith)
-none_four true true true true h = (refl, refl)
+  module _ (one : sheet_refusal s ≡ 0) where
+    pub second_refused : (r : why.Refusal) → number_of r ≡ sheet_refusal t → number_of r ≡ compare_refusal s t room
+    unfolding sheet_refusal compare_refusal
+    second_refused r e = e ∙ kept (not (well_formed t)) (not (well_filled t)) _ (λ z. refused r (e ∙ z))
+        ∙ sym (past (not (well_formed s)) (not (well_filled s)) _ one)
 
--- the first two rows of unpacking
-seventeen : (a b c : Bool) → first (15 when a ∷ 16 when b ∷ 17 when c ∷ []) ≡ 17 → 0 ≡ first (15 when a ∷ 16 when b ∷ [])
-unfolding first
-seventeen true b c h = absurd (let z : ◌≡◌ {A = ℕ} 15 17 = h in omega arith)
-seventeen false true c h = absurd (let z : ◌≡◌ {A = ℕ} 16 17 = h in omega arith)
-seventeen false false c h = refl
+    module _ (two : sheet_refusal t ≡ 0) where
+      rest : compare_refusal s t room ≡ first (13 when ltb room (count_of s + count_of t)
+          ∷ 14 when (two_of eqb (records_of s) || two_of eqb (records_of t)) ∷ [])
+      unfolding sheet_refusal compare_refusal
+      rest = past (not (well_formed s)) (not (well_filled s)) _ one ∙ past (not (well_formed t)) (not (well_filled t)) _ two
 
-other : (a b c : Bool) → (first (15 when a ∷ 16 when b ∷ 17 when c ∷ []) ≡ 17 → ⊥)
-    → first (15 when a ∷ 16 when b ∷ 17 when c ∷ []) ≡ first (15 when a ∷ 16 when b ∷ [])
-unfolding first
-other true b c h = refl
-other false true c h = refl
-other false false true h = absurd (h refl)
-other false false false h = refl
+      pub no_room : room < count_of s + count_of t → 13 ≡ compare_refusal s t room
+      no_room h = sym (rest ∙ gives_first (applies (lt-ltb room (count_of s + count_of t) h)))
 
-module _ {s before : List ℕ} {o : Outcome} {after : List ℕ} (u : Unpacks s before o after) where
-  said : o.number ≡ unpack_refusal (width_of s) s (length before)
-  said = ap (λ (a : Outcome). a.number) u.answers
+      module _ (fits : count_of s + count_of t ≤ room) where
+        enough : ltb room (count_of s + count_of t) ≡ false
+        enough = le-ltb room (count_of s + count_of t) fits
 
-  pub judged_room : o.number ≡ 17 → 0 ≡ sheet_refusal s
-  unfolding unpack_refusal sheet_refusal
-  judged_room h = seventeen (not (well_formed s)) (not (well_filled s)) (ltb (length before) (count_of s)) (sym said ∙ h)
+        pub first_twice : two_of eqb (records_of s) ≡ true → 14 ≡ compare_refusal s t room
+        first_twice h = sym (rest ∙ gives_first (passes enough (applies (or_first _ (two_of eqb (records_of t)) h))))
 
-  pub judged_number : (o.number ≡ 17 → ⊥) → o.number ≡ sheet_refusal s
-  unfolding unpack_refusal sheet_refusal
-  judged_number h = said ∙ other (not (well_formed s)) (not (well_filled s)) (ltb (length before) (count_of s)) (λ e. h (said ∙ e))
+        pub second_twice : two_of eqb (records_of t) ≡ true → 14 ≡ compare_refusal s t room
+        second_twice h = sym (rest ∙ gives_first (passes enough (applies (or_second (two_of eqb (records_of s)) h))))
 
--- ---- Of both sheets.
+        pub none_refused : two_of eqb (records_of s) ≡ false → two_of eqb (records_of t) ≡ false → compare_refusal s t room ≡ 0
+        none_refused h k = rest ∙ gives_first (passes enough (passes (or_neither h k) ends))
 
-module _ (s t : List ℕ) {a : ℕ} (one : a ≡ sheet_refusal s) where
-  pub first_refused : (a ≡ 0 → ⊥) → a ≡ sheets_refusal s t
-  unfolding sheet_refusal sheets_refusal
-  first_refused h = one ∙ kept (not (well_formed s)) (not (well_filled s)) _ (λ e. h (one ∙ e))
+-- ---- By the sheets, once they are no longer judged.
 
-  pub second_refused : {b : ℕ} → a ≡ 0 → b ≡ sheet_refusal t → b ≡ sheets_refusal s t
-  unfolding sheet_refusal sheets_refusal
-  second_refused none two = two ∙ sym (past (not (well_formed s)) (not (well_filled s)) _ (sym one ∙ none))
+module _ (x y : Sheet) {s t : List ℕ} (p : x.bytes.now ≡ s) (q : y.bytes.now ≡ t) (one : sheet_refusal s ≡ 0) (two : sheet_refusal t ≡ 0) where
+  counts : x.count + y.count ≡ count_of s + count_of t
+  counts = let n = x.counts ∙ ap count_of p in let m = y.counts ∙ ap count_of q in omega arith
 
-module _ (s t : List ℕ) {a : ℕ} (both : a ≡ sheets_refusal s t) where
-  pub sheets_refused : (room : ℕ) → (a ≡ 0 → ⊥) → a ≡ front_refusal s t room
-  unfolding sheets_refusal front_refusal
-  sheets_refused room h = both ∙ kept_four (well_formed s) (well_filled s) (well_formed t) (well_filled t) _ (λ e. h (both ∙ e))
+  pub few_records : x.count + y.count ≤ 2097152
+  few_records = let c = counts in let f = formed_most s (fine s one).0 in let g = formed_most t (fine t two).0 in omega arith
 
-  pub sheets_fine : a ≡ 0 → (sheet_refusal s ≡ 0) × (sheet_refusal t ≡ 0)
-  unfolding sheets_refusal sheet_refusal
-  sheets_fine z = none_four (well_formed s) (well_filled s) (well_formed t) (well_filled t) (sym both ∙ z)
+  pub room_lacks : {room : ℕ} → room < x.count + y.count → 13 ≡ compare_refusal s t room
+  room_lacks {room} h = let c = counts in no_room s t room one two (omega arith)
 
-  module _ (z : a ≡ 0) (room : ℕ) {n m : ℕ} (counts : n ≡ count_of s) (countt : m ≡ count_of t) where
-    rest : front_refusal s t room ≡ first (13 when ltb room (count_of s + count_of t) ∷ 14 when two_of eqb (records_of s) ∷ [])
-    unfolding sheet_refusal front_refusal
-    rest = let f = sheets_fine z in past (not (well_formed s)) (not (well_filled s)) _ f.0
-        ∙ past (not (well_formed t)) (not (well_filled t)) _ f.1
+  pub fits_first : {room after : ℕ} → x.count + y.count ≤ room → after ≡ room → SheetFits x.bytes.now after
+  fits_first h e = let c = counts in let n = ap count_of p in record { fine = ap sheet_refusal p ∙ one; fits = omega arith }
 
-    pub no_room : room < n + m → 13 ≡ front_refusal s t room
-    no_room h = sym (rest ∙ gives_first (applies (lt-ltb room (count_of s + count_of t) (omega arith))))
+  module _ {room : ℕ} (fits : x.count + y.count ≤ room) {c : Bool} (is : c ≡ two_of eqb (records_of x.bytes.now)) where
+    enough_records : count_of s + count_of t ≤ room
+    enough_records = let e = counts in omega arith
 
-    module _ (fits : n + m ≤ room) where
-      pub fits_first : SheetFits s room
-      fits_first = record { fine = (sheets_fine z).0; fits = omega arith }
+    there : c ≡ two_of eqb (records_of s)
+    there = is ∙ ap (λ (l : List ℕ). two_of eqb (records_of l)) p
 
-      enough : ltb room (count_of s + count_of t) ≡ false
-      enough = le-ltb room (count_of s + count_of t) (omega arith)
+    pub repeated_first : c ≡ true → 14 ≡ compare_refusal s t room
+    repeated_first h = first_twice s t room one two enough_records (sym there ∙ h)
 
-      module _ {c : Bool} (twice : c ≡ two_of eqb (records_of s)) where
-        pub front_twice : c ≡ true → 14 ≡ front_refusal s t room
-        front_twice h = sym (rest ∙ gives_first (passes enough (applies (sym twice ∙ h))))
-
-        pub front_none : c ≡ false → 0 ≡ front_refusal s t room
-        front_none h = sym (rest ∙ gives_first (passes enough (passes (sym twice ∙ h) ends)))
-
--- ---- Behind these rows.
-
-abbrev six : (a b c d e f : Bool) → List Refusal
-six a b c d e f = 15 when not a ∷ 16 when not b ∷ 15 when not c ∷ 16 when not d ∷ 13 when e ∷ 14 when f ∷ []
-
-six_kept : (a b c d e f g : Bool) → (first (six a b c d e f) ≡ 0 → ⊥) → first (six a b c d e f) ≡ first (six a b c d e (f || g))
-unfolding first
-six_kept false b c d e f g h = refl
-six_kept true false c d e f g h = refl
-six_kept true true false d e f g h = refl
-six_kept true true true false e f g h = refl
-six_kept true true true true true f g h = refl
-six_kept true true true true false true g h = refl
-six_kept true true true true false false g h = absurd (h refl)
-
-pub record Passed (a b c d e f : Bool) : Type 0 where
-  pub one : first (15 when not a ∷ 16 when not b ∷ []) ≡ 0
-  pub two : first (15 when not c ∷ 16 when not d ∷ []) ≡ 0
-  pub fits : e ≡ false
-  pub once : f ≡ false
-  pub behind : (g : Bool) → first (six a b c d e (f || g)) ≡ first (14 when g ∷ [])
-
-six_none : (a b c d e f : Bool) → first (six a b c d e f) ≡ 0 → Passed a b c d e f
-unfolding first
-six_none false b c d e f h = absurd (let z : ◌≡◌ {A = ℕ} 15 0 = h in omega arith)
-six_none true false c d e f h = absurd (let z : ◌≡◌ {A = ℕ} 16 0 = h in omega arith)
-six_none true true false d e f h = absurd (let z : ◌≡◌ {A = ℕ} 15 0 = h in omega arith)
-six_none true true true false e f h = absurd (let z : ◌≡◌ {A = ℕ} 16 0 = h in omega arith)
-six_none true true true true true f h = absurd (let z : ◌≡◌ {A = ℕ} 13 0 = h in omega arith)
-six_none true true true true false true h = absurd (let z : ◌≡◌ {A = ℕ} 14 0 = h in omega arith)
-six_none true true true true false false h = record { one = refl; two = refl; fits = refl; once = refl; behind = λ g. refl }
-
-module _ (s t : List ℕ) (room : ℕ) {n : ℕ} (front : n ≡ front_refusal s t room) where
-  abbrev short : Bool
-  short = ltb room (count_of s + count_of t)
-
-  pub front_refused : (n ≡ 0 → ⊥) → n ≡ compare_refusal s t room
-  unfolding front_refusal compare_refusal
-  front_refused h = front ∙ six_kept (well_formed s) (well_filled s) (well_formed t) (well_filled t) short (two_of eqb (records_of s))
-      (two_of eqb (records_of t)) (λ e. h (front ∙ e))
-
-  module _ (z : n ≡ 0) where
-    passed : Passed (well_formed s) (well_filled s) (well_formed t) (well_filled t) short (two_of eqb (records_of s))
-    unfolding front_refusal
-    passed = six_none (well_formed s) (well_filled s) (well_formed t) (well_filled t) short (two_of eqb (records_of s)) (sym front ∙ z)
-
-    pub begun : Begun s t room
-    unfolding sheet_refusal
-    begun = let p = passed in record {
-      one = p.one;
-      two = p.two;
-      fits = ltb-false room (count_of s + count_of t) p.fits;
-      first_once = p.once;
-    }
-
-    pub behind_front : compare_refusal s t room ≡ sheet_repeat_refusal t
-    unfolding compare_refusal sheet_repeat_refusal
-    behind_front = passed.behind (two_of eqb (records_of t))
-
-    pub fits_second : SheetFits t room
-    fits_second = let b = begun in let f = b.fits in record { fine = b.two; fits = omega arith }
-
-    module _ {c : Bool} (twice : c ≡ two_of eqb (records_of t)) where
-      pub second_twice : c ≡ true → 14 ≡ compare_refusal s t room
-      unfolding sheet_repeat_refusal
-      second_twice h = sym (behind_front ∙ gives_first (applies (sym twice ∙ h)))
-
-      pub none_refused : c ≡ false → 0 ≡ compare_refusal s t room
-      unfolding sheet_repeat_refusal
-      none_refused h = sym (behind_front ∙ gives_first (passes (sym twice ∙ h) ends))
+    pub begun_is : c ≡ false → Begun s t room
+    begun_is h = record { one = one; two = two; fits = enough_records; first_once = sym there ∙ h }

@@ -41,21 +41,12 @@ module _ (s t : List ℕ) (start : ℕ) where
   unfolding placed tail_of behind_records
   in_first b at = rw (b, sym at, length-drop start s) refl
 
-module _ (s t : List ℕ) (room : ℕ) {number n m start : ℕ} (e : number ≡ compare_refusal s t room) (z : number ≡ 0)
-    (ns : n ≡ count_of s) (ms : m ≡ count_of t) where
-  pub place_second : n < m → start ≡ record_place n t → record { number = 0; sheet = 1; start = start; length = length t - start }
-      ≡ placed (compare_refusal s t room) s t
-  place_second h q =
-      let test : ltb (count_of s) (count_of t) ≡ true = lt-ltb (count_of s) (count_of t) (omega arith) in
-      let at : start ≡ record_place (count_of s) t = q ∙ ap (λ (k : ℕ). record_place k t) ns in
-      sym (in_second s t start test at) ∙ ap (λ (k : ℕ). placed k s t) (sym z ∙ e)
+module _ (s t : List ℕ) {n m start : ℕ} (ns : n ≡ count_of s) (ms : m ≡ count_of t) where
+  pub place_second : n < m → start ≡ record_place n t → record { number = 0; sheet = 1; start = start; length = length t - start } ≡ placed 0 s t
+  place_second h q = sym (in_second s t start (lt-ltb (count_of s) (count_of t) (omega arith)) (q ∙ ap (λ (k : ℕ). record_place k t) ns))
 
-  pub place_first : m ≤ n → start ≡ record_place m s → record { number = 0; sheet = 0; start = start; length = length s - start }
-      ≡ placed (compare_refusal s t room) s t
-  place_first h q =
-      let test : ltb (count_of s) (count_of t) ≡ false = le-ltb (count_of s) (count_of t) (omega arith) in
-      let at : start ≡ record_place (count_of t) s = q ∙ ap (λ (k : ℕ). record_place k s) ms in
-      sym (in_first s t start test at) ∙ ap (λ (k : ℕ). placed k s t) (sym z ∙ e)
+  pub place_first : m ≤ n → start ≡ record_place m s → record { number = 0; sheet = 0; start = start; length = length s - start } ≡ placed 0 s t
+  place_first h q = sym (in_first s t start (le-ltb (count_of s) (count_of t) (omega arith)) (q ∙ ap (λ (k : ℕ). record_place k s) ms))
 
 -- ---- What it says.
 
@@ -106,6 +97,13 @@ module _ (s t : List ℕ) (room : ℕ) where
     pub part_first : (a.sheet ≡ 1 → ⊥) → PartAt s a.start a.length part
     part_first h = subst (λ (x : TailPlace). PartAt s x.start x.length part) (sym is)
         (⊎_elim (λ w. absurd (h (ap (λ (x : TailPlace). x.sheet) is ∙ w.0))) (λ w. w.1) where_is)
+
+    -- in the sheet that is chosen by it
+    pub part_in_second : {l : List ℕ} → l ≡ t → a.sheet ≡ 1 → PartAt l a.start a.length part
+    part_in_second e h = subst (λ (x : List ℕ). PartAt x a.start a.length part) (sym e) (part_second h)
+
+    pub part_in_first : {l : List ℕ} → l ≡ s → (a.sheet ≡ 1 → ⊥) → PartAt l a.start a.length part
+    part_in_first e h = subst (λ (x : List ℕ). PartAt x a.start a.length part) (sym e) (part_first h)
 
     -- one of the two sheets holds it
     pub part_inside : a.start + a.length ≤ length s + length t
