@@ -17,9 +17,9 @@ pub struct Sheet<'a> {
 }
 
 impl Sheet<'_> {
-    pub(crate) fn record(self, place: Place) -> u64
-        requires { place.0 < self.count }
-        ensures is { result ≡ get_or (records_of self.entry.bytes.now) place.0 0 }
+    pub(crate) fn record(&self, place: Place) -> u64
+        requires { place.0 < self.now.count }
+        ensures is { result ≡ get_or (records_of self.now.bytes.now) place.0 0 }
         ensures small { result < 18014398509481984 }
     {
         record_at(self.bytes, usize::from(self.bytes[0]), place)
@@ -27,9 +27,9 @@ impl Sheet<'_> {
 
     #[tactic(auto, unfolding(comparison::specs::Tagged::place_in))]
     // The record of the j-th step, from the front or turned round.
-    pub(crate) fn step(self, turned: bool, j: usize) -> u64
-        requires { j < self.count }
-        ensures is { result ≡ get_or (records_of self.entry.bytes.now) (place_in turned self.entry.count j) 0 }
+    pub(crate) fn step(&self, turned: bool, j: usize) -> u64
+        requires { j < self.now.count }
+        ensures is { result ≡ get_or (records_of self.now.bytes.now) (place_in turned self.now.count j) 0 }
         ensures small { result < 18014398509481984 }
     {
         if turned {
@@ -40,7 +40,7 @@ impl Sheet<'_> {
     }
 
     // The last record is below the first.
-    pub(crate) fn falls(self) -> bool {
+    pub(crate) fn falls(&self) -> bool {
         self.record(Place(self.count - 1)) < self.record(Place(0))
     }
 }

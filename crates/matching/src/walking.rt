@@ -48,10 +48,10 @@ impl<'a> Walk<'a> {
     }
 
     // The second's record of the j-th step.
-    fn second_at(self, j: usize) -> u64
-        requires { j < self.second.count }
-        ensures is { result ≡ get_or (records_of self.entry.second.bytes.now)
-            (place_in self.entry.turned self.entry.second.count j) 0 }
+    fn second_at(&self, j: usize) -> u64
+        requires { j < self.now.second.count }
+        ensures is { result ≡ get_or (records_of self.now.second.bytes.now)
+            (place_in self.now.turned self.now.second.count j) 0 }
         ensures small { result < 18014398509481984 }
     {
         self.second.step(self.turned, j)
@@ -59,8 +59,8 @@ impl<'a> Walk<'a> {
 
     // Which of two records that differ is set aside: one that the other sheet's next step would meet stays, else the one that the order has
     // first.
-    fn first_goes(self, i: usize, j: usize) -> bool
-        requires { (i < self.first.count) × (j < self.second.count) }
+    fn first_goes(&self, i: usize, j: usize) -> bool
+        requires { (i < self.now.first.count) × (j < self.now.second.count) }
     {
         let x = self.first.record(Place(i));
         let y = self.second_at(j);
@@ -73,12 +73,12 @@ impl<'a> Walk<'a> {
         if self.down { y < x } else { x < y }
     }
 
-    fn next_step(self, i: usize, j: usize) -> Step
-        requires first_in { i ≤ self.first.count }
-        requires second_in { j ≤ self.second.count }
-        requires more { i + j < self.first.count + self.second.count }
-        ensures { Chosen (records_of self.entry.first.bytes.now) self.entry.turned
-            (records_of self.entry.second.bytes.now) i j result }
+    fn next_step(&self, i: usize, j: usize) -> Step
+        requires first_in { i ≤ self.now.first.count }
+        requires second_in { j ≤ self.now.second.count }
+        requires more { i + j < self.now.first.count + self.now.second.count }
+        ensures { Chosen (records_of self.now.first.bytes.now) self.now.turned
+            (records_of self.now.second.bytes.now) i j result }
     {
         if self.first.count <= i {
             Step::Second
@@ -93,10 +93,10 @@ impl<'a> Walk<'a> {
         }
     }
 
-    fn set_aside(self, work: &mut [u64]) -> Left
-        requires fits { self.first.count + self.second.count ≤ length work.old }
-        requires single { two_of eqb (records_of self.first.bytes.now) ≡ false }
-        ensures { SetAside self.entry.first.bytes.now self.entry.second.bytes.now work.new
+    fn set_aside(&self, work: &mut [u64]) -> Left
+        requires fits { self.now.first.count + self.now.second.count ≤ length work.old }
+        requires single { two_of eqb (records_of self.now.first.bytes.now) ≡ false }
+        ensures { SetAside self.now.first.bytes.now self.now.second.bytes.now work.new
             result.pairs result.aside }
     {
         let mut i = 0;

@@ -14,13 +14,13 @@ pub loop-i-preserved-in-Pair : goal.loop-i-preserved-in-Pair
 loop-i-preserved-in-Pair c = going_pair c.loop-i.invariant c.in-Pair.ensures
 
 pub record-requires : goal.record-requires
-record-requires c = as_first c.args.self.first c.args.self.second _ _ _ c.in-First.ensures
+record-requires c = as_first c.args.self.now.first c.args.self.now.second _ _ _ c.in-First.ensures
 
 pub loop-i-preserved-in-First : goal.loop-i-preserved-in-First
 loop-i-preserved-in-First c = going_one c.loop-i.invariant c.in-First.ensures c.record.ensures.is
 
 pub second_at-requires : goal.second_at-requires
-second_at-requires c = as_second c.args.self.first c.args.self.second _ _ _ c.in-Second.ensures
+second_at-requires c = as_second c.args.self.now.first c.args.self.now.second _ _ _ c.in-Second.ensures
 
 pub loop-i-preserved : goal.loop-i-preserved
 loop-i-preserved c = going_two c.loop-i.invariant c.in-Second.ensures c.second_at.ensures.is
