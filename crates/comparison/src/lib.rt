@@ -1,6 +1,8 @@
 // Two sheets side by side: what is answered. Definitions, laws and types; no functions.
 #![tactic(auto)]
 
+// Both answers are public and C is given their parts, so the number stands beside them and is no Result.
+
 // The number of the refusal, or 0; and then how many locations are at the same index in both, in both but moved, in the first only, and in
 // the second only. All 0 where refused.
 #[derive(Clone, Copy)]

@@ -25,8 +25,8 @@ impl Sheet<'_> {
         record_at(self.bytes, usize::from(self.bytes[0]), place)
     }
 
-    #[tactic(auto, unfolding(comparison::specs::Tagged::place_in))]
     // The record of the j-th step, from the front or turned round.
+    #[tactic(auto, unfolding(comparison::specs::Tagged::place_in))]
     pub(crate) fn step(&self, turned: bool, j: usize) -> u64
         requires { j < self.now.count }
         ensures is { result ≡ get_or (records_of self.now.bytes.now) (place_in turned self.now.count j) 0 }

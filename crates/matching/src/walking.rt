@@ -126,7 +126,8 @@ impl<'a> Walk<'a> {
     }
 }
 
-// Of the records of the first sheet, which has none twice, those that the second has too.
+// Of the records of the first sheet, which has none twice, those that the second has too. Room and repeats are asked for and not tested:
+// the caller has tested both, in the order of the refusals, and a test is a walk over all records.
 pub fn both_in(first: Sheet, second: Sheet, work: &mut [u64]) -> usize
     requires fits { first.count + second.count ≤ length work.old }
     requires single { two_of eqb (records_of first.bytes.now) ≡ false }

@@ -99,7 +99,8 @@ module _ (x y : Sheet) {s t : List ℕ} {room : ℕ} (p : x.bytes.now ≡ s) (q 
 
       module _ {k : ℕ} (same_is : k ≡ same (records_of x.bytes.now) (records_of y.bytes.now)) where
         at_same : k ≡ same (records_of s) (records_of t)
-        at_same = same_is ∙ ap (λ (l : List ℕ). same (records_of l) (records_of y.bytes.now)) p ∙ ap (λ (l : List ℕ). same (records_of s) (records_of l)) q
+        at_same = same_is ∙ ap (λ (l : List ℕ). same (records_of l) (records_of y.bytes.now)) p
+            ∙ ap (λ (l : List ℕ). same (records_of s) (records_of l)) q
 
         pub same_few : k ≤ both
         same_few = let e = both_is (records_of s) (records_of t) in let i = in_both in let j = at_same in omega arith
@@ -107,7 +108,8 @@ module _ (x y : Sheet) {s t : List ℕ} {room : ℕ} (p : x.bytes.now ≡ s) (q 
         pub compared_is : record { number = 0; same = k; moved = both - k; first = x.count - both; second = y.count - both }
             ≡ compared (compare_refusal s t room) (records_of s) (records_of t)
         compared_is = counted_sums (records_of s) (records_of t) ok.first_once second_once at_same in_both long_first long_second
-            ∙ ap (λ (n : ℕ). compared n (records_of s) (records_of t)) (sym (none_refused s t room ok.one ok.two ok.fits ok.first_once second_once))
+            ∙ ap (λ (n : ℕ). compared n (records_of s) (records_of t))
+            (sym (none_refused s t room ok.one ok.two ok.fits ok.first_once second_once))
 
 -- ---- The test that may be left out.
 

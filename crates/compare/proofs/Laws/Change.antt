@@ -16,7 +16,8 @@ use Rattle.compare.specs.declared.changes.Change.TheVariants.{Same, Moved, First
 use Rattle.compare.specs.Change.{of_first, of_second, change_at, end_said, first_end}
 
 -- the list has the record at the place, by the library's words
-pub at_place : (l : List ℕ) (i : ℕ) (o : Option (Bor ℕ)) (x : Bor ℕ) → IsItemAt l i o → option_eq (λ p q. eqb p.now q.now) o (Some x) ≡ has_at l i x.now
+pub at_place : (l : List ℕ) (i : ℕ) (o : Option (Bor ℕ)) (x : Bor ℕ) → IsItemAt l i o
+    → option_eq (λ p q. eqb p.now q.now) o (Some x) ≡ has_at l i x.now
 unfolding has_at
 at_place l i None x h = sym (rw (le-ltb i (length l) h.3) refl)
 at_place l i (Some y) x h =
@@ -84,7 +85,8 @@ module _ (a b : List ℕ) (i : ℕ) where
 pub end_is : (s : List ℕ) {w n : ℕ} → 4 ≤ length s → w ≡ (width_of s).bytes → n ≡ get_or s 1 0 * 65536 + get_or s 2 0 * 256 + get_or s 3 0
     → 4 + w * n ≡ end_said s
 unfolding end_said
-end_is s {w} {n} long wide count = ap (λ (k : ℕ). 4 + k * n) wide ∙ ap (λ (k : ℕ). 4 + (width_of s).bytes * k) (count ∙ sym (count_three s long))
+end_is s {w} {n} long wide count = ap (λ (k : ℕ). 4 + k * n) wide
+    ∙ ap (λ (k : ℕ). 4 + (width_of s).bytes * k) (count ∙ sym (count_three s long))
 
 pub end_short : (s : List ℕ) → length s < 4 → length s ≡ first_end s
 unfolding first_end

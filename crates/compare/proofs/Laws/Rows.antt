@@ -118,7 +118,8 @@ module _ (s t : List ℕ) (room : ℕ) where
 
 -- ---- By the sheets, once they are no longer judged.
 
-module _ (x y : Sheet) {s t : List ℕ} (p : x.bytes.now ≡ s) (q : y.bytes.now ≡ t) (one : sheet_refusal s ≡ 0) (two : sheet_refusal t ≡ 0) where
+module _ (x y : Sheet) {s t : List ℕ} (p : x.bytes.now ≡ s) (q : y.bytes.now ≡ t) (one : sheet_refusal s ≡ 0)
+    (two : sheet_refusal t ≡ 0) where
   counts : x.count + y.count ≡ count_of s + count_of t
   counts = let n = x.counts ∙ ap count_of p in let m = y.counts ∙ ap count_of q in omega arith
 

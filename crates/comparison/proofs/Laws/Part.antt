@@ -42,10 +42,12 @@ module _ (s t : List ℕ) (start : ℕ) where
   in_first b at = rw (b, sym at, length-drop start s) refl
 
 module _ (s t : List ℕ) {n m start : ℕ} (ns : n ≡ count_of s) (ms : m ≡ count_of t) where
-  pub place_second : n < m → start ≡ record_place n t → record { number = 0; sheet = 1; start = start; length = length t - start } ≡ placed 0 s t
+  pub place_second : n < m → start ≡ record_place n t
+      → record { number = 0; sheet = 1; start = start; length = length t - start } ≡ placed 0 s t
   place_second h q = sym (in_second s t start (lt-ltb (count_of s) (count_of t) (omega arith)) (q ∙ ap (λ (k : ℕ). record_place k t) ns))
 
-  pub place_first : m ≤ n → start ≡ record_place m s → record { number = 0; sheet = 0; start = start; length = length s - start } ≡ placed 0 s t
+  pub place_first : m ≤ n → start ≡ record_place m s
+      → record { number = 0; sheet = 0; start = start; length = length s - start } ≡ placed 0 s t
   place_first h q = sym (in_first s t start (le-ltb (count_of s) (count_of t) (omega arith)) (q ∙ ap (λ (k : ℕ). record_place k s) ms))
 
 -- ---- What it says.

@@ -15,22 +15,28 @@ returns-in_err-two c =
 
 pub overflow_add-one : goal.overflow_add-one
 overflow_add-one c =
-    let few = few_records c.in_ok-one.one c.in_ok-two.two c.in_ok-one.ensures.0 c.in_ok-two.ensures.0 c.in_ok-one.ensures.1 c.in_ok-two.ensures.1 in
+    let a = c.in_ok-one in
+    let b = c.in_ok-two in
+    let few = few_records a.one b.two a.ensures.0 b.ensures.0 a.ensures.1 b.ensures.1 in
     omega arith
 
 pub returns-then-work-one : goal.returns-then-work-one
 returns-then-work-one c =
-    room_lacks c.in_ok-one.one c.in_ok-two.two c.in_ok-one.ensures.0 c.in_ok-two.ensures.0 c.in_ok-one.ensures.1 c.in_ok-two.ensures.1 (omega arith)
+    let a = c.in_ok-one in
+    let b = c.in_ok-two in
+    room_lacks a.one b.two a.ensures.0 b.ensures.0 a.ensures.1 b.ensures.1 (omega arith)
 
 pub returns-then-location_twice : goal.returns-then-location_twice
 returns-then-location_twice c =
-    repeated_first c.in_ok-one.one c.in_ok-two.two c.in_ok-one.ensures.0 c.in_ok-two.ensures.0 c.in_ok-one.ensures.1 c.in_ok-two.ensures.1 (omega arith)
-    c.location_twice.ensures c.if-location_twice.true
+    let a = c.in_ok-one in
+    let b = c.in_ok-two in
+    repeated_first a.one b.two a.ensures.0 b.ensures.0 a.ensures.1 b.ensures.1 (omega arith) c.location_twice.ensures
+    c.if-location_twice.true
 
 pub returns-else-location_twice : goal.returns-else-location_twice
-returns-else-location_twice c = (
-  c.in_ok-one.ensures.0,
-  c.in_ok-two.ensures.0,
-  begun_is c.in_ok-one.one c.in_ok-two.two c.in_ok-one.ensures.0 c.in_ok-two.ensures.0 c.in_ok-one.ensures.1 c.in_ok-two.ensures.1 (omega arith)
-      c.location_twice.ensures c.if-location_twice.false,
-)
+returns-else-location_twice c =
+    let a = c.in_ok-one in
+    let b = c.in_ok-two in
+    let begun = begun_is a.one b.two a.ensures.0 b.ensures.0 a.ensures.1 b.ensures.1 (omega arith) c.location_twice.ensures
+    c.if-location_twice.false in
+    (a.ensures.0, b.ensures.0, begun)

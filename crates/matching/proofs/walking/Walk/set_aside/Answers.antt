@@ -1,4 +1,5 @@
-use Rattle.matching.proofs.Laws.Side.{as_first, as_second, going_start, going_first, going_second, going_pair, going_one, going_two, going_end}
+use Rattle.matching.proofs.Laws.Side.{as_first, as_second, going_start, going_first, going_second}
+use Rattle.matching.proofs.Laws.Side.{going_pair, going_one, going_two, going_end}
 use Rattle.matching.proofs.walking.Walk.set_aside.Goals as goal
 
 pub loop-i-init : goal.loop-i-init
