@@ -1,16 +1,15 @@
 -- What the answer comes to: refused, or counted. Assumes nothing.
-use Rattle.std.specs.Prelude.{◌≡◌, refl, Bool, true, false, not, ◌&&◌, List, ℕ, ◌+◌, ◌-◌, ◌≤◌, eqb, length}
+use Rattle.std.specs.Prelude.{◌≡◌, refl, Bool, true, false, not, ◌&&◌, List, ℕ, ◌-◌, ◌≤◌, eqb, length}
 use Rattle.std.proofs.Math.Path.{sym, ap}
-use Rattle.std.proofs.Common.{◌∙◌, arith, eq-eqb, ne_eqb}
+use Rattle.std.proofs.Common.{◌∙◌, arith, ne_eqb}
 use Rattle.lists.specs.Lists.{count, two_of}
 use Rattle.records.specs.Sheet.{count_of}
 use Rattle.comparison.specs.Compare.{records_of, has_record, same, moved, first_only, second_only, compare_refusal, compared}
-use Rattle.comparison.specs.Accepted.{sheet_refusal}
 use Rattle.comparison.proofs.Laws.Held.{held_long}
 use Rattle.comparison.proofs.Laws.Sums.{both_is, only_is, both_turned}
 use Rattle.matching.specs.declared.sheet.Sheet.{Sheet}
 use Rattle.compare.specs.declared.refusal.Refusal.{Refusal}
-use Rattle.compare.specs.Refused.{number_of, SheetFits, Begun}
+use Rattle.compare.specs.Refused.{number_of, Begun}
 use Rattle.compare.proofs.Laws.Rows.{refused, second_twice, none_refused}
 use Rattle.compare.proofs.Laws.Covered.{left_out}
 
@@ -45,18 +44,6 @@ module _ (x y : Sheet) {s t : List ℕ} {room : ℕ} (p : x.bytes.now ≡ s) (q 
 
   long_second : y.count ≡ length (records_of t)
   long_second = y.counts ∙ ap count_of q ∙ sym (held_long t)
-
-  pub single_first : two_of eqb (records_of x.bytes.now) ≡ false
-  single_first = ap (λ (l : List ℕ). two_of eqb (records_of l)) p ∙ ok.first_once
-
-  pub fits_both : x.count + y.count ≤ room
-  fits_both = let f = ok.fits in let n = x.counts ∙ ap count_of p in let m = y.counts ∙ ap count_of q in omega arith
-
-  pub fits_second : {after : ℕ} → after ≡ room → SheetFits y.bytes.now after
-  fits_second e =
-      let f = ok.fits in
-      let m = ap count_of q in
-      record { fine = ap sheet_refusal q ∙ ok.two; fits = omega arith }
 
   module _ {c : Bool} (is : c ≡ two_of eqb (records_of y.bytes.now)) where
     there : c ≡ two_of eqb (records_of t)
@@ -110,11 +97,3 @@ module _ (x y : Sheet) {s t : List ℕ} {room : ℕ} (p : x.bytes.now ≡ s) (q 
         compared_is = counted_sums (records_of s) (records_of t) ok.first_once second_once at_same in_both long_first long_second
             ∙ ap (λ (n : ℕ). compared n (records_of s) (records_of t))
             (sym (none_refused s t room ok.one ok.two ok.fits ok.first_once second_once))
-
--- ---- The test that may be left out.
-
-pub none_beyond : (both m : ℕ) (t : Bool) → both ≡ m → not (eqb both m) ≡ (not (eqb both m) && t)
-none_beyond both m t h = rw (eq-eqb both m h) refl
-
-pub some_beyond : (both m : ℕ) (t : Bool) {r : Bool} → (both ≡ m → ⊥) → r ≡ t → r ≡ (not (eqb both m) && t)
-some_beyond both m t h e = rw (ne_eqb both m h) e

@@ -17,7 +17,7 @@ use Rattle.comparison.proofs.Laws.Counts.{formed_most}
 use Rattle.matching.specs.declared.sheet.Sheet.{Sheet}
 use Rattle.compare.specs.declared.refusal.Refusal as why
 use Rattle.compare.specs.declared.refusal.Refusal.TheVariants.{NoSheet, BadRecord, NoRoom, Repeated}
-use Rattle.compare.specs.Refused.{number_of, SheetFits, Begun}
+use Rattle.compare.specs.Refused.{number_of, Begun}
 
 -- a refusal has a number
 pub refused : (r : why.Refusal) → number_of r ≡ 0 → ⊥
@@ -128,9 +128,6 @@ module _ (x y : Sheet) {s t : List ℕ} (p : x.bytes.now ≡ s) (q : y.bytes.now
 
   pub room_lacks : {room : ℕ} → room < x.count + y.count → 13 ≡ compare_refusal s t room
   room_lacks {room} h = let c = counts in no_room s t room one two (omega arith)
-
-  pub fits_first : {room after : ℕ} → x.count + y.count ≤ room → after ≡ room → SheetFits x.bytes.now after
-  fits_first h e = let c = counts in let n = ap count_of p in record { fine = ap sheet_refusal p ∙ one; fits = omega arith }
 
   module _ {room : ℕ} (fits : x.count + y.count ≤ room) {c : Bool} (is : c ≡ two_of eqb (records_of x.bytes.now)) where
     enough_records : count_of s + count_of t ≤ room
