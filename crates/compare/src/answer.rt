@@ -1,6 +1,5 @@
 // The questions on two sheets.
 ghost use Rattle.std.specs.Prelude.{◌≡◌, ◌≤◌, length};
-ghost use Rattle.records.specs.Sheet.{count_of};
 ghost use Rattle.comparison.specs.Compare.{record_place, placed, Compares, TailPlaced, Tails};
 
 use super::counting::counted;

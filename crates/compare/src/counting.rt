@@ -16,6 +16,7 @@ fn twice_beyond(second: Sheet, both: usize, work: &mut [u64]) -> bool
     both != second.count && location_twice(second, work)
 }
 
+// The four counts, unless the sheets are refused.
 pub(crate) fn counted(first: &[u8], second: &[u8], work: &mut [u64]) -> Result<Compared, Refusal>
     ensures { MatchResult result
         (λ c. c ≡ compared (compare_refusal first.now second.now (length work.old)) (records_of first.now) (records_of second.now))

@@ -1,9 +1,8 @@
 // Why two sheets are not compared.
-ghost use Rattle.std.specs.Prelude.{◌≡◌, true, ◌≤◌, ◌+◌, eqb, length, MatchResult};
+ghost use Rattle.std.specs.Prelude.{◌≡◌, true, eqb, length, MatchResult};
 ghost use Rattle.lists.specs.Lists.{two_of};
-ghost use Rattle.records.specs.Sheet.{count_of};
 ghost use Rattle.comparison.specs.Compare.{well_formed, records_of, compare_refusal};
-ghost use Rattle.comparison.specs.Accepted.{sheet_refusal, Accepted};
+ghost use Rattle.comparison.specs.Accepted.{sheet_refusal};
 ghost use Rattle.compare.specs.Refused.{number_of, SheetFits, Begun};
 
 use super::width::width;
