@@ -15,10 +15,8 @@ fn known_sifted(keys: &[i32], codes: &[u32], words: &[u64]) -> usize
 {
     let mut known = 0;
     let mut last = 0;
-    let mut i = 0;
-    while i < keys.len() {
-        let code = code_of(keys[i]);
-        i += 1;
+    for key in keys {
+        let code = code_of(*key);
         if passes(words, code) {
             let at = place_in(codes, last, code);
             if at < codes.len() {

@@ -15,10 +15,8 @@ fn sieve_place(code: u32) -> u64
 pub fn sieve(codes: &[u32], words: &mut [u64])
     ensures { Sieve codes.now words.new }
 {
-    let mut i = 0;
-    while i < codes.len() {
-        mark(words, sieve_place(codes[i]));
-        i += 1;
+    for code in codes {
+        mark(words, sieve_place(*code));
     }
 }
 

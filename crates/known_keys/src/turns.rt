@@ -16,21 +16,18 @@ pub struct Turn {
 fn gather(text: &[u8], from: Option<usize>, work: &mut [u32]) -> Turn
     ensures { KeysGathered text.now from work.new result.n result.next }
 {
-    let mut n = 0;
     let mut kid = from;
-    while n < work.len() {
-        match kid {
-            Some(k) => {
-                work[n] = code_at(text, k);
-                n += 1;
-                kid = next_label(text, k);
-            }
-            None => {
-                return Turn { n, next: None };
-            }
-        }
+    for n in 0..work.len() {
+        let Some(k) = kid else {
+            return Turn { n, next: None };
+        };
+        work[n] = code_at(text, k);
+        kid = next_label(text, k);
     }
-    Turn { n, next: kid }
+    Turn {
+        n: work.len(),
+        next: kid,
+    }
 }
 
 // The same, in their order.

@@ -46,10 +46,7 @@ pub fn key_of(text: &[u8], at: usize) -> i32
     ensures { result ≡ key_here text.now at }
 {
     match attribute(text, at, b"Key") {
-        Some(v) => match key_value(text, v) {
-            Some(k) => k,
-            None => 0,
-        },
+        Some(v) => key_value(text, v).unwrap_or(0),
         None => 0,
     }
 }

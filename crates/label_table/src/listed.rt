@@ -34,19 +34,13 @@ pub fn key_count(text: &[u8], at: usize) -> usize
 pub fn fill_keys(text: &[u8], at: usize, keys: &mut [i32])
     ensures { keys.new ≡ keys_written (table_keys_at text.now at) keys.old }
 {
-    let mut n = 0;
     let mut kid = first_label(text, at);
-    while n < keys.len() {
-        match kid {
-            Some(k) => {
-                keys[n] = key_of(text, k);
-                n += 1;
-                kid = next_label(text, k);
-            }
-            None => {
-                return;
-            }
-        }
+    for n in 0..keys.len() {
+        let Some(k) = kid else {
+            return;
+        };
+        keys[n] = key_of(text, k);
+        kid = next_label(text, k);
     }
 }
 

@@ -1,32 +1,22 @@
 use Rattle.known_keys.proofs.Laws.Among.{counting}
 use Rattle.known_keys.proofs.among.known_sifted.Goals as goal
+use Rattle.known_keys.proofs.among.known_sifted.Goals.{then-passes+then-at-codes, then-passes+else-at-codes, else-passes}
 
-pub loop-i-preserved-then-at-codes : goal.loop-i-preserved-then-at-codes
-loop-i-preserved-then-at-codes c = search counting
-
-pub loop-i-preserved-else-at-codes : goal.loop-i-preserved-else-at-codes
-loop-i-preserved-else-at-codes c = search counting
-
-pub loop-i-preserved : goal.loop-i-preserved
-loop-i-preserved c = search counting
+pub loop-key-preserved : goal.loop-key-preserved
+loop-key-preserved c = elim c.if-passes.branch [
+  | then-passes+then-at-codes w ↦ rw w.known-is (search counting)
+  | then-passes+else-at-codes w ↦ rw w.known-is (search counting)
+  | else-passes w ↦ rw w.known-is (search counting)
+]
 
 pub returns : goal.returns
 returns c = search counting
 
-pub loop-i-init : goal.loop-i-init
-loop-i-init c = search counting
-
-pub offset_bounds-keys-i : goal.offset_bounds-keys-i
-offset_bounds-keys-i c = search counting
-
-pub bounds-keys-i : goal.bounds-keys-i
-bounds-keys-i c = search counting
+pub loop-key-init : goal.loop-key-init
+loop-key-init c = search counting
 
 pub code_of-code-requires : goal.code_of-code-requires
 code_of-code-requires c = search counting
-
-pub overflow_add-i : goal.overflow_add-i
-overflow_add-i c = search counting
 
 pub passes-requires : goal.passes-requires
 passes-requires c = search counting
@@ -37,11 +27,5 @@ place_in-at-requires c = search counting
 pub overflow_add-known : goal.overflow_add-known
 overflow_add-known c = search counting
 
-pub loop-i-smaller-then-at-codes : goal.loop-i-smaller-then-at-codes
-loop-i-smaller-then-at-codes c = search counting
-
-pub loop-i-smaller-else-at-codes : goal.loop-i-smaller-else-at-codes
-loop-i-smaller-else-at-codes c = search counting
-
-pub loop-i-smaller : goal.loop-i-smaller
-loop-i-smaller c = search counting
+pub loop-key-smaller : goal.loop-key-smaller
+loop-key-smaller c = search counting

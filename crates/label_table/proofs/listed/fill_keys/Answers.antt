@@ -19,9 +19,6 @@ offset_bounds-keys-n c = search writing
 pub bounds-keys-n : goal.bounds-keys-n
 bounds-keys-n c = search writing
 
-pub overflow_add-n : goal.overflow_add-n
-overflow_add-n c = search writing
-
 pub next_label-kid-requires : goal.next_label-kid-requires
 next_label-kid-requires c = search writing
 
@@ -34,14 +31,11 @@ loop-n-preserved c = search writing
 pub enum_told-1 : goal.enum_told-1
 enum_told-1 c = search writing
 
-pub shape_of-keys-in-None : goal.shape_of-keys-in-None
-shape_of-keys-in-None c = search writing
-
-pub returns-in-None : goal.returns-in-None
-returns-in-None c = search writing
-
 pub shape_of-keys : goal.shape_of-keys
 shape_of-keys c = search writing
 
 pub returns : goal.returns
 returns c = search writing
+
+pub returns-in_default : goal.returns-in_default
+returns-in_default c = search writing
