@@ -20,10 +20,8 @@ fn neighbours_alike(keys: &[u32]) -> bool
         return false;
     }
     let mut last = keys[0];
-    let mut i = 1;
-    while i < keys.len() {
+    for i in 1..keys.len() {
         let x = keys[i];
-        i += 1;
         if x == last {
             return true;
         }

@@ -23,11 +23,9 @@ fn listed(text: &[u8], note: MapNote) -> u64
     ensures { result ≡ min 2 (length (dimensions_of (the text.now note.at))) }
 {
     let mut n = 0;
-    let mut d = 0;
-    while d < 10 {
+    for d in 0..10 {
         let lists = note.lists;
         n = capped(n + lists.has[d]);
-        d += 1;
     }
     n
 }
@@ -49,11 +47,9 @@ pub fn labels_twice(text: &[u8], maps: Maps) -> bool
     ensures { result ≡ labels_twice (maps_at text.now maps) }
 {
     let mut n = 0;
-    let mut i = 0;
-    while i < maps.count {
+    for i in 0..maps.count {
         let note = nth(maps, i);
         n = capped(n + listed_by_labels(text, note));
-        i += 1;
     }
     1 < n
 }

@@ -79,13 +79,11 @@ pub fn key_twice(text: &[u8], maps: Maps) -> bool
     requires { Ready text.now maps }
     ensures { result ≡ key_twice (maps_at text.now maps) }
 {
-    let mut i = 0;
-    while i < maps.count {
+    for i in 0..maps.count {
         let note = nth(maps, i);
         if map_twice(text, note) {
             return true;
         }
-        i += 1;
     }
     false
 }

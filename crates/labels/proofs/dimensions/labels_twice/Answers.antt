@@ -22,8 +22,5 @@ overflow_add-n c = search tallying
 pub capped-n-requires : goal.capped-n-requires
 capped-n-requires c = search tallying
 
-pub overflow_add-i : goal.overflow_add-i
-overflow_add-i c = search tallying
-
 pub loop-i-smaller : goal.loop-i-smaller
 loop-i-smaller c = search tallying

@@ -1,9 +1,5 @@
-use Prim.Native.Nat.{◌-◌}
 use Rattle.labels.proofs.Laws.Dimensions.{Adding}
 use Rattle.labels.proofs.dimensions.listed.Given as goal
 
 abbrev pub invariant-loop-d : goal.invariant-loop-d
 invariant-loop-d l = Adding l.text l.note l.n l.d
-
-abbrev pub decreases-loop-d : goal.decreases-loop-d
-decreases-loop-d l = 10 - l.d

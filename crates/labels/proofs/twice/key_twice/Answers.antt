@@ -19,8 +19,5 @@ returns c = search twicing
 pub nth-note-requires : goal.nth-note-requires
 nth-note-requires c = search twicing
 
-pub overflow_add-i : goal.overflow_add-i
-overflow_add-i c = search twicing
-
 pub loop-i-smaller : goal.loop-i-smaller
 loop-i-smaller c = search twicing
