@@ -1,16 +1,18 @@
 -- THE SHORT LIST AS PLAIN NUMBERS, four a model: first index, count, type (0 surface, 1 voxels) and structure. Assumes nothing.
 use Rattle.std.specs.Prelude.{◌≡◌, Bool, true, false, cond, ◌&&◌, List, [], ◌∷◌, ℕ, ◌+◌, ◌*◌, ◌/◌, ◌%◌, eqb, leb, length, get_or}
+use Rattle.std.specs.Prelude.{Result, Err}
 use Rattle.lists.specs.Lists.{all_below, each_in, tabulated}
 use Rattle.records.specs.Fill.{wrote}
-use Rattle.records.specs.Outcome.{unless, outcome}
-use Rattle.records.specs.declared.outcome.Outcome.{Outcome}
+use Rattle.records.specs.Outcome.{unless}
+use Rattle.records.specs.declared.counters.Index.{Index}
 use Rattle.shortlist.specs.Runs.{runs}
-use Rattle.shortlist.specs.Making.{list_refusal}
+use Rattle.shortlist.specs.Making.{list_refusal, listed_number, listed_count}
 use Rattle.shortlist.specs.Asking.{Tells, Seeks}
 use Rattle.shortlist.specs.Search.{next_of, folded}
 use Rattle.shortlist.specs.declared.answer.Model.{Model}
 use Rattle.shortlist.specs.declared.answer.Told.{Told}
-use Rattle.shortlist.specs.declared.answer.Sought.{Sought}
+use Rattle.shortlist.specs.declared.answer.ListFault.{ListFault}
+use Rattle.shortlist.specs.declared.answer.SearchFault.{SearchFault}
 use Rattle.shortlist.specs.declared.state.Search.{Search}
 
 -- the numbers of a model, and of models in a row
@@ -37,20 +39,21 @@ unfoldable pub good_numbers : List ℕ → Bool
 good_numbers l = eqb (length l % 4) 0 && all_below (length l / 4) (λ i. leb (get_or l (4 * i + 2) 0) 1)
 
 -- making: the value is how many models there are; `before` and `after` are the list lent
-pub record ListsNumbers (rs before : List ℕ) (answer : Outcome) (after : List ℕ) : Type 0 where
-  pub answers : answer ≡ outcome (list_refusal rs (length before / 4)) (length (runs rs))
-  pub holds : after ≡ unless answer.number (wrote 0 (numbers_of (runs rs)) before) before
+pub record ListsNumbers (rs before : List ℕ) (answer : Result ℕ ListFault) (after : List ℕ) : Type 0 where
+  pub numbered : listed_number answer ≡ list_refusal rs (length before / 4)
+  pub counted : listed_count answer ≡ unless (listed_number answer) (length (runs rs)) 0
+  pub holds : after ≡ unless (listed_number answer) (wrote 0 (numbers_of (runs rs)) before) before
 
 -- asking, entry by entry: what has been seen of the models at the end; numbers that are no models are a bad list
-pub record Seen (l : List ℕ) (start end : Search) : Type 0 where
-  pub bad : good_numbers l ≡ false → end.bad ≡ true
+pub record Seen (l : List ℕ) (start : Search) (end : Result Search SearchFault) : Type 0 where
+  pub bad : good_numbers l ≡ false → end ≡ Err SearchFault.BadList
   pub good : good_numbers l ≡ true → end ≡ folded next_of start (models_in l)
 
 -- asking: numbers that are no models are a bad list, and else what the models say
-pub record TellsNumbers (l : List ℕ) (n : ℕ) (answer : Told) : Type 0 where
-  pub bad : good_numbers l ≡ false → answer ≡ Told.BadList
+pub record TellsNumbers (l : List ℕ) (n : ℕ) (answer : Result Told SearchFault) : Type 0 where
+  pub bad : good_numbers l ≡ false → answer ≡ Err SearchFault.BadList
   pub good : good_numbers l ≡ true → Tells (models_in l) n answer
 
-pub record SeeksNumbers (l rs : List ℕ) (x : ℕ) (answer : Sought) : Type 0 where
-  pub bad : good_numbers l ≡ false → answer ≡ Sought.BadList
+pub record SeeksNumbers (l rs : List ℕ) (x : ℕ) (answer : Result Index SearchFault) : Type 0 where
+  pub bad : good_numbers l ≡ false → answer ≡ Err SearchFault.BadList
   pub good : good_numbers l ≡ true → Seeks (models_in l) rs x answer

@@ -1,9 +1,9 @@
 // The doors for C that read no text: records and sheets, the short list as four numbers a model, two sheets side by side, and where the
 // text of a file is. record_doors_c exports them to C.
 // include/dzwonolin.h says what each takes and gives. A slice is a pointer and the number of its elements.
-// The short list made.
 #![tactic(auto)]
 
+// The short list made.
 mod making;
 // The short list asked.
 mod asking;
@@ -13,9 +13,7 @@ ghost use Rattle.record_doors.specs.Lists.{ListsFlat, TellsFlat, SeeksFlat};
 ghost use Rattle.record_doors.specs.Sides.{ComparesFlat, TailsFlat};
 ghost use Rattle.record_doors.specs.Front.{FrontsFlat};
 
-use asking::{
-    index_in, sought_index, sought_number, structure_in, told_number, told_structure, told_type,
-};
+use asking::{index_in, structure_in};
 use flat::{tell_one, tell_row, tell_two};
 use making::list_numbers;
 use records::Index;
@@ -52,28 +50,46 @@ pub fn dz_model_list(records: &[u64], list: &mut [u64], count: &mut [u64]) -> u6
     ensures { ListsFlat records.now list.old count.old result list.new
         count.new }
 {
-    let made = list_numbers(records, list);
-    tell_one(count, made.value);
-    made.number
+    match list_numbers(records, list) {
+        Ok(models) => {
+            tell_one(count, models as u64);
+            0
+        }
+        Err(list_fault) => {
+            tell_one(count, 0);
+            list_fault.number()
+        }
+    }
 }
 
 pub fn dz_structure_at(list: &[u64], index: u64, answer: &mut [u64]) -> u64
     ensures { TellsFlat list.now index answer.old result answer.new }
 {
-    let told = structure_in(list, Index(index));
-    let kind = told_type(told);
-    let structure = told_structure(told);
-    tell_two(answer, kind, structure);
-    told_number(told)
+    match structure_in(list, Index(index)) {
+        Ok(told) => {
+            tell_two(answer, u64::from(told.voxels), told.structure);
+            0
+        }
+        Err(fault) => {
+            tell_two(answer, 0, 0);
+            fault.number()
+        }
+    }
 }
 
 pub fn dz_index_of(list: &[u64], records: &[u64], number: u64, place: &mut [u64]) -> u64
     ensures { SeeksFlat list.now records.now number place.old result place.new }
 {
-    let sought = index_in(list, records, number);
-    let index = sought_index(sought);
-    tell_one(place, index);
-    sought_number(sought)
+    match index_in(list, records, number) {
+        Ok(index) => {
+            tell_one(place, index.0);
+            0
+        }
+        Err(fault) => {
+            tell_one(place, 0);
+            fault.number()
+        }
+    }
 }
 
 // ---- Two sheets side by side.
@@ -83,11 +99,12 @@ pub fn dz_compare(first: &[u8], second: &[u8], work: &mut [u64], counts: &mut [u
         work.new counts.new }
 {
     let compared = compare::compare(first, second, work);
-    let mut row = [0u64; 4];
-    row[0] = compared.same as u64;
-    row[1] = compared.moved as u64;
-    row[2] = compared.first as u64;
-    row[3] = compared.second as u64;
+    let row = [
+        compared.same as u64,
+        compared.moved as u64,
+        compared.first as u64,
+        compared.second as u64,
+    ];
     tell_row(counts, &row);
     compared.number
 }
@@ -97,11 +114,7 @@ pub fn dz_tail(first: &[u8], second: &[u8], work: &mut [u64], part: &mut [u64]) 
         part.new }
 {
     let cut = compare::tail_place(first, second, work);
-    let mut row = [0u64; 3];
-    row[0] = cut.sheet;
-    row[1] = cut.start as u64;
-    row[2] = cut.length as u64;
-    tell_row(part, &row);
+    tell_row(part, &[cut.sheet, cut.start as u64, cut.length as u64]);
     cut.number
 }
 
@@ -112,13 +125,14 @@ pub fn dz_front(file: &[u8], front: &mut [u64]) -> u64
 {
     let placed = front::front(file);
     let lengths = placed.lengths;
-    let mut row = [0u64; 6];
-    row[0] = placed.count;
-    row[1] = lengths[0];
-    row[2] = lengths[1];
-    row[3] = lengths[2];
-    row[4] = placed.start as u64;
-    row[5] = placed.length as u64;
+    let row = [
+        placed.count,
+        lengths[0],
+        lengths[1],
+        lengths[2],
+        placed.start as u64,
+        placed.length as u64,
+    ];
     tell_row(front, &row);
     placed.number
 }

@@ -5,8 +5,8 @@ pub mod Bits
 pub mod Walking
 pub mod Made
 pub mod Search
-pub mod Entry
 pub mod Answers
 pub mod Unique
 pub mod Theorems
 pub mod Finds
+pub mod Entry

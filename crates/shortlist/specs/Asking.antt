@@ -1,15 +1,18 @@
 -- ASKING A LIST: when it is bad, the type and structure at an index, the index of a record. Ranges are compared as numbers.
 -- Assumes nothing.
 use Rattle.std.specs.Prelude.{◌≡◌, Bool, true, false, not, ◌&&◌, ◌||◌, List, [], ◌∷◌, ℕ, ◌+◌, eqb, leb, ltb, length, get_or, take, drop}
+use Rattle.std.specs.Prelude.{Result, Ok, Err}
 use Rattle.lists.specs.Lists.{any, those, two_of}
 use Rattle.lists.specs.Refusals.{◌when◌, first}
 use Rattle.records.specs.Record.{record_of, location_of}
 use Rattle.records.specs.Find.{FirstPlace}
 use Rattle.records.specs.Outcome.{unless}
+use Rattle.records.specs.declared.counters.Index.{Index}
+use Rattle.shortlist.specs.Faults.{search_fault_number}
 use Rattle.shortlist.specs.Runs.{most_structure, kind_of, kind_in, of_one_kind}
 use Rattle.shortlist.specs.declared.answer.Model.{Model}
 use Rattle.shortlist.specs.declared.answer.Told.{Told}
-use Rattle.shortlist.specs.declared.answer.Sought.{Sought}
+use Rattle.shortlist.specs.declared.answer.SearchFault.{SearchFault}
 
 -- ---- A bad list.
 
@@ -36,7 +39,7 @@ bad_list l = any empty l || (not (runs_on_from 0 l) || (two_of of_one_kind l || 
 unfoldable pub holds_index : ℕ → Model → Bool
 holds_index n m = leb m.first.0 n && ltb n (m.first.0 + m.count)
 
-unfoldable pub of_kind : ℕ → Model → Bool
+abbrev pub of_kind : ℕ → Model → Bool
 of_kind k m = eqb (kind_in m) k
 
 abbrev pub no_model : Model
@@ -60,41 +63,40 @@ own_stretch l rs x = records_in_range (the_model (of_kind (kind_of x)) l) rs
 
 -- ---- The type and structure at an index.
 
-unfoldable pub told_number : Told → ℕ
-told_number (Told.Is v s) = 0
-told_number Told.BadList = 26
-told_number Told.Nothing = 19
+-- what a model tells of the indices in its range
+abbrev pub told_in : Model → Told
+told_in m = record { voxels = m.voxels; structure = m.structure }
 
-unfoldable pub told_voxels : Told → Bool
-told_voxels (Told.Is v s) = v
-told_voxels Told.BadList = false
-told_voxels Told.Nothing = false
+abbrev pub told_number : Result Told SearchFault → ℕ
+told_number (Ok t) = 0
+told_number (Err e) = search_fault_number e
 
-unfoldable pub told_structure : Told → ℕ
-told_structure (Told.Is v s) = s
-told_structure Told.BadList = 0
-told_structure Told.Nothing = 0
+abbrev pub told_voxels : Result Told SearchFault → Bool
+told_voxels (Ok t) = t.voxels
+told_voxels (Err e) = false
+
+abbrev pub told_structure : Result Told SearchFault → ℕ
+told_structure (Ok t) = t.structure
+told_structure (Err e) = 0
 
 unfoldable pub tell_refusal : List Model → ℕ → ℕ
 tell_refusal l n = first (26 when bad_list l ∷ 19 when not (any (holds_index n) l) ∷ [])
 
 -- what `structure_at` promises
-pub record Tells (l : List Model) (n : ℕ) (answer : Told) : Type 0 where
+pub record Tells (l : List Model) (n : ℕ) (answer : Result Told SearchFault) : Type 0 where
   pub numbered : told_number answer ≡ tell_refusal l n
   pub voxels : told_voxels answer ≡ unless (told_number answer) (the_model (holds_index n) l).voxels false
   pub structure : told_structure answer ≡ unless (told_number answer) (the_model (holds_index n) l).structure 0
 
 -- ---- The index of a record.
 
-unfoldable pub sought_number : Sought → ℕ
-sought_number (Sought.At n) = 0
-sought_number Sought.BadList = 26
-sought_number Sought.Nowhere = 19
+abbrev pub sought_number : Result Index SearchFault → ℕ
+sought_number (Ok n) = 0
+sought_number (Err e) = search_fault_number e
 
-unfoldable pub sought_index : Sought → ℕ
-sought_index (Sought.At n) = n.0
-sought_index Sought.BadList = 0
-sought_index Sought.Nowhere = 0
+abbrev pub sought_index : Result Index SearchFault → ℕ
+sought_index (Ok n) = n.0
+sought_index (Err e) = 0
 
 unfoldable pub seek_refusal : List Model → List ℕ → ℕ → ℕ
 seek_refusal l rs x =
@@ -110,12 +112,12 @@ pub record StandsAt (l : List Model) (rs : List ℕ) (x n : ℕ) : Type 0 where
   pub index_is : n ≡ (the_model (of_kind (kind_of x)) l).first.0 + place
 
 -- what `index_of` promises
-pub record Seeks (l : List Model) (rs : List ℕ) (x : ℕ) (answer : Sought) : Type 0 where
+pub record Seeks (l : List Model) (rs : List ℕ) (x : ℕ) (answer : Result Index SearchFault) : Type 0 where
   pub numbered : sought_number answer ≡ seek_refusal l rs x
   pub found : sought_number answer ≡ 0 → StandsAt l rs x (sought_index answer)
   pub refused : (sought_number answer ≡ 0 → ⊥) → sought_index answer ≡ 0
 
 -- opens every definition above
 unfoldable pub ask_words : Unit {0}
-unfolding empty no_structure past_end runs_on_from bad_list holds_index of_kind the_model records_in_range is_record own_stretch
+unfolding empty no_structure past_end runs_on_from bad_list holds_index the_model records_in_range is_record own_stretch
 ask_words = tt

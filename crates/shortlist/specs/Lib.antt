@@ -1,3 +1,4 @@
+pub mod Faults
 pub mod Runs
 pub mod Making
 pub mod Asking

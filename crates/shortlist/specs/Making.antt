@@ -1,28 +1,23 @@
 -- MAKING THE LIST: what is refused, in order, and what the list lent holds. Assumes nothing.
-use Rattle.std.specs.Prelude.{◌≡◌, not, List, [], ◌∷◌, ℕ, ltb, length}
+use Rattle.std.specs.Prelude.{◌≡◌, not, List, [], ◌∷◌, ℕ, ltb, length, Result, Ok, Err}
 use Rattle.lists.specs.Lists.{all}
 use Rattle.lists.specs.Refusals.{◌when◌, first}
 use Rattle.records.specs.Record.{legal_record}
 use Rattle.records.specs.Sheet.{good_count}
 use Rattle.records.specs.Outcome.{unless}
+use Rattle.shortlist.specs.Faults.{list_fault_number}
 use Rattle.shortlist.specs.Runs.{runs, comes_back, laid}
 use Rattle.shortlist.specs.declared.answer.Model.{Model}
-use Rattle.shortlist.specs.declared.answer.Listed.{Listed}
+use Rattle.shortlist.specs.declared.answer.ListFault.{ListFault}
 
 -- the paper's number of an answer, and its value
-unfoldable pub listed_number : Listed → ℕ
-listed_number (Listed.Models n) = 0
-listed_number Listed.BadCount = 15
-listed_number Listed.BadRecord = 16
-listed_number Listed.Parted = 26
-listed_number Listed.TooShort = 17
+abbrev pub listed_number : Result ℕ ListFault → ℕ
+listed_number (Ok n) = 0
+listed_number (Err e) = list_fault_number e
 
-unfoldable pub listed_count : Listed → ℕ
-listed_count (Listed.Models n) = n
-listed_count Listed.BadCount = 0
-listed_count Listed.BadRecord = 0
-listed_count Listed.Parted = 0
-listed_count Listed.TooShort = 0
+abbrev pub listed_count : Result ℕ ListFault → ℕ
+listed_count (Ok n) = n
+listed_count (Err e) = 0
 
 -- the paper's number for the list of records in so many places
 unfoldable pub list_refusal : List ℕ → (room : ℕ) → ℕ
@@ -35,7 +30,7 @@ list_refusal rs room =
     ∷ [])
 
 -- what `model_list` promises: `before` and `after` are the list lent
-pub record Lists (rs : List ℕ) (before : List Model) (answer : Listed) (after : List Model) : Type 0 where
+pub record Lists (rs : List ℕ) (before : List Model) (answer : Result ℕ ListFault) (after : List Model) : Type 0 where
   pub numbered : listed_number answer ≡ list_refusal rs (length before)
   pub counted : listed_count answer ≡ unless (listed_number answer) (length (runs rs)) 0
   pub holds : after ≡ unless (listed_number answer) (laid (runs rs) before) before

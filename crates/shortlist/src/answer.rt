@@ -1,4 +1,7 @@
 // A model of the list, and what is answered.
+ghost use Rattle.std.specs.Prelude.{◌≡◌};
+ghost use Rattle.shortlist.specs.Faults.{list_fault_number, search_fault_number};
+
 use records::Index;
 
 // A range of indices whose records are of one type and structure.
@@ -10,28 +13,49 @@ pub struct Model {
     pub structure: u64,
 }
 
-// Of making a list: how many models it has, or the refusal 15, 16, 26 or 17.
+// The type (voxels or not) and the structure at an index.
 #[derive(Clone, Copy)]
-pub enum Listed {
-    Models(usize),
+pub struct Told {
+    pub voxels: bool,
+    pub structure: u64,
+}
+
+// Why no list is made of records.
+#[derive(Clone, Copy, Debug, PartialEq, Eq)]
+pub enum ListFault {
     BadCount,
     BadRecord,
     Parted,
     TooShort,
 }
 
-// The type (voxels or not) and the structure at an index, or the refusal 26 or 19.
-#[derive(Clone, Copy)]
-pub enum Told {
-    Is(bool, u64),
-    BadList,
-    Nothing,
+impl ListFault {
+    pub fn number(self) -> u64
+        ensures { result ≡ list_fault_number self }
+    {
+        match self {
+            ListFault::BadCount => 15,
+            ListFault::BadRecord => 16,
+            ListFault::Parted => 26,
+            ListFault::TooShort => 17,
+        }
+    }
 }
 
-// The index of a record, or the refusal 26 or 19.
-#[derive(Clone, Copy)]
-pub enum Sought {
-    At(Index),
+// Why a list does not answer.
+#[derive(Clone, Copy, Debug, PartialEq, Eq)]
+pub enum SearchFault {
     BadList,
-    Nowhere,
+    NotFound,
+}
+
+impl SearchFault {
+    pub fn number(self) -> u64
+        ensures { result ≡ search_fault_number self }
+    {
+        match self {
+            SearchFault::BadList => 26,
+            SearchFault::NotFound => 19,
+        }
+    }
 }

@@ -3,11 +3,11 @@
 
 // The kind of a record; a number of no more bits than a record has.
 mod kinds;
-// The runs of records, in arrays.
+// The runs of records, in an array.
 mod runs;
 // A list taken entry by entry, and what is answered at its end.
 mod search;
-// The entries of a lent list, stored, and read in turn.
+// The entries of a lent list, read in turn.
 mod entries;
 // The three doors.
 mod doors;

@@ -1,6 +1,6 @@
 -- W11: THE ORDER OF MODELS DOES NOT MATTER. Two texts that pass 2 and 3, the document of the one being that of the other with the models of
 -- its maps in another order, get the same answer, refusals too, for the same lengths and slices lent. Nothing else is asked of them.
-use Rattle.std.specs.Prelude.{◌≡◌, refl, List, ℕ, ◌≤◌, ℤ, Option, Some}
+use Rattle.std.specs.Prelude.{◌≡◌, refl, List, ℕ, ◌≤◌, ℤ, Option, Some, Result}
 use Rattle.std.proofs.Math.Path.{sym, ap}
 use Rattle.std.proofs.Common.{◌∙◌}
 use Rattle.std.proofs.Math.ListN.{length}
@@ -11,7 +11,7 @@ use Rattle.grammar.proofs.Laws.Plain.{plain_same}
 use Rattle.shortlist.specs.Making.{Lists}
 use Rattle.shortlist.proofs.Laws.Unique.{list_unique}
 use Rattle.shortlist.specs.declared.answer.Model as short
-use Rattle.shortlist.specs.declared.answer.Listed as made
+use Rattle.shortlist.specs.declared.answer.ListFault as made
 use Rattle.cifti.specs.Text.{Answers}
 use Rattle.cifti.specs.Answer.{answer_to, records_after, Reads}
 use Rattle.cifti.specs.Names.{name_refusal, part_by, name_part, NameNumber, NamePart}
@@ -63,7 +63,7 @@ module _ {e f : Element} (o : ModelsReordered e f) {x y : List ℕ} (h : WritesD
   -- W4: the short list that is made of the stretch of a dimension
   pub lists_reordered : {lengths records work : List ℕ} {a b : Answer} {s t v w : List ℕ}
       → Reads x lengths records work a s v → Reads y lengths records work b t w
-      → (dimension : ℕ) (before : List short.Model) {c d : made.Listed} {i j : List short.Model}
+      → (dimension : ℕ) (before : List short.Model) {c d : Result ℕ made.ListFault} {i j : List short.Model}
       → Lists (stretch_told a s dimension) before c i → Lists (stretch_told b t dimension) before d j → (c ≡ d) × (i ≡ j)
   lists_reordered {a = a} {b} {s} {t} r q dimension before {c} {d} {i} {j} u v =
       let (ab, st, _) = reads_reordered r q in

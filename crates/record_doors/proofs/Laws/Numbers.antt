@@ -1,32 +1,32 @@
 -- FOUR NUMBERS AFTER FOUR, as loops meet them. Assumes nothing.
-use Rattle.std.specs.Prelude.{◌≡◌, refl, Bool, not, ◌&&◌, ◌||◌, List, [], ◌∷◌, ◌++◌, ℕ, ◌+◌, ◌-◌, ◌*◌, ◌/◌, ◌%◌, ◌<◌, ◌≤◌, eqb, ltb, get_or}
+use Rattle.std.specs.Prelude.{◌≡◌, refl, Bool, ◌&&◌, List, [], ◌∷◌, ◌++◌, ℕ, ◌+◌, ◌-◌, ◌*◌, ◌/◌, ◌%◌, ◌<◌, ◌≤◌, eqb, get_or, take}
+use Rattle.std.specs.Prelude.{Result, Ok, Err}
 use Rattle.std.proofs.Math.Path.{sym, ap}
-use Rattle.std.proofs.Common.{◌∙◌, subst, append_assoc, ⊎_elim, arith, add-one, le-leb, eq-eqb, ne_eqb}
-use Rattle.std.proofs.Math.Bool.{true, cond}
+use Rattle.std.proofs.Common.{◌∙◌, append_assoc, arith, add-one, le-leb, eq-eqb, ne_eqb, length-take-le}
+use Rattle.std.proofs.Math.Bool.{true, false, cond}
 use Rattle.std.proofs.Math.Dec.{leb}
 use Rattle.std.proofs.Math.ListN.{length}
+use Rattle.std.proofs.Math.Seq.{take-suc}
 use Rattle.std.proofs.lemmas.Bool.{lt-leb}
-use Rattle.lists.specs.Lists.{any, all_below, each_in, tabulated, count_up}
+use Rattle.std.proofs.lemmas.List.{take_all}
+use Rattle.lists.specs.Lists.{all_below, each_in, count_up}
 use Rattle.lists.proofs.Laws.Booleans.{and_right, and_both, both_ways}
 use Rattle.lists.proofs.Laws.Quantifiers.{all_below_iff}
-use Rattle.lists.proofs.Laws.Tables.{up_one, up_done, up_all, size_of_table}
+use Rattle.lists.proofs.Laws.Tables.{up_one, up_done, up_all}
 use Rattle.records.specs.Fill.{wrote, wrote_none, wrote_on, length_wrote}
-use Rattle.records.specs.Outcome.{unless}
-use Rattle.lists.proofs.Laws.Numbers.{eq?}
 use Rattle.records.specs.declared.counters.Index.{Index}
+use Rattle.shortlist.specs.Faults.{list_fault_number}
 use Rattle.shortlist.specs.Runs.{runs, kind_of}
-use Rattle.shortlist.specs.Making.{list_refusal}
-use Rattle.shortlist.specs.Made.{model_at, MadeOf}
-use Rattle.lists.specs.Refusals.{◌when◌, first}
-use Rattle.shortlist.specs.Asking.{is_record}
-use Rattle.shortlist.specs.Asking.{told_number, told_voxels, told_structure, sought_number, sought_index}
-use Rattle.shortlist.specs.Search.{begun, next_of, folded, told_of, own_records, list_outside, Finding}
-use Rattle.shortlist.proofs.Laws.Runs.{table_snoc}
-use Rattle.shortlist.proofs.Laws.Entry.{next_stays}
-use Rattle.shortlist.proofs.Laws.Answers.{tells_seen, seeks_seen}
+use Rattle.shortlist.specs.Asking.{no_model}
+use Rattle.shortlist.specs.Made.{made_models, MadeOf}
+use Rattle.shortlist.specs.Search.{begun, bad_entry, next_of, at_ok, folded, told_of, Finding}
+use Rattle.shortlist.proofs.Laws.Search.{next_bad, next_good}
+use Rattle.shortlist.proofs.Laws.Made.{fault_not_0, runs_counted}
+use Rattle.shortlist.proofs.Laws.Answers.{tells_fault, tells_seen, seeks_fault, seeks_seen}
 use Rattle.shortlist.specs.declared.answer.Model.{Model}
 use Rattle.shortlist.specs.declared.answer.Told.{Told}
-use Rattle.shortlist.specs.declared.answer.Sought.{Sought}
+use Rattle.shortlist.specs.declared.answer.ListFault.{ListFault}
+use Rattle.shortlist.specs.declared.answer.SearchFault.{SearchFault}
 use Rattle.shortlist.specs.declared.state.Made.{Made}
 use Rattle.shortlist.specs.declared.state.Search.{Search}
 use Rattle.record_doors.specs.Numbers.{four, numbers_of, model_in, models_in, good_numbers}
@@ -34,23 +34,25 @@ use Rattle.record_doors.specs.Numbers.{Seen, ListsNumbers, TellsNumbers, SeeksNu
 
 -- ---- Asking.
 
--- the states over the models from the i-th on
-unfoldable pub from_here : List ℕ → Search → ℕ → Search
+-- what is seen from a state over the models from the i-th on
+unfoldable pub from_here : List ℕ → Search → ℕ → Result Search SearchFault
 from_here l s i = folded next_of s (count_up (model_in l) i (length l / 4 - i))
 
-seen_next : (l : List ℕ) (u s t : Search) (m : Model) (i : ℕ) → from_here l u 0 ≡ from_here l s i → i < length l / 4 → m ≡ model_in l i
-    → t ≡ next_of s m → from_here l u 0 ≡ from_here l t (i + 1)
+-- the i-th model, and then those behind it
+from_next : (l : List ℕ) (s : Search) (m : Model) (i : ℕ) (r : Result Search SearchFault) → i < length l / 4 → m ≡ model_in l i
+    → r ≡ next_of s m → from_here l s i ≡ at_ok r (λ t. from_here l t (i + 1))
 unfolding from_here
-seen_next l u s t m i w h e f =
-    w ∙ ap (folded next_of s) (up_one (model_in l) i (length l / 4) h)
-    ∙ sym (ap (λ u. folded next_of u (count_up (model_in l) (i + 1) (length l / 4 - (i + 1)))) (f ∙ ap (next_of s) e))
+from_next l s m i r h e f =
+    ap (folded next_of s) (up_one (model_in l) i (length l / 4) h)
+    ∙ ap (λ (x : Result Search SearchFault). at_ok x (λ t. from_here l t (i + 1))) (sym (f ∙ ap (next_of s) e))
 
--- a bad list stays as it is
-stays : (s : Search) (l : List Model) → s.bad ≡ true → folded next_of s l ≡ s
-stays s [] h = refl
-stays s (m ∷ l) h =
-    let e : s ≡ next_of s m = next_stays s m h in
-    ap (λ t. folded next_of t l) (sym e) ∙ stays s l h
+-- an entry has no fault but that it makes the list bad
+next_fault : (s : Search) (m : Model) (e : SearchFault) → Err e ≡ next_of s m → e ≡ SearchFault.BadList
+next_fault s m e h = by (bad_entry s m) refl
+  where
+    by : (b : Bool) → bad_entry s m ≡ b → e ≡ SearchFault.BadList
+    by true q = let z = next_bad s m q in cc
+    by false q = let z = next_good s m q in cc
 
 -- no type above 1 among the first
 abbrev small : List ℕ → ℕ → Bool
@@ -66,45 +68,41 @@ pub taken_none : (l : List ℕ) (u : Search) → length l % 4 ≡ 0 → Taken l 
 unfolding all_below
 taken_none l u h = record { whole = h; inside = omega arith; states = refl; types = refl }
 
-pub not_whole : (l : List ℕ) (u r : Search) → (length l % 4 ≡ 0 → ⊥) → r.bad ≡ true → Seen l u r
+pub not_whole : (l : List ℕ) (u : Search) → (length l % 4 ≡ 0 → ⊥) → Seen l u (Err SearchFault.BadList)
 unfolding good_numbers
-not_whole l u r h b = record {
-  bad = λ _. b;
+not_whole l u h = record {
+  bad = λ _. refl;
   good = λ g. both_ways g (ap (λ t. t && all_below (length l / 4) (λ i. leb (get_or l (4 * i + 2) 0) 1)) (ne_eqb (length l % 4) 0 h));
 }
 
 module _ {l : List ℕ} {u s : Search} {i : ℕ} (t : Taken l u s i) where
-  pub type_above : (r : Search) → i < length l / 4 → 1 < get_or l (4 * i + 2) 0 → r.bad ≡ true → Seen l u r
+  pub type_above : i < length l / 4 → 1 < get_or l (4 * i + 2) 0 → Seen l u (Err SearchFault.BadList)
   unfolding good_numbers
-  type_above r h k b = record {
-    bad = λ _. b;
+  type_above h k = record {
+    bad = λ _. refl;
     good = λ g.
         let all = and_right (eqb (length l % 4) 0) (all_below (length l / 4) (λ i. leb (get_or l (4 * i + 2) 0) 1)) g in
         both_ways ((all_below_iff (length l / 4) (λ i. leb (get_or l (4 * i + 2) 0) 1)).0 all i h) (lt-leb (get_or l (4 * i + 2) 0) 1 k);
   }
 
-  module _ (m : Model) (v : Search) (h : i < length l / 4) (e : m ≡ model_in l i) (f : v ≡ next_of s m) where
-    on : from_here l u 0 ≡ from_here l v (i + 1)
-    on = seen_next l u s v m i t.states h e f
-
-    pub list_spoilt : v.bad ≡ true → Seen l u v
+  module _ (m : Model) (h : i < length l / 4) (e : m ≡ model_in l i) where
+    pub list_spoilt : (f : SearchFault) → Err f ≡ next_of s m → Seen l u (Err f)
     unfolding from_here models_in
-    list_spoilt b = record {
-      bad = λ _. b;
-      good = λ _. sym (ap (folded next_of u) (sym (up_all (model_in l) (length l / 4))) ∙ on
-          ∙ stays v (count_up (model_in l) (i + 1) (length l / 4 - (i + 1))) b);
+    list_spoilt f k = record {
+      bad = λ _. ap (λ (x : SearchFault). Err x) (next_fault s m f k);
+      good = λ _. sym (ap (folded next_of u) (sym (up_all (model_in l) (length l / 4))) ∙ t.states ∙ from_next l s m i (Err f) h e k);
     }
 
-    pub taken_one : get_or l (4 * i + 2) 0 ≤ 1 → Taken l u v (i + 1)
+    pub taken_one : (v : Search) → Ok v ≡ next_of s m → get_or l (4 * i + 2) 0 ≤ 1 → Taken l u v (i + 1)
     unfolding all_below
-    taken_one k = record {
+    taken_one v f k = record {
       whole = t.whole;
       inside = omega arith;
-      states = on;
+      states = t.states ∙ from_next l s m i (Ok v) h e f;
       types = ap (λ n. all_below n (small l)) (add-one i) ∙ and_both (le-leb (get_or l (4 * i + 2) 0) 1 k) t.types;
     }
 
-  pub taken_all : length l / 4 ≤ i → Seen l u s
+  pub taken_all : length l / 4 ≤ i → Seen l u (Ok s)
   unfolding from_here models_in good_numbers
   taken_all h =
       let n : i ≡ length l / 4 = omega (arith, t.inside) in
@@ -118,118 +116,33 @@ module _ {l : List ℕ} {u s : Search} {i : ℕ} (t : Taken l u s i) where
 
 -- ---- What is answered.
 
-bad_told : (s : Search) → s.bad ≡ true → told_of s ≡ Told.BadList
-unfolding told_of
-bad_told s h = ap (λ b. cond b Told.BadList (cond (ltb s.tells 64) (Told.Is (leb 32 s.tells) (s.tells % 32)) Told.Nothing)) h
-
-bad_sought : (rs : List ℕ) (s : Search) (x : ℕ) (answer : Sought) → s.bad ≡ true → Finding rs s x answer → answer ≡ Sought.BadList
-unfolding list_outside first sought_number
-bad_sought rs s x answer h f = only answer (f.numbered ∙ ap (λ b. refusal ((b || past) || far)) h)
-  where
-    past : Bool
-    past = ltb s.most (s.first + s.count)
-
-    far : Bool
-    far = ltb (length rs) (s.from + s.size)
-
-    refusal : Bool → ℕ
-    refusal b = first (26 when b ∷ 19 when not (is_record x && any (eqb x) (own_records s rs)) ∷ [])
-
-    only : (a : Sought) → sought_number a ≡ 26 → a ≡ Sought.BadList
-    only (Sought.At n) e = absurd (omega arith)
-    only Sought.BadList e = refl
-    only Sought.Nowhere e = absurd (omega arith)
-
 module _ (l : List ℕ) where
-  pub tells_seen_numbers : (n : ℕ) (s t : Search) (answer : Told) → s ≡ begun n 0 0 → Seen l s t → answer ≡ told_of t
-      → TellsNumbers l n answer
-  tells_seen_numbers n s t answer e w g = record {
-    bad = λ h. g ∙ bad_told t (w.bad h);
-    good = λ h. tells_seen (models_in l) n 0 0 answer (g ∙ ap told_of (w.good h ∙ ap (λ u. folded next_of u (models_in l)) e));
+  pub tells_fault_numbers : (n : ℕ) (s : Search) (e : SearchFault) → s ≡ begun n 0 0 → Seen l s (Err e) → TellsNumbers l n (Err e)
+  tells_fault_numbers n s e b w = record {
+    bad = λ h. ap (λ (x : SearchFault). Err x) (let same : e ≡ SearchFault.BadList = (let z = w.bad h in cc) in same);
+    good = λ h. tells_fault (models_in l) n 0 0 e (sym (w.good h ∙ ap (λ u. folded next_of u (models_in l)) b));
   }
 
-  pub seeks_seen_numbers : (rs : List ℕ) (x : ℕ) (s t : Search) (answer : Sought) → s ≡ begun 0 (kind_of x) (length rs) → Seen l s t
-      → Finding rs t x answer → SeeksNumbers l rs x answer
-  seeks_seen_numbers rs x s t answer e w g = record {
-    bad = λ h. bad_sought rs t x answer (w.bad h) g;
-    good = λ h. seeks_seen (models_in l) rs x answer
-        (subst (λ (u : Search). Finding rs u x answer) (w.good h ∙ ap (λ u. folded next_of u (models_in l)) e) g);
+  pub tells_seen_numbers : (n : ℕ) (s t : Search) (answer : Result Told SearchFault) → s ≡ begun n 0 0 → Seen l s (Ok t)
+      → answer ≡ told_of t → TellsNumbers l n answer
+  tells_seen_numbers n s t answer b w g = record {
+    bad = λ h. absurd (let z = w.bad h in let no : ⊥ = cc in no);
+    good = λ h. tells_seen (models_in l) n 0 0 t (sym (w.good h ∙ ap (λ u. folded next_of u (models_in l)) b)) answer g;
   }
 
-pub ruleset asking = (tells_seen_numbers, seeks_seen_numbers)
+  module _ (rs : List ℕ) (x : ℕ) (s : Search) (b : s ≡ begun 0 (kind_of x) (length rs)) where
+    pub seeks_fault_numbers : (e : SearchFault) → Seen l s (Err e) → SeeksNumbers l rs x (Err e)
+    seeks_fault_numbers e w = record {
+      bad = λ h. ap (λ (y : SearchFault). Err y) (let same : e ≡ SearchFault.BadList = (let z = w.bad h in cc) in same);
+      good = λ h. seeks_fault (models_in l) rs x e (sym (w.good h ∙ ap (λ u. folded next_of u (models_in l)) b));
+    }
 
--- numbers of an answer
-module _ (a : Told) where
-  pub number_is : {v : Bool} {s : ℕ} → a ≡ Told.Is v s → 0 ≡ told_number a
-  unfolding told_number
-  number_is e = sym (ap told_number e)
-
-  pub number_bad : a ≡ Told.BadList → 26 ≡ told_number a
-  unfolding told_number
-  number_bad e = sym (ap told_number e)
-
-  pub number_nothing : a ≡ Told.Nothing → 19 ≡ told_number a
-  unfolding told_number
-  number_nothing e = sym (ap told_number e)
-
-  pub type_is : {v : Bool} {s r : ℕ} → a ≡ Told.Is v s → r ≡ cond v 1 0 → r ≡ cond (told_voxels a) 1 0
-  unfolding told_voxels
-  type_is e f = f ∙ sym (ap (λ t. cond (told_voxels t) 1 0) e)
-
-  pub type_bad : a ≡ Told.BadList → ◌≡◌ {A = ℕ} 0 (cond (told_voxels a) 1 0)
-  unfolding told_voxels
-  type_bad e = sym (ap (λ t. cond (told_voxels t) 1 0) e)
-
-  pub type_nothing : a ≡ Told.Nothing → ◌≡◌ {A = ℕ} 0 (cond (told_voxels a) 1 0)
-  unfolding told_voxels
-  type_nothing e = sym (ap (λ t. cond (told_voxels t) 1 0) e)
-
-  pub structure_is : {v : Bool} {s : ℕ} → a ≡ Told.Is v s → s ≡ told_structure a
-  unfolding told_structure
-  structure_is e = sym (ap told_structure e)
-
-  pub structure_bad : a ≡ Told.BadList → 0 ≡ told_structure a
-  unfolding told_structure
-  structure_bad e = sym (ap told_structure e)
-
-  pub structure_nothing : a ≡ Told.Nothing → 0 ≡ told_structure a
-  unfolding told_structure
-  structure_nothing e = sym (ap told_structure e)
-
-module _ (a : Sought) where
-  pub sought_at : {i : Index} → a ≡ Sought.At i → 0 ≡ sought_number a
-  unfolding sought_number
-  sought_at e = sym (ap sought_number e)
-
-  pub sought_bad : a ≡ Sought.BadList → 26 ≡ sought_number a
-  unfolding sought_number
-  sought_bad e = sym (ap sought_number e)
-
-  pub sought_nowhere : a ≡ Sought.Nowhere → 19 ≡ sought_number a
-  unfolding sought_number
-  sought_nowhere e = sym (ap sought_number e)
-
-  pub index_at : {i : Index} → a ≡ Sought.At i → i.0 ≡ sought_index a
-  unfolding sought_index
-  index_at e = sym (ap sought_index e)
-
-  pub index_bad : a ≡ Sought.BadList → 0 ≡ sought_index a
-  unfolding sought_index
-  index_bad e = sym (ap sought_index e)
-
-  pub index_nowhere : a ≡ Sought.Nowhere → 0 ≡ sought_index a
-  unfolding sought_index
-  index_nowhere e = sym (ap sought_index e)
-
-pub ruleset told_numbers = (number_is, number_bad, number_nothing)
-
-pub ruleset told_types = (type_is, type_bad, type_nothing)
-
-pub ruleset told_structures = (structure_is, structure_bad, structure_nothing)
-
-pub ruleset sought_numbers = (sought_at, sought_bad, sought_nowhere)
-
-pub ruleset sought_indices = (index_at, index_bad, index_nowhere)
+    pub seeks_seen_numbers : (t : Search) (answer : Result Index SearchFault) → Seen l s (Ok t) → Finding rs t x answer
+        → SeeksNumbers l rs x answer
+    seeks_seen_numbers t answer w g = record {
+      bad = λ h. absurd (let z = w.bad h in let no : ⊥ = cc in no);
+      good = λ h. seeks_seen (models_in l) rs x t (sym (w.good h ∙ ap (λ u. folded next_of u (models_in l)) b)) answer g;
+    }
 
 -- ---- Making.
 
@@ -243,77 +156,56 @@ unfolding numbers_of each_in
 numbers_long [] = refl
 numbers_long (m ∷ ms) = let h = numbers_long ms in omega arith
 
--- the first i runs are written
-pub written : List ℕ → Made → ℕ → List ℕ
-written l made i = wrote 0 (numbers_of (tabulated i (model_at made))) l
+-- the first i models are written
+pub written : List ℕ → List Model → ℕ → List ℕ
+written l ms i = wrote 0 (numbers_of (take i ms)) l
 
-pub written_none : (l : List ℕ) (made : Made) → l ≡ written l made 0
-unfolding written numbers_of each_in tabulated count_up
-written_none l made = sym (wrote_none 0 l)
+pub written_none : (l : List ℕ) (ms : List Model) → l ≡ written l ms 0
+unfolding written numbers_of each_in
+written_none l ms = sym (wrote_none 0 l)
 
-pub written_long : (l k : List ℕ) (made : Made) (i : ℕ) → k ≡ written l made i → 4 * i ≤ length l → length k ≡ length l
-unfolding written
-written_long l k made i e h =
-    let n = numbers_long (tabulated i (model_at made)) in
-    let t = size_of_table (model_at made) i in
-    ap length e ∙ length_wrote 0 (numbers_of (tabulated i (model_at made))) l (omega arith)
+module _ (l k : List ℕ) (ms : List Model) (i : ℕ) (e : k ≡ written l ms i) (h : 4 * length ms ≤ length l) where
+  taken_long : i ≤ length ms → length (numbers_of (take i ms)) ≡ 4 * i
+  taken_long u = numbers_long (take i ms) ∙ ap (λ n. 4 * n) (length-take-le i ms u)
 
-pub written_next : (l k j row : List ℕ) (made : Made) (i : ℕ) → k ≡ written l made i → 4 * made.count ≤ length l → i < made.count
-    → row ≡ four (model_at made i) → j ≡ wrote (4 * i) row k → j ≡ written l made (i + 1)
-unfolding written
-written_next l k j row made i e h u f g =
-    let ms : List Model = tabulated i (model_at made) in
-    let n = numbers_long ms in
-    let t = size_of_table (model_at made) i in
-    g ∙ ap (λ r. wrote (4 * i) r k) f ∙ ap (λ s. wrote (4 * i) (four (model_at made i)) s) e
-    ∙ wrote_on 0 (4 * i) (numbers_of ms) (four (model_at made i)) l (omega arith) (omega arith)
-    ∙ ap (λ s. wrote 0 s l) (sym (numbers_snoc ms (model_at made i)) ∙ ap numbers_of (sym (table_snoc (model_at made) i) ∙ ap (λ c. tabulated c
-    (model_at made)) (sym (add-one i))))
+  pub written_long : i ≤ length ms → length k ≡ length l
+  unfolding written
+  written_long u = ap length e ∙ length_wrote 0 (numbers_of (take i ms)) l (omega (arith, taken_long u))
 
-pub written_all : (l k : List ℕ) (made : Made) (i : ℕ) → k ≡ written l made i → i ≤ made.count → made.count ≤ i
-    → k ≡ wrote 0 (numbers_of (tabulated made.count (model_at made))) l
-unfolding written
-written_all l k made i e h u = let z : i ≡ made.count = omega arith in e ∙ ap (λ c. wrote 0 (numbers_of (tabulated c (model_at made))) l) z
+  -- the next four numbers fit
+  pub fits_row : (row : List ℕ) (m : Model) → i < length ms → row ≡ four m → 4 * i + length row ≤ length k
+  fits_row row m u f = omega (arith, written_long (omega arith), ap length f)
+
+  pub written_next : (row j : List ℕ) (m : Model) → i < length ms → m ≡ get_or ms i no_model → row ≡ four m → j ≡ wrote (4 * i) row k
+      → j ≡ written l ms (i + 1)
+  unfolding written
+  written_next row j m u q f g =
+      g ∙ ap (λ r. wrote (4 * i) r k) (f ∙ ap four q) ∙ ap (λ s. wrote (4 * i) (four (get_or ms i no_model)) s) e
+      ∙ wrote_on 0 (4 * i) (numbers_of (take i ms)) (four (get_or ms i no_model)) l (omega (arith, taken_long (omega arith)))
+      (omega (arith, taken_long (omega arith)))
+      ∙ ap (λ s. wrote 0 s l)
+      (sym (numbers_snoc (take i ms) (get_or ms i no_model))
+      ∙ ap numbers_of (sym (take-suc ms i no_model u) ∙ ap (λ n. take n ms) (sym (add-one i))))
+
+  pub written_all : length ms ≤ i → k ≡ wrote 0 (numbers_of ms) l
+  unfolding written
+  written_all u = e ∙ ap (λ s. wrote 0 (numbers_of s) l) (take_all i ms u)
+
+pub ruleset writing = (written_none, written_next, written_all, fits_row, written_long)
 
 -- what was made and written is what is promised
-pub lists_numbers : (rs before after : List ℕ) (made : Made) → MadeOf rs (length before / 4) made
-    → after ≡ wrote 0 (numbers_of (tabulated made.count (model_at made))) before
-    → ListsNumbers rs before (record { number = made.number; value = made.count }) after
-unfolding numbers_of each_in tabulated count_up
-lists_numbers rs before after made o e = record {
-  answers = λ i. record { number = o.numbered i; value = value i };
-  holds = ⊎_elim fills same (eq? made.number 0);
-}
-  where
-    count_is : made.number ≡ 0 → made.count ≡ length (runs rs)
-    count_is z = sym (size_of_table (model_at made) made.count) ∙ ap length (o.holding z)
+module _ (rs before : List ℕ) where
+  pub lists_numbers_fault : (e : ListFault) → MadeOf rs (length before / 4) (Err e) → ListsNumbers rs before (Err e) before
+  lists_numbers_fault e o =
+      let z : eqb (list_fault_number e) 0 ≡ false = ne_eqb (list_fault_number e) 0 (fault_not_0 e) in
+      record {
+        numbered = o.numbered;
+        counted = sym (ap (λ b. cond b (length (runs rs)) 0) z);
+        holds = sym (ap (λ b. cond b (wrote 0 (numbers_of (runs rs)) before) before) z);
+      }
 
-    counts : made.number ≡ 0 → made.count ≡ unless made.number (length (runs rs)) 0
-    counts z = count_is z ∙ sym (ap (λ k. unless k (length (runs rs)) 0) z)
-
-    none : (made.number ≡ 0 → ⊥) → made.count ≡ unless made.number (length (runs rs)) 0
-    none z = o.none z ∙ sym (ap (λ b. cond b (length (runs rs)) 0) (ne_eqb made.number 0 z))
-
-    value : made.count ≡ unless (list_refusal rs (length before / 4)) (length (runs rs)) 0
-    value = ⊎_elim counts none (eq? made.number 0) ∙ ap (λ k. unless k (length (runs rs)) 0) o.numbered
-
-    fills : made.number ≡ 0 → after ≡ unless made.number (wrote 0 (numbers_of (runs rs)) before) before
-    fills z =
-        e ∙ ap (λ l. wrote 0 (numbers_of l) before) (o.holding z)
-        ∙ sym (ap (λ k. unless k (wrote 0 (numbers_of (runs rs)) before) before) z)
-
-    same : (made.number ≡ 0 → ⊥) → after ≡ unless made.number (wrote 0 (numbers_of (runs rs)) before) before
-    same z =
-        e ∙ ap (λ c. wrote 0 (numbers_of (tabulated c (model_at made))) before) (o.none z) ∙ wrote_none 0 before
-        ∙ sym (ap (λ b. cond b (wrote 0 (numbers_of (runs rs)) before) before) (ne_eqb made.number 0 z))
-
--- the next four numbers fit, and the list stays as long
-pub fits_row : (l k row : List ℕ) (made : Made) (i : ℕ) → k ≡ written l made i → 4 * made.count ≤ length l → i < made.count
-    → row ≡ four (model_at made i) → 4 * i + length row ≤ length k
-fits_row l k row made i e h u f = omega (arith, written_long l k made i e (omega arith), ap length f)
-
-pub same_long : (l k : List ℕ) (made : Made) (i : ℕ) → k ≡ written l made i → 4 * made.count ≤ length l → i ≤ made.count
-    → length k ≡ length l
-same_long l k made i e h u = written_long l k made i e (omega arith)
-
-pub ruleset writing = (written_none, written_next, written_all, fits_row, same_long)
+  pub lists_numbers : (after : List ℕ) (made : Made) → MadeOf rs (length before / 4) (Ok made)
+      → after ≡ wrote 0 (numbers_of (made_models made)) before → ListsNumbers rs before (Ok made.count) after
+  lists_numbers after made o e =
+      let h = o.holding made refl in
+      record { numbered = o.numbered; counted = runs_counted h; holds = e ∙ ap (λ l. wrote 0 (numbers_of l) before) h.holding }

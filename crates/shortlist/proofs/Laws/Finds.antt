@@ -26,7 +26,9 @@ use Rattle.shortlist.proofs.Laws.Answers.{none_past}
 use Rattle.records.proofs.Laws.Unique.{same_place}
 use Rattle.shortlist.proofs.Laws.Theorems.{WasMade, HeldAs, list_good, held_as}
 use Rattle.shortlist.specs.declared.answer.Model.{Model}
-use Rattle.shortlist.specs.declared.answer.Sought.{Sought}
+use Rattle.shortlist.specs.declared.answer.SearchFault.{SearchFault}
+use Rattle.records.specs.declared.counters.Index.{Index}
+use Rattle.std.specs.Prelude.{Result}
 
 -- ---- The entry that holds an index of a kind is the entry of the kind, where no kind comes twice.
 
@@ -43,7 +45,7 @@ the_among p q (m ∷ l) h k = by (p m) refl h (the_among p q l)
 
 own_is : (n k : ℕ) (l : List Model) → two_of of_one_kind l ≡ false → any (holds_index n) l ≡ true → kind_in (the_model (holds_index n) l) ≡ k
     → the_model (of_kind k) l ≡ the_model (holds_index n) l
-unfolding any two_of of_one_kind of_kind
+unfolding any two_of of_one_kind
 own_is n k [] a h e = both_ways h refl
 own_is n k (m ∷ l) a h e = by (holds_index n m) refl h (own_is n k l (or_right (any (of_one_kind m) l) (two_of of_one_kind l) a))
   where
@@ -156,7 +158,7 @@ module _ (rs : List ℕ) (made : WasMade rs) (x : ℕ) where
       ap (λ b. first (26 when b ∷ 19 when not (is_record x && any (eqb x) (own_stretch (runs rs) rs x)) ∷ [])) (or_neither g.not_bad g.not_past)
       ∙ ap (λ b. first (19 when not b ∷ [])) same_test
 
-  place_is : (answer : Sought) (p : ℕ) → Seeks (runs rs) rs x answer → FirstPlace rs x p → sought_number answer ≡ 0
+  place_is : (answer : Result Index SearchFault) (p : ℕ) → Seeks (runs rs) rs x answer → FirstPlace rs x p → sought_number answer ≡ 0
       → sought_index answer ≡ p
   unfolding own
   place_is answer p s f z =
@@ -167,7 +169,7 @@ module _ (rs : List ℕ) (made : WasMade rs) (x : ℕ) where
       w.index_is ∙ ap (λ n. own.first.0 + n) e ∙ i
 
   -- number and place, of any answer that is allowed
-  pub list_finds : (answer : Sought) (f : RecordFound) → Seeks (runs rs) rs x answer → Finds rs x f
+  pub list_finds : (answer : Result Index SearchFault) (f : RecordFound) → Seeks (runs rs) rs x answer → Finds rs x f
       → (sought_number answer ≡ f.number) × (sought_index answer ≡ f.place.0)
   list_finds answer f s h =
       let n : sought_number answer ≡ f.number = s.numbered ∙ finds_number ∙ sym h.numbered in (

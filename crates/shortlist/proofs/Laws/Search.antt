@@ -1,6 +1,7 @@
 -- WHAT HAS BEEN SEEN OF A LIST is what is true of it: whether it is bad, whether an entry reaches past the records, the entry that holds
 -- the index, and the entry of the kind. Assumes nothing.
 use Rattle.std.specs.Prelude.{◌≡◌, List, [], ◌∷◌, Bool, cond, not, ◌&&◌, ◌||◌, ℕ, ◌+◌, ◌-◌, ◌^◌, ◌<◌, leb, ltb, get_or}
+use Rattle.std.specs.Prelude.{Some, None, Result, Ok, Err}
 use Rattle.std.proofs.Math.Path.{refl, sym, ap}
 use Rattle.std.proofs.Common.{◌∙◌, subst, arith}
 use Rattle.std.proofs.Math.Bool.{true, false}
@@ -10,10 +11,12 @@ use Rattle.lists.specs.Lists.{any, those, two_of}
 use Rattle.lists.proofs.Laws.Booleans.{or_left, or_right, or_first, or_true, or_false, or_neither, and_right, and_halves, both_ways}
 use Rattle.shortlist.specs.Runs.{kind_in, of_one_kind}
 use Rattle.shortlist.specs.Asking.{empty, no_structure, past_end, runs_on_from, bad_list, holds_index, of_kind, the_model, no_model}
-use Rattle.shortlist.specs.Search.{bit_set, begun, follows, bad_entry, spoilt, with_entry, next_of, folded}
+use Rattle.shortlist.specs.Asking.{told_in}
+use Rattle.shortlist.specs.Search.{bit_set, begun, follows, bad_entry, with_entry, next_of, at_ok, folded}
 use Rattle.shortlist.proofs.Laws.Named.{is_named, again, again_new, again_old, again_done, again_first}
 use Rattle.shortlist.proofs.Laws.Bits.{bit_adds, bits_empty}
 use Rattle.shortlist.specs.declared.answer.Model.{Model}
+use Rattle.shortlist.specs.declared.answer.SearchFault.{SearchFault}
 use Rattle.shortlist.specs.declared.state.Search.{Search}
 
 -- ---- One entry.
@@ -92,44 +95,32 @@ fresh_entry s m h = or_right (not (follows s m)) _ (or_right (empty m) _ (or_rig
 
 -- ---- The whole list.
 
-stays_bad : (s : Search) (l : List Model) → s.bad ≡ true → (folded next_of s l).bad ≡ true
+pub next_bad : (s : Search) (m : Model) → bad_entry s m ≡ true → next_of s m ≡ Err SearchFault.BadList
 unfolding next_of
-stays_bad s [] h = h
-stays_bad s (m ∷ l) h = stays_bad (next_of s m) l (rw h)
+next_bad s m h = rw h
 
-next_bad : (s : Search) (m : Model) → bad_entry s m ≡ true → (next_of s m).bad ≡ true
+pub next_good : (s : Search) (m : Model) → bad_entry s m ≡ false → next_of s m ≡ Ok (with_entry s m)
 unfolding next_of
-next_bad s m h = by (s.bad || bad_entry s m) (rw (h, or_true s.bad))
-  where
-    by : (b : Bool) → b ≡ true → (cond b (spoilt s) (with_entry s m)).bad ≡ true
-    by b e = rw e
+next_good s m h = rw h
 
-next_good : (s : Search) (m : Model) → s.bad ≡ false → bad_entry s m ≡ false → next_of s m ≡ with_entry s m
-unfolding next_of
-next_good s m g h = ap (λ b. cond b (spoilt s) (with_entry s m)) (or_neither g h)
+-- one entry before the others
+after_next : (s : Search) (m : Model) (l : List Model) (r : Result Search SearchFault) → next_of s m ≡ r
+    → folded next_of s (m ∷ l) ≡ at_ok r (λ t. folded next_of t l)
+after_next s m l r e = ap (λ (x : Result Search SearchFault). at_ok x (λ t. folded next_of t l)) e
 
--- how many records there are is not changed
-pub asked : (s : Search) (l : List Model) → (folded next_of s l).most ≡ s.most
-unfolding next_of with_entry
-asked s [] = refl
-asked s (m ∷ l) = asked (next_of s m) l ∙ one (s.bad || bad_entry s m)
-  where
-    one : (b : Bool) → (cond b (spoilt s) (with_entry s m)).most ≡ s.most
-    one true = refl
-    one false = refl
-
--- whether the list is bad
-seen_bad : (s : Search) (l : List Model) → s.bad ≡ false
-    → (folded next_of s l).bad ≡ bad_from (s.first + s.count) (bit_set s.named) l
+-- a bad list is told as such
+seen_bad : (s : Search) (l : List Model) → bad_from (s.first + s.count) (bit_set s.named) l ≡ true
+    → folded next_of s l ≡ Err SearchFault.BadList
 unfolding with_entry
-seen_bad s [] g = g ∙ sym (bad_done (s.first + s.count) (bit_set s.named))
-seen_bad s (m ∷ l) g = by (bad_entry s m) refl (seen_bad (with_entry s m) l g)
+seen_bad s [] h = both_ways h (bad_done (s.first + s.count) (bit_set s.named))
+seen_bad s (m ∷ l) h = by (bad_entry s m) refl (seen_bad (with_entry s m) l)
   where
     by : (b : Bool) → bad_entry s m ≡ b
-        → (folded next_of (with_entry s m) l).bad ≡ bad_from (m.first.0 + m.count) (bit_set (s.named + 2 ^ kind_in m)) l
-        → (folded next_of (next_of s m) l).bad ≡ bad_from (s.first + s.count) (bit_set s.named) (m ∷ l)
-    by true e ih = stays_bad (next_of s m) l (next_bad s m e) ∙ sym (bad_here s m l e)
-    by false e ih = ap (λ t. (folded next_of t l).bad) (next_good s m g e) ∙ ih ∙ sym (good_here s m l e)
+        → (bad_from (m.first.0 + m.count) (bit_set (s.named + 2 ^ kind_in m)) l ≡ true
+        → folded next_of (with_entry s m) l ≡ Err SearchFault.BadList)
+        → folded next_of s (m ∷ l) ≡ Err SearchFault.BadList
+    by true e ih = after_next s m l (Err SearchFault.BadList) (next_bad s m e)
+    by false e ih = after_next s m l (Ok (with_entry s m)) (next_good s m e) ∙ ih (sym (good_here s m l e) ∙ h)
 
 -- the first that passes
 pub the_cons : (p : Model → Bool) (m : Model) (l : List Model) → the_model p (m ∷ l) ≡ cond (p m) m (the_model p l)
@@ -153,9 +144,9 @@ the_or f p (m ∷ l) z = by (p m) (the_or f p l z)
     by false e = e
 
 -- of the entries that pass, where the first is alone the last that was noted is the first
-last_first : (p : Model → Bool) (f : Model → ℕ) (m : Model) (l : List Model) (x : ℕ) → (p m ≡ true → any p l ≡ false)
+last_first : {A : Type 0} (p : Model → Bool) (f : Model → A) (m : Model) (l : List Model) (x : A) → (p m ≡ true → any p l ≡ false)
     → cond (any p l) (f (the_model p l)) (cond (p m) (f m) x) ≡ cond (p m || any p l) (f (the_model p (m ∷ l))) x
-last_first p f m l x alone =
+last_first {A} p f m l x alone =
     by (p m) (any p l) alone ∙ ap (λ n. cond (p m || any p l) (f n) x) (sym (the_cons p m l))
   where
     by : (a b : Bool) → (a ≡ true → b ≡ false)
@@ -184,7 +175,7 @@ held_once n m l h k =
 
 -- a kind that has been named is named by no later entry
 kind_once : (named : ℕ → Bool) (k : ℕ) (l : List Model) → again named l ≡ false → named k ≡ true → any (of_kind k) l ≡ false
-unfolding again is_named of_kind any
+unfolding again is_named any
 kind_once named k l h e = go l (or_left (any (is_named named) l) _ h)
   where
     one : (m : Model) → is_named named m ≡ false → of_kind k m ≡ false
@@ -196,14 +187,21 @@ kind_once named k l h e = go l (or_left (any (is_named named) l) _ h)
 
 -- what else has been seen of a list that is not bad
 pub record Sees (s : Search) (l : List Model) (t : Search) : Type 0 where
+  pub asked : t.most ≡ s.most
   pub past_is : ltb s.most (t.first + t.count) ≡ (ltb s.most (s.first + s.count) || any (past_end s.most) l)
-  pub tells_is : t.tells ≡ cond (any (holds_index s.index.0) l) (kind_in (the_model (holds_index s.index.0) l)) s.tells
+  pub tells_is : t.tells ≡ cond (any (holds_index s.index.0) l) (Some (told_in (the_model (holds_index s.index.0) l))) s.tells
   pub from_is : t.from ≡ cond (any (of_kind s.kind) l) (the_model (of_kind s.kind) l).first.0 s.from
   pub size_is : t.size ≡ cond (any (of_kind s.kind) l) (the_model (of_kind s.kind) l).count s.size
 
 sees_none : (s : Search) → Sees s [] s
 unfolding any
-sees_none s = record { past_is = sym (or_false (ltb s.most (s.first + s.count))); tells_is = refl; from_is = refl; size_is = refl }
+sees_none s = record {
+  asked = refl;
+  past_is = sym (or_false (ltb s.most (s.first + s.count)));
+  tells_is = refl;
+  from_is = refl;
+  size_is = refl;
+}
 
 -- one entry before those seen
 module _ (s : Search) (m : Model) (l : List Model) (t : Search) (good : bad_entry s m ≡ false)
@@ -225,7 +223,6 @@ module _ (s : Search) (m : Model) (l : List Model) (t : Search) (good : bad_entr
       (or_right (not (runs_on_from (m.first.0 + m.count) l)) _ (or_right (any empty l) _ later))
 
   own_once : of_kind s.kind m ≡ true → any (of_kind s.kind) l ≡ false
-  unfolding of_kind
   own_once e =
       let k : kind_in m ≡ s.kind = eqb-true (kind_in m) s.kind e in
       kind_once (bit_set (s.named + 2 ^ kind_in m)) s.kind l not_again
@@ -248,63 +245,80 @@ module _ (s : Search) (m : Model) (l : List Model) (t : Search) (good : bad_entr
   sees_more : Sees s (m ∷ l) t
   unfolding with_entry any past_end
   sees_more = record {
+    asked = h.asked;
     past_is = h.past_is ∙ more_past;
-    tells_is = h.tells_is ∙ last_first (holds_index s.index.0) kind_in m l s.tells (held_once s.index.0 m l runs_on_lem);
+    tells_is = h.tells_is ∙ last_first (holds_index s.index.0) (λ n. Some (told_in n)) m l s.tells (held_once s.index.0 m l runs_on_lem);
     from_is = h.from_is ∙ last_first (of_kind s.kind) (λ n. n.first.0) m l s.from own_once;
     size_is = h.size_is ∙ last_first (of_kind s.kind) (λ n. n.count) m l s.size own_once;
   }
 
-taken_bad : (s : Search) (m : Model) → (with_entry s m).bad ≡ s.bad
-unfolding with_entry
-taken_bad s m = refl
+-- a state that has seen all of a list
+abbrev pub Seeing : Search → List Model → Type 0
+Seeing s l = (t : Search) × (folded next_of s l ≡ Ok t) × Sees s l t
 
-seen_all : (s : Search) (l : List Model) → s.bad ≡ false → (folded next_of s l).bad ≡ false → Sees s l (folded next_of s l)
-unfolding with_entry kind_in
-seen_all s [] g h = sees_none s
-seen_all s (m ∷ l) g h =
-    by (bad_entry s m) refl (seen_all (with_entry s m) l (taken_bad s m ∙ g)) (seen_bad (with_entry s m) l (taken_bad s m ∙ g))
+seen_all : (s : Search) (l : List Model) → bad_from (s.first + s.count) (bit_set s.named) l ≡ false → Seeing s l
+unfolding with_entry
+seen_all s [] h = (s, refl, sees_none s)
+seen_all s (m ∷ l) h = by (bad_entry s m) refl (seen_all (with_entry s m) l)
   where
     by : (b : Bool) → bad_entry s m ≡ b
-        → ((folded next_of (with_entry s m) l).bad ≡ false → Sees (with_entry s m) l (folded next_of (with_entry s m) l))
-        → (folded next_of (with_entry s m) l).bad ≡ bad_from (m.first.0 + m.count) (bit_set (s.named + 2 ^ kind_in m)) l
-        → Sees s (m ∷ l) (folded next_of (next_of s m) l)
-    by true e ih u = both_ways (stays_bad (next_of s m) l (next_bad s m e)) h
-    by false e ih u =
-        let n = next_good s m g e in
-        let c : (folded next_of (with_entry s m) l).bad ≡ false = ap (λ t. (folded next_of t l).bad) (sym n) ∙ h in
-        subst (λ (t : Search). Sees s (m ∷ l) (folded next_of t l)) (sym n)
-        (sees_more s m l (folded next_of (with_entry s m) l) e (sym u ∙ c) (ih c))
+        → (bad_from (m.first.0 + m.count) (bit_set (s.named + 2 ^ kind_in m)) l ≡ false → Seeing (with_entry s m) l)
+        → Seeing s (m ∷ l)
+    by true e ih = both_ways (bad_here s m l e) h
+    by false e ih =
+        let later = sym (good_here s m l e) ∙ h in
+        let (t, u, v) = ih later in
+        (t, after_next s m l (Ok (with_entry s m)) (next_good s m e) ∙ u, sees_more s m l t e later v)
 
 -- ---- FROM THE BEGINNING.
 
 module _ (n k most : ℕ) (l : List Model) where
-  abbrev last : Search
-  last = folded next_of (begun n k most) l
-
-  pub bad_is : last.bad ≡ bad_list l
+  bad_is : bad_from 0 (bit_set 0) l ≡ bad_list l
   unfolding bad_from bad_list
   bad_is =
       let e : again (bit_set 0) l ≡ two_of of_one_kind l = again_first (bit_set 0) l bits_empty in
-      seen_bad (begun n k most) l refl ∙ ap (λ t. any empty l || (not (runs_on_from 0 l) || (t || any no_structure l))) e
+      ap (λ t. any empty l || (not (runs_on_from 0 l) || (t || any no_structure l))) e
 
-  seen_is : bad_list l ≡ false → Sees (begun n k most) l last
-  seen_is h = seen_all (begun n k most) l refl (bad_is ∙ h)
+  pub list_bad : bad_list l ≡ true → folded next_of (begun n k most) l ≡ Err SearchFault.BadList
+  list_bad h = seen_bad (begun n k most) l (bad_is ∙ h)
 
-  module _ (h : bad_list l ≡ false) where
-    pub past_seen : ltb most (last.first + last.count) ≡ any (past_end most) l
-    past_seen = (seen_is h).past_is ∙ ap (λ b. b || any (past_end most) l) (le-ltb most (0 + 0) (omega arith))
+  list_seen : bad_list l ≡ false → Seeing (begun n k most) l
+  list_seen h = seen_all (begun n k most) l (bad_is ∙ h)
 
-    pub tells_one : any (holds_index n) l ≡ true → last.tells ≡ kind_in (the_model (holds_index n) l)
-    tells_one e = (seen_is h).tells_is ∙ ap (λ b. cond b (kind_in (the_model (holds_index n) l)) 64) e
+  -- a fault is that the list is bad
+  pub fault_is : (e : SearchFault) → folded next_of (begun n k most) l ≡ Err e → (bad_list l ≡ true) × (e ≡ SearchFault.BadList)
+  fault_is e h = by (bad_list l) refl
+    where
+      by : (b : Bool) → bad_list l ≡ b → (bad_list l ≡ true) × (e ≡ SearchFault.BadList)
+      by true q = let u = list_bad q in (q, cc)
+      by false q = let (t, u, v) = list_seen q in absurd (let z : ⊥ = cc in z)
 
-    pub tells_none : any (holds_index n) l ≡ false → last.tells ≡ 64
-    tells_none e = (seen_is h).tells_is ∙ ap (λ b. cond b (kind_in (the_model (holds_index n) l)) 64) e
+  -- what has been seen is what is true of a list that is not bad
+  pub seen_is : (t : Search) → folded next_of (begun n k most) l ≡ Ok t → (bad_list l ≡ false) × Sees (begun n k most) l t
+  seen_is t h = by (bad_list l) refl
+    where
+      by : (b : Bool) → bad_list l ≡ b → (bad_list l ≡ false) × Sees (begun n k most) l t
+      by true q = let u = list_bad q in absurd (let z : ⊥ = cc in z)
+      by false q =
+          let (x, u, v) = list_seen q in
+          let same : x ≡ t = cc in
+          (q, subst (Sees (begun n k most) l) same v)
 
-    pub from_seen : last.from ≡ (the_model (of_kind k) l).first.0
-    from_seen = (seen_is h).from_is ∙ the_or (λ m. m.first.0) (of_kind k) l refl
+  module _ (t : Search) (w : Sees (begun n k most) l t) where
+    pub past_seen : ltb most (t.first + t.count) ≡ any (past_end most) l
+    past_seen = w.past_is ∙ ap (λ b. b || any (past_end most) l) (le-ltb most (0 + 0) (omega arith))
 
-    pub size_seen : last.size ≡ (the_model (of_kind k) l).count
-    size_seen = (seen_is h).size_is ∙ the_or (λ m. m.count) (of_kind k) l refl
+    pub tells_one : any (holds_index n) l ≡ true → t.tells ≡ Some (told_in (the_model (holds_index n) l))
+    tells_one e = w.tells_is ∙ ap (λ b. cond b (Some (told_in (the_model (holds_index n) l))) None) e
+
+    pub tells_none : any (holds_index n) l ≡ false → t.tells ≡ None
+    tells_none e = w.tells_is ∙ ap (λ b. cond b (Some (told_in (the_model (holds_index n) l))) None) e
+
+    pub from_seen : t.from ≡ (the_model (of_kind k) l).first.0
+    from_seen = w.from_is ∙ the_or (λ m. m.first.0) (of_kind k) l refl
+
+    pub size_seen : t.size ≡ (the_model (of_kind k) l).count
+    size_seen = w.size_is ∙ the_or (λ m. m.count) (of_kind k) l refl
 
 -- what no entry has, the one that is asked for has not
 pub the_has_not : (p q : Model → Bool) (l : List Model) → any q l ≡ false → q no_model ≡ false → q (the_model p l) ≡ false

@@ -1,6 +1,7 @@
 -- A LIST THAT WAS MADE OF RECORDS: it is not bad, its ranges end at the number of records, it tells each record's type and structure, and
 -- it finds each record where `find` does. Assumes nothing.
 use Rattle.std.specs.Prelude.{◌≡◌, refl, List, [], ◌∷◌, Bool, cond, ◌||◌, ℕ, zero, suc, ◌+◌, ◌%◌, ◌<◌, ◌≤◌, eqb, leb, ltb, length, get_or}
+use Rattle.std.specs.Prelude.{Result, Ok, Err}
 use Rattle.std.proofs.Math.Path.{sym}
 use Rattle.std.proofs.Common.{ap, ◌∙◌, subst, arith, eqb-true, eq-eqb, ne_eqb, le-leb, lt-ltb, le-ltb, leb-true}
 use Rattle.std.proofs.Math.Bool.{true, false, not}
@@ -16,12 +17,13 @@ use Rattle.shortlist.specs.Runs.{most_structure, kind_of, kind_in, alone, longer
 use Rattle.shortlist.specs.Runs.{comes_back}
 use Rattle.shortlist.specs.Making.{list_refusal}
 use Rattle.shortlist.specs.Asking.{empty, no_structure, past_end, runs_on_from, bad_list, holds_index, the_model}
-use Rattle.shortlist.specs.Asking.{told_number, told_voxels, told_structure, tell_refusal, Tells}
+use Rattle.shortlist.specs.Asking.{tell_refusal, Tells}
 use Rattle.shortlist.proofs.Laws.Runs.{kind_parts, structure_small}
 use Rattle.shortlist.proofs.Laws.Search.{the_cons}
 use Rattle.shortlist.proofs.Laws.Unique.{told_unique}
 use Rattle.shortlist.specs.declared.answer.Model.{Model}
 use Rattle.shortlist.specs.declared.answer.Told.{Told}
+use Rattle.shortlist.specs.declared.answer.SearchFault.{SearchFault}
 
 -- what follows from a list that was made
 pub record WasMade (rs : List ℕ) : Type 0 where
@@ -221,25 +223,29 @@ unfolding runs runs_from any
 held_not [] n h = refl
 held_not (r ∷ rs) n h = held_none rs (alone 0 r) n (omega arith)
 
+-- what is told of a record
+abbrev pub told_record : ℕ → Told
+told_record r = record { voxels = is_voxel r; structure = structure_of r }
+
 -- LIST-TELLS: of any answer that is allowed. At each index it is the type and structure of its record, and from the end on nothing
-module _ (rs : List ℕ) (is_made : WasMade rs) (n : ℕ) (answer : Told) (told : Tells (runs rs) n answer) where
-  pub list_tells : n < length rs → answer ≡ Told.Is (is_voxel (get_or rs n 0)) (structure_of (get_or rs n 0))
-  unfolding told_number told_voxels told_structure tell_refusal
+module _ (rs : List ℕ) (is_made : WasMade rs) (n : ℕ) (answer : Result Told SearchFault) (told : Tells (runs rs) n answer) where
+  pub list_tells : n < length rs → answer ≡ Ok (told_record (get_or rs n 0))
+  unfolding tell_refusal
   list_tells h =
       let k = held_as rs n h in
-      let w : Tells (runs rs) n (Told.Is (is_voxel (get_or rs n 0)) (structure_of (get_or rs n 0))) = record {
+      let w : Tells (runs rs) n (Ok (told_record (get_or rs n 0))) = record {
         numbered = sym (gives_first (passes (list_good rs is_made).not_bad (passes (ap not k.there) ends)));
         voxels = sym k.voxels;
         structure = sym k.structure;
       } in
-      told_unique (runs rs) n answer (Told.Is (is_voxel (get_or rs n 0)) (structure_of (get_or rs n 0))) told w
+      told_unique (runs rs) n answer (Ok (told_record (get_or rs n 0))) told w
 
-  pub list_tells_no_more : length rs ≤ n → answer ≡ Told.Nothing
-  unfolding told_number told_voxels told_structure tell_refusal
+  pub list_tells_no_more : length rs ≤ n → answer ≡ Err SearchFault.NotFound
+  unfolding tell_refusal
   list_tells_no_more h =
-      let w : Tells (runs rs) n Told.Nothing = record {
+      let w : Tells (runs rs) n (Err SearchFault.NotFound) = record {
         numbered = sym (gives_first (passes (list_good rs is_made).not_bad (applies (ap not (held_not rs n h)))));
         voxels = refl;
         structure = refl;
       } in
-      told_unique (runs rs) n answer Told.Nothing told w
+      told_unique (runs rs) n answer (Err SearchFault.NotFound) told w

@@ -1,15 +1,11 @@
-use Rattle.record_doors.proofs.Laws.Numbers.{asking}
-use borrow.Author.Rules.{rules}
+use Rattle.std.proofs.lemmas.Result.{err_from_is_err_and}
+use Rattle.record_doors.proofs.Laws.Numbers.{seeks_fault_numbers, seeks_seen_numbers}
 use Rattle.record_doors.proofs.asking.index_in.Goals as goal
 
+pub returns-in_err-found : goal.returns-in_err-found
+returns-in_err-found c =
+    let p = err_from_is_err_and c.from_residual.result c.from_residual.ensures.1 in
+    rw (p.1, p.2) (seeks_fault_numbers _ _ _ _ c.begin_record.ensures _ c.in_err-found.ensures)
+
 pub returns : goal.returns
-returns c = search asking
-
-pub begin_record-requires : goal.begin_record-requires
-begin_record-requires c = search rules
-
-pub seen_numbers-requires : goal.seen_numbers-requires
-seen_numbers-requires c = search rules
-
-pub sought-requires : goal.sought-requires
-sought-requires c = search rules
+returns c = seeks_seen_numbers _ _ _ _ c.begin_record.ensures _ _ c.in_ok-found.ensures c.sought.ensures

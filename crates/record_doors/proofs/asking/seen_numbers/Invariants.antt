@@ -1,10 +1,5 @@
-use Prim.Native.Nat.{◌-◌, ◌/◌}
-use lib.ListN.{length}
 use Rattle.record_doors.proofs.Laws.Numbers.{Taken}
 use Rattle.record_doors.proofs.asking.seen_numbers.Given as goal
 
 abbrev pub invariant-loop-i : goal.invariant-loop-i
 invariant-loop-i l = Taken l.list l.initial.state l.state l.i
-
-abbrev pub decreases-loop-i : goal.decreases-loop-i
-decreases-loop-i l = length l.list / 4 - l.i

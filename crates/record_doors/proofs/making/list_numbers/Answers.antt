@@ -1,15 +1,18 @@
-use Rattle.record_doors.proofs.Laws.Numbers.{lists_numbers}
-use borrow.Author.Rules.{rules}
+use Rattle.std.proofs.Common.{ap, ◌∙◌}
+use Rattle.std.specs.Prelude.{List}
+use Rattle.std.proofs.lemmas.Result.{err_from_is_err_and}
+use Rattle.records.specs.Fill.{wrote}
+use Rattle.shortlist.specs.declared.answer.Model.{Model}
+use Rattle.record_doors.specs.Numbers.{numbers_of}
+use Rattle.record_doors.proofs.Laws.Numbers.{lists_numbers_fault, lists_numbers}
 use Rattle.record_doors.proofs.making.list_numbers.Goals as goal
 
+pub returns-in_err-made : goal.returns-in_err-made
+returns-in_err-made c =
+    let p = err_from_is_err_and c.from_residual.result c.from_residual.ensures.1 in
+    rw (p.1, p.2) (lists_numbers_fault _ _ _ c.in_err-made.ensures)
+
 pub returns : goal.returns
-returns c = search lists_numbers
-
-pub made_of-made-requires : goal.made_of-made-requires
-made_of-made-requires c = search rules
-
-pub put_models-requires : goal.put_models-requires
-put_models-requires c = search rules
-
-pub shape_of-list : goal.shape_of-list
-shape_of-list c = search rules
+returns c =
+    lists_numbers _ _ _ _ c.in_ok-made.ensures
+    (c.put_models.ensures ∙ ap (λ (ms : List Model). wrote 0 (numbers_of ms) c.args.list.now) c.models.ensures)

@@ -1,11 +1,17 @@
-use Rattle.std.proofs.Common.{ap, ◌∙◌, subst}
-use Rattle.shortlist.specs.Search.{next_of, folded, Finding}
+use Rattle.std.proofs.Common.{ap, ◌∙◌, sym}
+use Rattle.std.proofs.lemmas.Result.{err_from_is_err_and}
+use Rattle.shortlist.specs.Search.{next_of, folded}
 use Rattle.shortlist.specs.declared.state.Search.{Search}
-use Rattle.shortlist.proofs.Laws.Answers.{seeks_seen}
+use Rattle.shortlist.proofs.Laws.Answers.{seeks_fault, seeks_seen}
 use Rattle.shortlisting.proofs.doors.index_of.Goals as goal
+
+pub returns-in_err-found : goal.returns-in_err-found
+returns-in_err-found c =
+    let p = err_from_is_err_and c.from_residual.result c.from_residual.ensures.1 in
+    let e = ap (λ (s : Search). folded next_of s c.args.models.now) c.begin_record.ensures in
+    rw (p.1, p.2) (seeks_fault _ _ _ _ (sym (c.in_err-found.ensures ∙ e)))
 
 pub returns : goal.returns
 returns c =
-    seeks_seen c.args.models.now c.args.records.now c.args.number c.sought.result
-    (subst (λ (s : Search). Finding c.args.records.now s c.args.number c.sought.result)
-    (c.seen-found.ensures ∙ ap (λ (s : Search). folded next_of s c.args.models.now) c.begin_record.ensures) c.sought.ensures)
+    let e = ap (λ (s : Search). folded next_of s c.args.models.now) c.begin_record.ensures in
+    seeks_seen _ _ _ _ (sym (c.in_ok-found.ensures ∙ e)) _ c.sought.ensures

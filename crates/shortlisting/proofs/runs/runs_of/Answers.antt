@@ -1,20 +1,15 @@
+use Rattle.std.proofs.Common.{arith, ◌<◌}
 use Rattle.shortlist.proofs.Laws.Walking.{walking}
 use Rattle.shortlisting.proofs.runs.runs_of.Goals as goal
 
-pub loop-at-init : goal.loop-at-init
-loop-at-init c = search walking
+pub offset_bounds-made-made : goal.offset_bounds-made-made
+offset_bounds-made-made c = let room : c.loop-at.made.count < 64 = search walking in omega arith
 
-pub returns-then-not-legal : goal.returns-then-not-legal
-returns-then-not-legal c = search walking
+pub bounds-made-made : goal.bounds-made-made
+bounds-made-made c = search walking
 
-pub returns-then-all_legal : goal.returns-then-all_legal
-returns-then-all_legal c = search walking
-
-pub returns-then-seen-place : goal.returns-then-seen-place
-returns-then-seen-place c = search walking
-
-pub with_run-made-requires : goal.with_run-made-requires
-with_run-made-requires c = search walking
+pub overflow_add-made : goal.overflow_add-made
+overflow_add-made c = let room : c.loop-at.made.count < 64 = search walking in omega arith
 
 pub loop-at-preserved : goal.loop-at-preserved
 loop-at-preserved c = search walking
