@@ -2,6 +2,7 @@
 -- the index, and the entry of the kind. Assumes nothing.
 use Rattle.std.specs.Prelude.{◌≡◌, List, [], ◌∷◌, Bool, cond, not, ◌&&◌, ◌||◌, ℕ, ◌+◌, ◌-◌, ◌^◌, ◌<◌, leb, ltb, get_or}
 use Rattle.std.specs.Prelude.{Some, None, Result, Ok, Err}
+use Rattle.std.specs.Result.{is_err}
 use Rattle.std.proofs.Math.Path.{refl, sym, ap}
 use Rattle.std.proofs.Common.{◌∙◌, subst, arith}
 use Rattle.std.proofs.Math.Bool.{true, false}
@@ -273,17 +274,25 @@ seen_all s (m ∷ l) h = by (bad_entry s m) refl (seen_all (with_entry s m) l)
 -- ---- FROM THE BEGINNING.
 
 module _ (n k most : ℕ) (l : List Model) where
-  bad_is : bad_from 0 (bit_set 0) l ≡ bad_list l
+  bad_begun : bad_from 0 (bit_set 0) l ≡ bad_list l
   unfolding bad_from bad_list
-  bad_is =
+  bad_begun =
       let e : again (bit_set 0) l ≡ two_of of_one_kind l = again_first (bit_set 0) l bits_empty in
       ap (λ t. any empty l || (not (runs_on_from 0 l) || (t || any no_structure l))) e
 
   pub list_bad : bad_list l ≡ true → folded next_of (begun n k most) l ≡ Err SearchFault.BadList
-  list_bad h = seen_bad (begun n k most) l (bad_is ∙ h)
+  list_bad h = seen_bad (begun n k most) l (bad_begun ∙ h)
 
   list_seen : bad_list l ≡ false → Seeing (begun n k most) l
-  list_seen h = seen_all (begun n k most) l (bad_is ∙ h)
+  list_seen h = seen_all (begun n k most) l (bad_begun ∙ h)
+
+  -- there is a fault exactly where the list is bad
+  pub bad_is : is_err (folded next_of (begun n k most) l) ≡ bad_list l
+  bad_is = by (bad_list l) refl
+    where
+      by : (b : Bool) → bad_list l ≡ b → is_err (folded next_of (begun n k most) l) ≡ b
+      by true q = ap is_err (list_bad q)
+      by false q = let (t, u, v) = list_seen q in ap is_err u
 
   -- a fault is that the list is bad
   pub fault_is : (e : SearchFault) → folded next_of (begun n k most) l ≡ Err e → (bad_list l ≡ true) × (e ≡ SearchFault.BadList)
