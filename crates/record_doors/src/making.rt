@@ -35,6 +35,6 @@ pub(crate) fn list_numbers(records: &[u64], list: &mut [u64]) -> Result<usize, L
 {
     let made = made_of(records, list.len() / 4)?;
     let count = made.count;
-    put_models(list, made.models());
+    put_models(list, &made.models[..count]);
     Ok(count)
 }

@@ -1,7 +1,4 @@
 // Runs in an array, and what has been seen of a list.
-ghost use Rattle.std.specs.Prelude.{◌≡◌, ◌≤◌};
-ghost use Rattle.shortlist.specs.Made.{made_models};
-
 use super::answer::{Model, Told};
 use records::Index;
 
@@ -10,15 +7,6 @@ use records::Index;
 pub struct Made {
     pub count: usize,
     pub models: [Model; 64],
-}
-
-impl Made {
-    pub fn models(&self) -> &[Model]
-        requires { self.now.count ≤ 64 }
-        ensures { result.now ≡ made_models self.now }
-    {
-        &self.models[..self.count]
-    }
 }
 
 // What has been seen of a list that is not bad, entry by entry.

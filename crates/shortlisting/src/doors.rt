@@ -14,7 +14,7 @@ pub fn model_list(records: &[u64], models: &mut [Model]) -> Result<usize, ListFa
 {
     let made = made_of(records, models.len())?;
     let count = made.count;
-    models[..count].copy_from_slice(made.models());
+    models[..count].copy_from_slice(&made.models[..count]);
     Ok(count)
 }
 

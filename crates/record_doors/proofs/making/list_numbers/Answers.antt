@@ -1,9 +1,4 @@
-use Rattle.std.proofs.Common.{ap, ◌∙◌}
-use Rattle.std.specs.Prelude.{List}
 use Rattle.std.proofs.lemmas.Result.{err_from_is_err_and}
-use Rattle.records.specs.Fill.{wrote}
-use Rattle.shortlist.specs.declared.answer.Model.{Model}
-use Rattle.record_doors.specs.Numbers.{numbers_of}
 use Rattle.record_doors.proofs.Laws.Numbers.{lists_numbers_fault, lists_numbers}
 use Rattle.record_doors.proofs.making.list_numbers.Goals as goal
 
@@ -15,4 +10,4 @@ returns-in_err-made c =
 pub returns : goal.returns
 returns c =
     lists_numbers _ _ _ _ c.in_ok-made.ensures
-    (c.put_models.ensures ∙ ap (λ (ms : List Model). wrote 0 (numbers_of ms) c.args.list.now) c.models.ensures)
+    c.put_models.ensures

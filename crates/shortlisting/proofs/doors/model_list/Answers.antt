@@ -1,4 +1,4 @@
-use Rattle.std.proofs.Common.{ap, ◌∙◌, ◌++◌, drop}
+use Rattle.std.proofs.Common.{ap, ◌++◌, drop}
 use Rattle.std.proofs.lemmas.Result.{err_from_is_err_and}
 use Rattle.shortlist.specs.declared.answer.Model.{Model}
 use Rattle.std.specs.Prelude.{List}
@@ -14,4 +14,4 @@ pub returns : goal.returns
 returns c =
     let made = c.in_ok-made.made in
     lists_made _ _ _ _ c.in_ok-made.ensures
-    (ap (λ (l : List Model). l ++ drop made.count c.args.models.now) (c.copy_from_slice.ensures.after ∙ c.models.ensures))
+    (ap (λ (l : List Model). l ++ drop made.count c.args.models.now) c.copy_from_slice.ensures.after)
