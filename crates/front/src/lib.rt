@@ -1,8 +1,8 @@
 // The front of a NIfTI-2 file: its lengths, and the part of its bytes that is the header text; or the number of its refusal.
 // Theorems on fronts that no code needs are in proofs/Laws.
-// Numbers of four and eight bytes, in either order.
 #![tactic(auto)]
 
+// Numbers of four and eight bytes, in either order.
 mod fields;
 // The header by its fields: the order, 20 and 21, the lengths.
 mod header;

@@ -1,102 +1,84 @@
-// The list of extensions: whether it is one, and the body of the first of code 32; a body without the zeros at its end.
-ghost use Rattle.std.specs.Prelude.{◌≡◌, ◌+◌, ◌≤◌, length, take, drop};
+// The list of extensions: whether it is one, and where the body of the first of code 32 stands in it; a body without the zeros at its end.
+ghost use Rattle.std.specs.Prelude.{◌≡◌, true, false, ◌≤◌, length, None, IsTrue, MatchResult};
 ghost use Rattle.std.proofs.Math.Seq.{slice};
+ghost use Rattle.nifti.specs.Fields.{number_at};
 ghost use Rattle.nifti.specs.Extensions.{without_zeros};
-ghost use Rattle.nifti.specs.Model.{good_size, cut, not_listed, taken_by, list_in};
-ghost use Rattle.nifti.specs.Front.{Standing};
+ghost use Rattle.nifti.specs.Model.{good_size, cut, text_from, text_in};
+ghost use Rattle.nifti.specs.declared.Refusal.TheVariants.{NoList};
 
-use super::fields::{eight, four};
-use super::header::{LIST, OFFSET};
-use nifti::{Order, Taken};
+use super::fields::four;
+use super::header::{Header, LIST};
+use nifti::{Order, Refusal, Taken};
 
 fn good_size(size: usize, left: usize) -> bool
-    ensures { result ≡ good_size size left }
+    ensures value { result ≡ good_size size left }
+    ensures inside { IsTrue result → (16 ≤ size) × (size ≤ left) }
 {
-    if size < 16 {
-        return false;
-    }
-    if left < size {
-        return false;
-    }
-    if 2_147_483_647 < size {
-        return false;
-    }
-    size % 16 == 0
+    16 <= size && size <= left && size <= 2_147_483_647 && size % 16 == 0
 }
 
-fn unlisted() -> Taken
-    ensures { result ≡ not_listed }
+// The size of the first extension of a list.
+fn first_size(list: &[u8], order: Order) -> Result<usize, Refusal>
+    ensures { MatchResult result
+        (λ n. (n ≡ number_at order 4 0 list.now) × (good_size n (length list.now) ≡ true)
+        × (16 ≤ n) × (n ≤ length list.now))
+        (λ e. (e ≡ NoList) × (good_size (number_at order 4 0 list.now) (length list.now) ≡ false)) }
 {
-    Taken {
-        listed: false,
-        start: 0,
-        length: 0,
+    if list.len() < 16 {
+        return Err(Refusal::NoList);
+    }
+    let size = four(list, 0, order) as usize;
+    if good_size(size, list.len()) {
+        Ok(size)
+    } else {
+        Err(Refusal::NoList)
     }
 }
 
-// The bytes from 544 up to `end`.
-fn walked(file: &[u8], order: Order, end: usize) -> Taken
+// The list stands from 544 up to `end`.
+fn walked(file: &[u8], order: Order, end: usize) -> Result<Taken, Refusal>
     requires { (544 ≤ end) × (end ≤ length file.now) }
-    ensures { result ≡ taken_by 0 0 544 (cut order (slice 544 end file.now)) }
+    ensures { result ≡ text_from None 544 (cut order (slice 544 end file.now)) }
 {
     let mut place = LIST;
-    let mut left = end - LIST;
-    let mut start = 0;
-    let mut body = 0;
-    while 0 < left {
-        if left < 16 {
-            return unlisted();
+    let mut text = None;
+    while place < end {
+        let rest = &file[place..end];
+        let size = first_size(rest, order)?;
+        if text.is_none() && four(rest, 4, order) == 32 {
+            text = Some(Taken {
+                start: place + 8,
+                length: size - 8,
+            });
         }
-        let size = four(file, place, order) as usize;
-        if !good_size(size, left) {
-            return unlisted();
-        }
-        let here = place;
         place += size;
-        left -= size;
-        if start == 0 {
-            if four(file, here + 4, order) == 32 {
-                start = here + 8;
-                body = size - 8;
-            }
-        }
     }
-    Taken {
-        listed: true,
-        start: start,
-        length: body,
-    }
+    text.ok_or(Refusal::NoText)
 }
 
-pub(crate) fn listed(file: &[u8], order: Order) -> Taken
-    requires { Standing file.now order }
-    ensures { result ≡ taken_by 0 0 544 (list_in file.now) }
+pub(crate) fn text_body(header: &Header) -> Result<Taken, Refusal>
+    ensures { result ≡ text_in header.now.file.now }
 {
+    let file = header.file;
     if file[540] == 0 {
-        return Taken {
-            listed: true,
-            start: 0,
-            length: 0,
-        };
+        return Err(Refusal::NoText);
     }
-    let end = eight(file, OFFSET, order) as usize;
+    let end = header.end();
     if file.len() < end {
-        return unlisted();
+        return Err(Refusal::NoList);
     }
-    walked(file, order, end)
+    walked(file, header.order, end)
 }
 
-// How many of the bytes are left without the zeros at their end.
-pub(crate) fn kept(file: &[u8], start: usize, size: usize) -> usize
-    requires { start + size ≤ length file.now }
-    ensures { result ≡ length (without_zeros (take size (drop start file.now))) }
+pub(crate) fn without_zeros(bytes: &[u8]) -> &[u8]
+    ensures { result.now ≡ without_zeros bytes.now }
 {
-    let mut n = size;
-    while 0 < n {
-        if file[start + (n - 1)] != 0 {
-            return n;
+    let mut kept = bytes;
+    while let [before @ .., last] = kept {
+        if *last != 0 {
+            return kept;
         }
-        n -= 1;
+        kept = before;
     }
-    0
+    kept
 }

@@ -1,10 +1,12 @@
--- What is known of a file of 544 bytes or more: its order; a place among its lengths; the answer where nothing is refused.
-use Rattle.std.specs.Prelude.{◌≡◌, List, ℕ, ◌≤◌, ◌<◌, length, take, drop}
+-- What is known of a file of 544 bytes or more: its order; a place among its lengths; the lengths, or the refusal; the answer where
+-- nothing is refused.
+use Rattle.std.specs.Prelude.{◌≡◌, List, [], ◌∷◌, ℕ, ◌≤◌, ◌<◌, length, take, drop, if◌then◌else◌, Result, Ok, Err}
 use Rattle.nifti.specs.Extensions.{without_zeros}
-use Rattle.nifti.specs.File.{order_of, length_count}
-use Rattle.nifti.specs.File.{length_at, front_with}
+use Rattle.nifti.specs.File.{order_of, dims_stand, length_count, length_at, front_with}
 use Rattle.nifti.specs.declared.Order.{Order}
 use Rattle.nifti.specs.declared.Front.{Front}
+use Rattle.nifti.specs.declared.Refusal.{Refusal}
+use Rattle.nifti.specs.declared.Refusal.TheVariants.{NoMatrix}
 
 -- a file that is long enough, and its order
 pub record OrderKnown (file : List ℕ) (o : Order) : Type 0 where
@@ -24,6 +26,10 @@ pub record Looked (file : List ℕ) (o : Order) (count i : ℕ) : Type 0 where
   pub told : OrderKnown file o
   pub counted : count ≡ length_count file
   pub small : i < 3
+
+-- the three lengths, 0 where there is none; or the refusal
+unfoldable pub lengths_in : List ℕ → Result (List ℕ) Refusal
+lengths_in file = if dims_stand file then Ok (length_at file 0 ∷ length_at file 1 ∷ length_at file 2 ∷ []) else Err NoMatrix
 
 -- the answer of a file that is not refused, by the place of the body
 unfoldable pub front_accepted : List ℕ → (start size : ℕ) → Front

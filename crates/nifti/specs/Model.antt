@@ -1,12 +1,15 @@
--- THE LIST OF BYTES, FOUND: extension by extension, from the first byte on; and what the code's walk over it answers.
-use Rattle.std.specs.Prelude.{List, [], ◌∷◌, Bool, true, false, ◌&&◌, cond, ℕ, zero, suc, ◌+◌, ◌-◌, ◌%◌, ◌^◌, eqb, leb, ltb, ℤ, pos, negsuc, length, take, drop, Option, Some, None}
+-- THE LIST OF BYTES, FOUND: extension by extension, from the first byte on; and what code answers of it.
+use Rattle.std.specs.Prelude.{List, [], ◌∷◌, Bool, true, false, ◌&&◌, cond, ℕ, zero, suc, ◌+◌, ◌-◌, ◌%◌, ◌^◌, eqb, leb, ltb, ℤ, pos, negsuc, length, take, drop, Option}
+use Rattle.std.specs.Prelude.{Option as Maybe, Some, None, Result, Ok, Err, ok_or}
 use Rattle.std.proofs.Math.Seq.{slice}
 use Rattle.nifti.specs.Fields.{number_at}
-use Rattle.nifti.specs.Extensions.{Extension, size_of}
+use Rattle.nifti.specs.Extensions.{Extension, size_of, Body, first_text}
 use Rattle.nifti.specs.File.{order_of, offset, extender, list_start, front_to}
 use Rattle.nifti.specs.declared.Order.{Order}
 use Rattle.nifti.specs.declared.Front.{Front}
 use Rattle.nifti.specs.declared.Taken.{Taken}
+use Rattle.nifti.specs.declared.Refusal.{Refusal}
+use Rattle.nifti.specs.declared.Refusal.TheVariants.{NoList, NoText}
 
 -- a size that may stand where so many bytes are left
 unfoldable pub good_size : (size left : ℕ) → Bool
@@ -44,21 +47,40 @@ list_in file = cond (eqb (extender file) 0) (Some []) (cut_to (offset file) file
 unfoldable pub front_of : List ℕ → Front
 front_of file = front_to file (list_in file)
 
--- ---- What a walk answers of the list from a place on: start and length are those of the body found before it (0, 0: none).
+-- ---- What code answers of the list: where the body of the first of code 32 stands, or the refusal.
 
-abbrev pub not_listed : Taken
-not_listed = record { listed = false; start = 0; length = 0 }
+unfoldable pub taken_as : Option Body → Result Taken Refusal
+taken_as None = Err NoText
+taken_as (Some b) = Ok (record { start = b.start; length = length b.bytes })
 
-unfoldable pub taken : (start length place : ℕ) → List Extension → Taken
-taken start size place [] = record { listed = true; start = start; length = size }
-taken start size place (e ∷ es) =
-    cond (eqb start 0 && eqb e.code 32) (taken (place + 8) (length e.body) (place + size_of e) es)
-    (taken start size (place + size_of e) es)
+unfoldable pub taken_or : Maybe Taken → Result Taken Refusal → Result Taken Refusal
+taken_or None r = r
+taken_or (Some t) r = Ok t
 
-unfoldable pub taken_by : (start length place : ℕ) → Option (List Extension) → Taken
-taken_by start size place None = not_listed
-taken_by start size place (Some es) = taken start size place es
+-- from a place on, with what is found before it
+unfoldable pub text_from : Maybe Taken → (place : ℕ) → Option (List Extension) → Result Taken Refusal
+text_from found place None = Err NoList
+text_from found place (Some es) = taken_or found (taken_as (first_text place es))
+
+unfoldable pub text_in : List ℕ → Result Taken Refusal
+text_in file = text_from None list_start (list_in file)
+
+-- ---- What a walk answers of the list from a place on, extension by extension, with what is found before it.
+
+abbrev pub not_listed : Result Taken Refusal
+not_listed = Err NoList
+
+unfoldable pub taken : Maybe Taken → (place : ℕ) → List Extension → Result Taken Refusal
+taken found place [] = ok_or found NoText
+taken (Some t) place (e ∷ es) = taken (Some t) (place + size_of e) es
+taken None place (e ∷ es) =
+    cond (eqb e.code 32) (taken (Some (record { start = place + 8; length = length e.body })) (place + size_of e) es)
+    (taken None (place + size_of e) es)
+
+unfoldable pub taken_by : Maybe Taken → (place : ℕ) → Option (List Extension) → Result Taken Refusal
+taken_by found place None = not_listed
+taken_by found place (Some es) = taken found place es
 
 unfoldable pub model_words : Unit {0}
-unfolding good_size extension_in one_more_if cut_by cut cut_to list_in front_of taken taken_by
+unfolding good_size extension_in one_more_if cut_by cut cut_to list_in front_of taken_as taken_or text_from text_in taken taken_by
 model_words = tt

@@ -2,10 +2,19 @@
 #![tactic(auto)]
 
 // The order of the bytes of every number: the most significant first, or the least.
-#[derive(Clone, Copy)]
+#[derive(Clone, Copy, PartialEq, Eq, Debug)]
 pub enum Order {
     MostFirst,
     LeastFirst,
+}
+
+// Why a file is refused, by the number of the refusal.
+#[derive(Clone, Copy, PartialEq, Eq, Debug)]
+pub enum Refusal {
+    NoFront = 20,
+    NoMatrix = 21,
+    NoList = 22,
+    NoText = 23,
 }
 
 // The number of the refusal, or 0, and then how many lengths there are, the lengths in the header's order, and where the part that is the
@@ -19,11 +28,9 @@ pub struct Front {
     pub length: usize,
 }
 
-// What a walk over the list of extensions finds: whether it is a list, and where the body of the first of code 32 starts, and its length;
-// 0 and 0 where there is none.
+// What a walk over the list of extensions takes: where the body of the first of code 32 starts in the file, and its length.
 #[derive(Clone, Copy)]
 pub struct Taken {
-    pub listed: bool,
     pub start: usize,
     pub length: usize,
 }

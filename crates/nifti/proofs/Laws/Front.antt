@@ -1,33 +1,37 @@
 -- THE FRONT AS CODE ANSWERS IT: the body that a walk takes is the first of code 32, and it lies inside the file. Assumes nothing.
-use Rattle.std.specs.Prelude.{◌≡◌, List, [], ◌∷◌, ◌++◌, Bool, true, false, ◌&&◌, not, cond, ℕ, zero, suc, ◌+◌, ◌-◌, ◌≤◌, ◌<◌, eqb, leb, ltb, pos, length, get_or, take, drop, Option, Some, None}
+use Rattle.std.specs.Prelude.{◌≡◌, List, [], ◌∷◌, ◌++◌, Bool, true, false, ◌&&◌, not, cond, ℕ, zero, suc, ◌+◌, ◌-◌, ◌≤◌, ◌<◌, eqb, leb, ltb, pos, length, get_or, take, drop, Option}
 use Rattle.std.proofs.Math.Path.{refl, sym, ap, subst}
 use Rattle.std.proofs.Common.{◌∙◌, arith, Fits, length-append, drop-drop, drop_at}
 use Rattle.std.specs.Int.{w8}
 use Rattle.std.proofs.Math.Seq.{slice, take-append_seam, length-slice}
 use borrow.Author.Tests.{leb-true, ltb-true, lt-ltb, le-ltb, le-leb, lt-leb, eq-eqb, ne_eqb, not-false}
-use Rattle.lists.specs.Lists.{is_some, all_below}
-use Rattle.lists.proofs.Laws.Booleans.{and_left, and_right, or_right, both_ways, never_some}
+use Rattle.lists.specs.Lists.{is_some}
+use Rattle.lists.proofs.Laws.Booleans.{and_left, or_right, never_some}
 use Rattle.lists.specs.Refusals.{◌when◌, first, positive}
 use Rattle.lists.proofs.Laws.Refusals.{given_none, row_fails}
 use Rattle.records.specs.Bytes.{Below}
 use Rattle.nifti.specs.Fields.{number_at, signed, field_at_least}
 use Rattle.nifti.specs.Extensions.{Extension, size_of, written, GoodExtension, ExtensionList, nothing, next, Body, first_text}
 use Rattle.nifti.specs.Extensions.{without_zeros}
-use Rattle.nifti.specs.File.{order_of, offset, extender, list_start, HasList, empty, listed, ListOf, list, unlisted, size_stands}
-use Rattle.nifti.specs.File.{magic_at, offset_stands, front_stands, no_front, dims_stand, text_body, conditions_of_front, front_with}
+use Rattle.nifti.specs.File.{order_of, offset, extender, list_start, HasList, empty, listed, ListOf, list, unlisted}
+use Rattle.nifti.specs.File.{offset_stands, front_stands, no_front, dims_stand, text_body, conditions_of_front, front_with}
 use Rattle.nifti.specs.File.{length_count, length_at, refused_front, accepted_front, front_by, front_to, Fronts, FrontPart, part_of}
-use Rattle.nifti.specs.Model.{not_listed, cut, cut_to, taken, taken_by, list_in, front_of}
+use Rattle.nifti.specs.Model.{cut, cut_to, taken_as, taken_or, text_from, text_in, not_listed, taken, taken_by, list_in, front_of}
 use Rattle.nifti.proofs.Laws.File.{fronts_by, listing}
-use Rattle.nifti.proofs.Laws.Header.{count_few}
-use Rattle.nifti.specs.Header.{OrderKnown, front_accepted}
 use Rattle.nifti.proofs.Laws.Fields.{least_signed, signed_pos}
+use Rattle.nifti.proofs.Laws.Header.{count_few}
+use Rattle.nifti.proofs.Laws.Reads.{offset_is, offset_there, end_after}
+use Rattle.nifti.specs.Header.{OrderKnown, lengths_in, front_accepted}
 use Rattle.nifti.proofs.Laws.Lists.{written_size, behind_eight}
 use Rattle.nifti.proofs.Laws.Walk.{take_within}
 use Rattle.nifti.proofs.Laws.Zeros.{kept_few}
 use Rattle.nifti.specs.declared.Order.{Order}
 use Rattle.nifti.specs.declared.Taken.{Taken}
 use Rattle.nifti.specs.declared.Front.{Front}
-use Rattle.nifti.specs.Front.{Standing, Bodied}
+use Rattle.nifti.specs.Front.{Standing, Bodied, number_of}
+use Rattle.nifti.specs.declared.Refusal.{Refusal}
+use Rattle.nifti.specs.declared.Refusal.TheVariants.{NoMatrix, NoList, NoText}
+use Rattle.std.specs.Prelude.{Option as Maybe, Some, None, Result, Ok, Err, if◌then◌else◌}
 
 pub told_so : {file : List ℕ} {o : Order} → 544 ≤ length file → o ≡ order_of file → OrderKnown file o
 told_so h e = record { long = h; is = e }
@@ -44,66 +48,60 @@ bytes_known file h = record { known = λ i. (h i).fits }
 
 -- ---- The list of a file, as the walk is begun.
 
-offset_there : (file : List ℕ) → front_stands file ≡ true → offset_stands file ≡ true
-unfolding front_stands
-offset_there file h = and_right (all_below 8 (magic_at file)) (offset_stands file) (and_right (size_stands file) _ h)
-
-pub list_empty : (file : List ℕ) → get_or file 540 0 ≡ 0 → record { listed = true; start = 0; length = 0 } ≡ taken_by 0 0 544 (list_in file)
-unfolding list_in extender taken_by taken
+pub list_empty : (file : List ℕ) → get_or file 540 0 ≡ 0 → Err NoText ≡ text_in file
+unfolding text_in list_in extender text_from taken_or taken_as first_text
 list_empty file z = sym (rw (eq-eqb (get_or file 540 0) 0 z))
 
+-- the data offset, by the bits of its field
 module _ {file : List ℕ} {o : Order} (s : Standing file o) {n : ℕ} (e : n ≡ number_at o 8 168 file) where
-  offset_at : offset file ≡ signed 8 n
-  unfolding offset
-  offset_at = rw (e, s.told.is)
-
-  stands_so_lem : (ltb n 9223372036854775808 && leb 544 n) ≡ true
+  stands_so : (ltb n 9223372036854775808 && leb 544 n) ≡ true
   unfolding offset_stands
-  stands_so_lem = sym (ap (field_at_least 544) offset_at ∙ least_signed 8 n 544) ∙ offset_there file s.stands
+  stands_so = sym (least_signed 8 n 544) ∙ ap (field_at_least 544) (offset_is s.told (ap (signed 8) e)) ∙ offset_there file s.stands
+
+  pub offset_pos : offset file ≡ pos n
+  offset_pos =
+      sym (offset_is s.told (ap (signed 8) e)) ∙ signed_pos 8 n (ltb-true n 9223372036854775808 (and_left _ (leb 544 n) stands_so))
 
   pub end_low : 544 ≤ n
-  end_low = leb-true 544 n (and_right (ltb n 9223372036854775808) (leb 544 n) stands_so_lem)
+  end_low = end_after s offset_pos
 
-  offset_pos : offset file ≡ pos n
-  offset_pos = offset_at ∙ signed_pos 8 n (ltb-true n 9223372036854775808 (and_left (ltb n 9223372036854775808) (leb 544 n) stands_so_lem))
+module _ (file : List ℕ) (x : get_or file 540 0 ≡ 0 → ⊥) {n : ℕ} (e : offset file ≡ pos n) where
+  pub list_past : length file < n → Err NoList ≡ text_in file
+  unfolding text_in list_in extender cut_to text_from
+  list_past h = sym (rw (ne_eqb (get_or file 540 0) 0 x, e, lt-leb n (length file) h))
 
-  module _ (x : get_or file 540 0 ≡ 0 → ⊥) where
-    pub list_past : {r : Taken} → r ≡ not_listed → length file < n → r ≡ taken_by 0 0 544 (list_in file)
-    unfolding list_in extender cut_to taken_by
-    list_past z h = z ∙ sym (rw (ne_eqb (get_or file 540 0) 0 x, offset_pos, lt-leb n (length file) h))
+  pub list_walked : {o : Order} {r : Result Taken Refusal} → Standing file o → n ≤ length file
+      → r ≡ text_from None 544 (cut o (slice 544 n file)) → r ≡ text_in file
+  unfolding text_in list_in extender cut_to
+  list_walked s h q = q ∙ sym (rw (ne_eqb (get_or file 540 0) 0 x, e, le-leb n (length file) h, s.told.is))
 
-    pub list_walked : {r : Taken} → n ≤ length file → r ≡ taken_by 0 0 544 (cut o (slice 544 n file)) → r ≡ taken_by 0 0 544 (list_in file)
-    unfolding list_in extender cut_to
-    list_walked h q = q ∙ sym (rw (ne_eqb (get_or file 540 0) 0 x, offset_pos, le-leb n (length file) h, s.told.is))
-
-pub ruleset beginning = (list_empty, list_past, list_walked, end_low)
+pub ruleset beginning = (list_empty, list_past, list_walked, end_low, end_after)
 
 -- ---- What a walk takes is the first of code 32.
 
-abbrev pub taken_as : Option Body → Taken
-taken_as None = record { listed = true; start = 0; length = 0 }
-taken_as (Some b) = record { listed = true; start = b.start; length = length b.bytes }
-
-taken_kept : (start size place : ℕ) (es : List Extension) → (start ≡ 0 → ⊥)
-    → taken start size place es ≡ record { listed = true; start = start; length = size }
+taken_kept : (t : Taken) (place : ℕ) (es : List Extension) → taken (Some t) place es ≡ Ok t
 unfolding taken
-taken_kept start size place [] z = refl
-taken_kept start size place (e ∷ es) z = rw (ne_eqb start 0 z) (taken_kept start size (place + size_of e) es z)
+taken_kept t place [] = refl
+taken_kept t place (e ∷ es) = taken_kept t (place + size_of e) es
 
-pub taken_first : (place : ℕ) (es : List Extension) → taken 0 0 place es ≡ taken_as (first_text place es)
-unfolding taken first_text
+pub taken_first : (place : ℕ) (es : List Extension) → taken None place es ≡ taken_as (first_text place es)
+unfolding taken first_text taken_as
 taken_first place [] = refl
 taken_first place (e ∷ es) = go (eqb e.code 32) (taken_first (place + size_of e) es)
   where
-    go : (t : Bool) → taken 0 0 (place + size_of e) es ≡ taken_as (first_text (place + size_of e) es)
-        → cond t (taken (place + 8) (length e.body) (place + size_of e) es) (taken 0 0 (place + size_of e) es)
+    go : (t : Bool) → taken None (place + size_of e) es ≡ taken_as (first_text (place + size_of e) es)
+        → cond t (taken (Some (record { start = place + 8; length = length e.body })) (place + size_of e) es)
+        (taken None (place + size_of e) es)
         ≡ taken_as (cond t (Some (record { start = place + 8; bytes = e.body })) (first_text (place + size_of e) es))
-    go true ih = taken_kept (place + 8) (length e.body) (place + size_of e) es (λ z. omega arith)
+    go true ih = taken_kept (record { start = place + 8; length = length e.body }) (place + size_of e) es
     go false ih = ih
 
-is_listed : (b : Option Body) → (taken_as b).listed ≡ true
-is_listed None = refl
-is_listed (Some b) = refl
+-- what a walk answers extension by extension is what code answers
+pub taken_from : (found : Maybe Taken) (place : ℕ) (l : Option (List Extension)) → taken_by found place l ≡ text_from found place l
+unfolding taken_by text_from taken_or
+taken_from found place None = refl
+taken_from None place (Some es) = taken_first place es
+taken_from (Some t) place (Some es) = taken_kept t place es
 
 -- ---- PART-INSIDE: the body lies inside the bytes that the list is written in.
 
@@ -234,89 +232,143 @@ accepted_so file start size e p q r h = rw (e, p, q, r, h)
 
 -- ---- The front, by what the code finds.
 
-abbrev accepted_by : List ℕ → ℕ → List ℕ → Front
-accepted_by file start s =
-    front_with 0 (length_count file) (length_at file 0) (length_at file 1) (length_at file 2) start (length (without_zeros s))
+three : List ℕ → List ℕ
+three file = length_at file 0 ∷ length_at file 1 ∷ length_at file 2 ∷ []
+
+lengths_told : (file : List ℕ) {ls : List ℕ} → lengths_in file ≡ Ok ls → (dims_stand file ≡ true) × (ls ≡ three file)
+unfolding lengths_in three
+lengths_told file {ls} h = go (dims_stand file) refl h
+  where
+    go : (t : Bool) → dims_stand file ≡ t → (if t then Ok (three file) else Err NoMatrix) ≡ Ok ls → (dims_stand file ≡ true) × (ls ≡ three file)
+    go true e q = (e, cc)
+    go false e q = absurd cc
+
+module _ (file : List ℕ) (k : Bytes file) where
+  pub front_refused : no_front file ≡ true → Fronts file (refused_front 20)
+  unfolding front_of front_to conditions_of_front first front_by
+  front_refused h = fronts_by file k.known (sym (rw h))
+
+  module _ {o : Order} (s : Standing file o) where
+    passed : no_front file ≡ false
+    unfolding no_front
+    passed = rw (le-ltb (length file) 544 s.told.long, s.stands)
+
+    pub lengths_refused : {e : Refusal} → lengths_in file ≡ Err e → Fronts file (refused_front (number_of e))
+    unfolding lengths_in three front_of front_to conditions_of_front first front_by
+    lengths_refused {e} h = go (dims_stand file) refl h
+      where
+        go : (t : Bool) → dims_stand file ≡ t → (if t then Ok (three file) else Err NoMatrix) ≡ Err e
+            → Fronts file (refused_front (number_of e))
+        go true p q = absurd cc
+        go false p q = let z : e ≡ NoMatrix = cc in rw z (fronts_by file k.known (sym (rw (passed, p))))
+
+    module _ {t : Taken} (h : text_in file ≡ Ok t) where
+      record Found (l : Option (List Extension)) : Type 0 where
+        body : Body
+        is : text_body l ≡ Some body
+        start : t.start ≡ body.start
+        size : t.length ≡ length body.bytes
+
+      found_by : (l : Option (List Extension)) → text_from None 544 l ≡ Ok t → Found l
+      unfolding text_from taken_or taken_as text_body
+      found_by None q = absurd cc
+      found_by (Some es) q = go (first_text 544 es) refl q
+        where
+          go : (o : Option Body) → first_text 544 es ≡ o → taken_as o ≡ Ok t → Found (Some es)
+          go None p q = absurd cc
+          go (Some b) p q =
+              let z : t ≡ record { start = b.start; length = length b.bytes } = cc in
+              record { body = b; is = p; start = ap (λ (y : Taken). y.start) z; size = ap (λ (y : Taken). y.length) z }
+
+      found : Found (list_in file)
+      unfolding text_in
+      found = found_by (list_in file) h
+
+      inside : Inside file (length file) found.body
+      inside = list_inside (listing file k.known) (offset_there file s.stands) found.is
+
+      pub body_inside : t.start + t.length ≤ length file
+      body_inside = let i = inside.within in let a = found.start in let b = found.size in omega arith
+
+    module _ {ls : List ℕ} (d : lengths_in file ≡ Ok ls) where
+      later : (l : Option (List Extension)) → front_to file l
+          ≡ front_by (first (22 when not (is_some l) ∷ 23 when not (is_some (text_body l)) ∷ [])) file (text_body l)
+      unfolding front_to conditions_of_front first
+      later l = let dims = (lengths_told file d).0 in rw (passed, dims)
+
+      pub text_refused : {e : Refusal} → text_in file ≡ Err e → Fronts file (refused_front (number_of e))
+      unfolding text_in text_from taken_or taken_as front_of is_some text_body first front_by
+      text_refused {e} h = fronts_by file k.known (sym (go (list_in file) h))
+        where
+          none : (o : Option Body) (es : List Extension) → first_text 544 es ≡ o → taken_as o ≡ Err e
+              → front_to file (Some es) ≡ refused_front (number_of e)
+          none None es p q = let z : e ≡ NoText = cc in rw z (later (Some es) ∙ rw p)
+          none (Some b) es p q = absurd cc
+
+          go : (l : Option (List Extension)) → text_from None 544 l ≡ Err e → front_to file l ≡ refused_front (number_of e)
+          go None q = let z : e ≡ NoList = cc in rw z (later None)
+          go (Some es) q = none (first_text 544 es) es refl q
+
+      module _ {t : Taken} (h : text_in file ≡ Ok t) where
+        answered : {m : ℕ} → m ≡ length (without_zeros (take t.length (drop t.start file))) → (l : Option (List Extension)) (f : Found h l)
+            → Inside file (length file) f.body
+            → record { number = 0; count = length_count file; lengths = ls; start = t.start; length = m } ≡ front_to file l
+        unfolding is_some text_body first front_by accepted_front three
+        answered e None f i = let p = f.is in absurd cc
+        answered {m} e (Some es) f i =
+            let b = f.body in
+            let r : take t.length (drop t.start file) ≡ b.bytes = rw (f.start, f.size) (sym i.is) in
+            let q : m ≡ length (without_zeros b.bytes) = e ∙ ap (λ p. length (without_zeros p)) r in
+            sym (later (Some es) ∙ rw f.is (sym (rw (f.start, q, (lengths_told file d).1) refl)))
+
+        pub accepted : {m : ℕ} → m ≡ length (without_zeros (take t.length (drop t.start file)))
+            → Fronts file (record { number = 0; count = length_count file; lengths = ls; start = t.start; length = m })
+        unfolding front_of
+        accepted e = fronts_by file k.known (answered e (list_in file) (found h) (inside h))
+
+-- ---- The same, refusal by refusal.
 
 module _ (file : List ℕ) (k : Bytes file) where
   pub front_short : {f : Front} → length file < 544 → f ≡ refused_front 20 → Fronts file f
-  unfolding front_of front_to conditions_of_front no_front first front_by
-  front_short h e = fronts_by file k.known (e ∙ sym (rw (lt-ltb (length file) 544 h)))
+  unfolding no_front
+  front_short h e = rw e (front_refused file k (rw (lt-ltb (length file) 544 h)))
 
   module _ (long : 544 ≤ length file) where
     pub no_front_lem : {f : Front} → front_stands file ≡ false → f ≡ refused_front 20 → Fronts file f
-    unfolding front_of front_to conditions_of_front no_front first front_by
-    no_front_lem h e = fronts_by file k.known (e ∙ sym (rw (le-ltb (length file) 544 long, h)))
+    unfolding no_front
+    no_front_lem h e = rw e (front_refused file k (rw (le-ltb (length file) 544 long, h)))
 
     module _ (stands : front_stands file ≡ true) where
+      header : Standing file (order_of file)
+      header = standing_so (told_so long refl) stands
+
       pub no_dims : {f : Front} → dims_stand file ≡ false → f ≡ refused_front 21 → Fronts file f
-      unfolding front_of front_to conditions_of_front no_front first front_by
-      no_dims h e = fronts_by file k.known (e ∙ sym (rw (le-ltb (length file) 544 long, stands, h)))
+      unfolding lengths_in
+      no_dims h e =
+          let n : lengths_in file ≡ Err NoMatrix = rw h refl in
+          rw e (lengths_refused file k header n)
 
       module _ (dims : dims_stand file ≡ true) where
-        later : (l : Option (List Extension)) → front_to file l
-            ≡ front_by (first (22 when not (is_some l) ∷ 23 when not (is_some (text_body l)) ∷ [])) file (text_body l)
-        unfolding front_to conditions_of_front no_front first
-        later l = rw (le-ltb (length file) 544 long, stands, dims)
+        lengths : lengths_in file ≡ Ok (three file)
+        unfolding lengths_in three
+        lengths = rw dims refl
 
-        module _ {r : Taken} (taken_is : r ≡ taken_by 0 0 544 (list_in file)) where
-          not_there : (l : Option (List Extension)) → (taken_by 0 0 544 l).listed ≡ false → front_to file l ≡ refused_front 22
-          unfolding taken_by is_some first front_by
-          not_there None h = later None
-          not_there (Some es) h = both_ways (ap (λ (x : Taken). x.listed) (taken_first 544 es) ∙ is_listed (first_text 544 es)) h
+        module _ {r : Result Taken Refusal} (taken_is : r ≡ taken_by None 544 (list_in file)) where
+          told_in : text_in file ≡ r
+          unfolding text_in
+          told_in = sym (taken_is ∙ taken_from None 544 (list_in file))
 
-          pub no_list : {f : Front} → r.listed ≡ false → f ≡ refused_front 22 → Fronts file f
-          unfolding front_of
-          no_list h e = fronts_by file k.known (e ∙ sym (not_there (list_in file) (ap (λ (x : Taken). x.listed) (sym taken_is) ∙ h)))
+          pub no_list : {f : Front} → r ≡ not_listed → f ≡ refused_front 22 → Fronts file f
+          no_list h e = rw e (text_refused file k header lengths (told_in ∙ h))
 
-          none_there : (l : Option (List Extension)) → (taken_by 0 0 544 l).listed ≡ true → (taken_by 0 0 544 l).start ≡ 0
-              → ListOf file l → front_to file l ≡ refused_front 23
-          unfolding taken_by is_some text_body first front_by
-          none_there None h z w = both_ways h refl
-          none_there (Some es) h z w = go (first_text 544 es) refl
-            where
-              go : (o : Option Body) → first_text 544 es ≡ o → front_to file (Some es) ≡ refused_front 23
-              go None q = later (Some es) ∙ rw q
-              go (Some x) q =
-                  let s : x.start ≡ 0 = sym (ap (λ (y : Taken). y.start) (taken_first 544 es ∙ ap taken_as q)) ∙ z in
-                  let i = list_inside w (offset_there file stands) q in
-                  let k = i.behind in
-                  absurd (omega arith)
+          pub no_text : {f : Front} → r ≡ Err NoText → f ≡ refused_front 23 → Fronts file f
+          no_text h e = rw e (text_refused file k header lengths (told_in ∙ h))
 
-          pub no_text : {f : Front} → r.listed ≡ true → r.start ≡ 0 → f ≡ refused_front 23 → Fronts file f
-          unfolding front_of
-          no_text h z e = fronts_by file k.known (e ∙ sym (none_there (list_in file) (ap (λ (x : Taken). x.listed) (sym taken_is) ∙ h)
-              (ap (λ (x : Taken). x.start) (sym taken_is) ∙ z) (listing file k.known)))
+          pub text_inside : {o : Order} {t : Taken} → OrderKnown file o → r ≡ Ok t → Bodied file o t.start t.length
+          text_inside t h = record { told = t; inside = body_inside file k header (told_in ∙ h) }
 
-          record Found (l : Option (List Extension)) (x : Taken) : Type 0 where
-            within : x.start + x.length ≤ length file
-            is : front_to file l ≡ front_accepted file x.start x.length
-
-          one_there : (l : Option (List Extension)) → (taken_by 0 0 544 l).listed ≡ true → ((taken_by 0 0 544 l).start ≡ 0 → ⊥)
-              → ListOf file l → Found l (taken_by 0 0 544 l)
-          unfolding taken_by is_some text_body first front_by accepted_front front_accepted
-          one_there None h z w = both_ways h refl
-          one_there (Some es) h z w = go (first_text 544 es) refl
-            where
-              go : (o : Option Body) → first_text 544 es ≡ o → Found (Some es) (taken 0 0 544 es)
-              go None q = absurd (z (ap (λ (y : Taken). y.start) (taken_first 544 es ∙ ap taken_as q)))
-              go (Some x) q =
-                  let i = list_inside w (offset_there file stands) q in
-                  let e : taken_as (Some x) ≡ taken 0 0 544 es = sym (taken_first 544 es ∙ ap taken_as q) in
-                  subst (Found (Some es)) e (record {
-                    within = i.within;
-                    is = later (Some es) ∙ rw q (ap (λ s. accepted_by file x.start s) i.is);
-                  })
-
-          found : r.listed ≡ true → (r.start ≡ 0 → ⊥) → Found (list_in file) r
-          found h z = subst (Found (list_in file)) (sym taken_is) (one_there (list_in file) (ap (λ (x : Taken). x.listed) (sym taken_is) ∙ h)
-              (λ y. z (ap (λ (x : Taken). x.start) taken_is ∙ y)) (listing file k.known))
-
-          pub text_inside : {o : Order} → OrderKnown file o → r.listed ≡ true → (r.start ≡ 0 → ⊥) → Bodied file o r.start r.length
-          text_inside t h z = record { told = t; inside = (found h z).within }
-
-          pub a_text : {f : Front} → r.listed ≡ true → (r.start ≡ 0 → ⊥) → f ≡ front_accepted file r.start r.length → Fronts file f
-          unfolding front_of
-          a_text h z e = fronts_by file k.known (e ∙ sym (found h z).is)
+          pub a_text : {f : Front} {t : Taken} → r ≡ Ok t → f ≡ front_accepted file t.start t.length → Fronts file f
+          unfolding front_accepted three
+          a_text h e = rw e (accepted file k header lengths (told_in ∙ h) refl)
 
 pub ruleset fronting = (front_short, no_front_lem, no_dims, no_list, no_text, text_inside, a_text, told_so, standing_so, bytes_known)

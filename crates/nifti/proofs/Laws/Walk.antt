@@ -1,20 +1,22 @@
 -- THE WALK OVER A LIST, step by step, and the body that it takes. Assumes nothing.
-use Rattle.std.specs.Prelude.{◌≡◌, refl, List, [], ◌∷◌, Bool, false, ◌&&◌, not, ℕ, zero, suc, ◌+◌, ◌-◌, ◌%◌, ◌≤◌, ◌<◌, eqb, length, take, Option, Some, None}
+use Rattle.std.specs.Prelude.{◌≡◌, refl, List, [], ◌∷◌, Bool, true, false, not, cond, ℕ, zero, suc, ◌+◌, ◌-◌, ◌%◌, ◌≤◌, ◌<◌, eqb, length, take, drop, ok_or, is_some, Option}
+use Rattle.std.specs.Prelude.{Option as Maybe, Some, None, Result, Err}
 use Rattle.std.proofs.Math.Path.{sym, ap}
-use Rattle.std.proofs.Common.{◌∙◌, subst, take-take}
-use Rattle.std.proofs.Math.Bool.{true}
-use native.Mathlib.Omega.{arith}
-use Rattle.std.proofs.Math.ListN.{drop}
-use Rattle.std.proofs.Math.Seq.{slice, drop-drop, length-slice}
-use borrow.Author.Tests.{eq-eqb, ne_eqb, le-leb, lt-leb, lt-ltb, le-ltb, not-true, not-false}
-use Rattle.lists.proofs.Laws.Booleans.{and_no, refute}
+use Rattle.std.proofs.Common.{◌∙◌, take-take, length-drop, length-take-le, drop-drop, arith, true≢false}
+use Rattle.std.proofs.lemmas.List.{drop-take}
+use Rattle.std.proofs.lemmas.Bool.{false≢true}
+use Rattle.std.proofs.Math.Seq.{slice}
+use borrow.Author.Tests.{eq-eqb, ne_eqb, le-leb, lt-leb, lt-ltb, le-ltb, not-false}
+use Rattle.lists.proofs.Laws.Booleans.{refute}
 use Rattle.records.specs.Bytes.{number_written}
 use Rattle.nifti.specs.Fields.{ordered, number_at}
-use Rattle.nifti.specs.Extensions.{Extension, size_of}
-use Rattle.nifti.specs.Model.{good_size, extension_in, one_more_if, cut, not_listed, taken, taken_by}
+use Rattle.nifti.specs.Extensions.{Extension, size_of, first_text}
+use Rattle.nifti.specs.Model.{good_size, extension_in, one_more_if, cut, taken_or, taken_as, text_from, not_listed}
 use Rattle.nifti.proofs.Laws.Lists.{Fits, size_fits, cut_none, cut_bad, cut_good, size_is, body_length}
 use Rattle.nifti.specs.declared.Order.{Order}
 use Rattle.nifti.specs.declared.Taken.{Taken}
+use Rattle.nifti.specs.declared.Refusal.{Refusal}
+use Rattle.nifti.specs.declared.Refusal.TheVariants.{NoList, NoText}
 
 -- ---- A part of a part.
 
@@ -28,33 +30,56 @@ pub number_within : (o : Order) (w k end : ℕ) (s : List ℕ) → k + w ≤ end
 unfolding number_at
 number_within o w k end s h = ap (λ l. number_written (ordered o l)) (take_within w k end s h)
 
-number_slice : (o : Order) (w at place end : ℕ) (s : List ℕ) → place + at + w ≤ end
-    → number_at o w at (slice place end s) ≡ number_at o w (place + at) s
-unfolding number_at
-number_slice o w at place end s h =
-    ap (λ l. number_written (ordered o (take w l))) (drop-drop at place (take end s)) ∙ number_within o w (place + at) end s h
+-- ---- The size of the first extension.
+
+pub size_short : (left n : ℕ) → left < 16 → good_size n left ≡ false
+size_short left n h = refute _ (λ g. let f = size_fits n left g in let a = f.low in let b = f.inside in omega arith)
 
 -- ---- One step of the answer.
 
-take_on : (start size place : ℕ) (e : Extension) (l : Option (List Extension)) → start ≡ 0 → e.code ≡ 32
-    → taken_by start size place (one_more_if true e l) ≡ taken_by (place + 8) (length e.body) (place + size_of e) l
-unfolding taken_by taken one_more_if
-take_on start size place e None z c = refl
-take_on start size place e (Some es) z c = rw (eq-eqb start 0 z, eq-eqb e.code 32 c)
+abbrev found_then : Maybe Taken → (place : ℕ) → Extension → Maybe Taken
+found_then (Some t) place e = Some t
+found_then None place e = cond (eqb e.code 32) (Some (record { start = place + 8; length = length e.body })) None
 
-skip_on : (start size place : ℕ) (e : Extension) (l : Option (List Extension)) → (eqb start 0 && eqb e.code 32) ≡ false
-    → taken_by start size place (one_more_if true e l) ≡ taken_by start size (place + size_of e) l
-unfolding taken_by taken one_more_if
-skip_on start size place e None h = refl
-skip_on start size place e (Some es) h = rw h
+step_on : (found : Maybe Taken) (place : ℕ) (e : Extension) (l : Option (List Extension))
+    → text_from found place (one_more_if true e l) ≡ text_from (found_then found place e) (place + size_of e) l
+unfolding text_from taken_or taken_as first_text one_more_if
+step_on found place e None = refl
+step_on (Some t) place e (Some es) = refl
+step_on None place e (Some es) = go (eqb e.code 32)
+  where
+    go : (t : Bool)
+        → taken_as (cond t (Some (record { start = place + 8; bytes = e.body })) (first_text (place + size_of e) es))
+        ≡ taken_or (cond t (Some (record { start = place + 8; length = length e.body })) None)
+        (taken_as (first_text (place + size_of e) es))
+    go true = refl
+    go false = refl
 
--- ---- The loop.
+module _ (place : ℕ) (e : Extension) where
+  kept_past : (found : Maybe Taken) → is_some found ≡ true → found_then found place e ≡ found
+  kept_past None p = absurd (false≢true p)
+  kept_past (Some t) p = refl
 
-pub record Walking (file : List ℕ) (o : Order) (end start size place left : ℕ) : Type 0 where
+  kept_other : (found : Maybe Taken) → is_some found ≡ false → (e.code ≡ 32 → ⊥) → found_then found place e ≡ found
+  kept_other None p z = rw (ne_eqb e.code 32 z) refl
+  kept_other (Some t) p z = absurd (true≢false p)
+
+  kept_taken : (found : Maybe Taken) → is_some found ≡ false → e.code ≡ 32
+      → found_then found place e ≡ Some (record { start = place + 8; length = length e.body })
+  kept_taken None p z = rw (eq-eqb e.code 32 z) refl
+  kept_taken (Some t) p z = absurd (true≢false p)
+
+-- ---- The loop: what it answers is what it would answer of the rest.
+
+part_is : (from end : ℕ) (s : List ℕ) → from ≤ end → slice from end s ≡ take (end - from) (drop from s)
+part_is from end s h =
+    let e : end ≡ from + (end - from) = omega arith in ap (λ n. drop from (take n s)) e ∙ drop-take from (end - from) s
+
+pub record Walking (file : List ℕ) (o : Order) (end : ℕ) (found : Maybe Taken) (place : ℕ) : Type 0 where
   pub low : 544 ≤ place
-  pub reach : place + left ≡ end
+  pub ahead : place ≤ end
   pub inside : end ≤ length file
-  pub same : taken_by 0 0 544 (cut o (slice 544 end file)) ≡ taken_by start size place (cut o (slice place end file))
+  pub same : text_from None 544 (cut o (slice 544 end file)) ≡ text_from found place (cut o (slice place end file))
 
 -- what a good size allows
 pub size_allows : {size left : ℕ} {b : Bool} → b ≡ good_size size left → not b ≡ false → Fits size left
@@ -70,103 +95,90 @@ module _ (size left : ℕ) {b : Bool} (p : b ≡ good_size size left) (y : not b
   pub allows_less : left - size < left
   allows_less = let l = (size_allows p y).low in let i = (size_allows p y).inside in omega arith
 
-pub walk_begins : (file : List ℕ) (o : Order) (end : ℕ) → 544 ≤ end → end ≤ length file → Walking file o end 0 0 544 (end - 544)
-walk_begins file o end h k = record { low = omega arith; reach = omega arith; inside = k; same = refl }
+pub walk_begins : (file : List ℕ) (o : Order) (end : ℕ) → 544 ≤ end → end ≤ length file → Walking file o end None 544
+walk_begins file o end h k = record { low = omega arith; ahead = h; inside = k; same = refl }
 
-module _ {file : List ℕ} {o : Order} {end start size place left : ℕ} (w : Walking file o end start size place left) where
-  long_slice : length (slice place end file) ≡ left
-  long_slice = let r = w.reach in length-slice place end file w.inside ∙ omega arith
+module _ {file : List ℕ} {o : Order} {end : ℕ} {found : Maybe Taken} {place : ℕ} (w : Walking file o end found place) where
+  pub reach : place + (end - place) ≡ end
+  reach = let a = w.ahead in omega arith
 
-  pub walk_ends : left ≤ 0 → record { listed = true; start = start; length = size } ≡ taken_by 0 0 544 (cut o (slice 544 end file))
-  unfolding taken_by taken
-  walk_ends h =
-      let z : left ≡ 0 = omega arith in
-      sym (w.same ∙ ap (taken_by start size place) (cut_none o (slice place end file) (long_slice ∙ z)))
+  abbrev rest : List ℕ
+  rest = take (end - place) (drop place file)
 
-  fails : 0 < left → good_size (number_at o 4 0 (slice place end file)) left ≡ false
-      → not_listed ≡ taken_by 0 0 544 (cut o (slice 544 end file))
-  unfolding taken_by
-  fails h b =
-      let l = long_slice in
-      sym (w.same ∙ ap (taken_by start size place)
-      (cut_bad o (slice place end file) (λ z. omega arith)
-      (subst (λ n. good_size (number_at o 4 0 (slice place end file)) n ≡ false) (sym l) b)))
+  long : length rest ≡ end - place
+  long = let d = length-drop place file in let i = w.inside in length-take-le (end - place) (drop place file) (omega arith)
 
-  pub walk_short : {r : Taken} → r ≡ not_listed → 0 < left → left < 16 → r ≡ taken_by 0 0 544 (cut o (slice 544 end file))
-  walk_short x h k = x ∙ fails h (refute _ (λ g. let f = size_fits _ _ g in let a = f.low in let b = f.inside in omega arith))
+  told : text_from None 544 (cut o (slice 544 end file)) ≡ text_from found place (cut o rest)
+  told = w.same ∙ ap (λ s. text_from found place (cut o s)) (part_is place end file w.ahead)
 
-  module _ {n : ℕ} (e : n ≡ number_at o 4 place file) (room : 16 ≤ left) where
-    here : number_at o 4 0 (slice place end file) ≡ n
-    here =
-        let r = w.reach in
-        let z : place + 0 ≡ place = omega arith in
-        number_slice o 4 0 place end file (omega arith) ∙ ap (λ k. number_at o 4 k file) z ∙ sym e
+  pub walk_ends : end ≤ place → ok_or found NoText ≡ text_from None 544 (cut o (slice 544 end file))
+  unfolding text_from taken_or taken_as first_text
+  walk_ends h = sym (told ∙ ap (text_from found place) (cut_none o rest (long ∙ omega arith)) ∙ go found)
+    where
+      go : (m : Maybe Taken) → taken_or m (Err NoText) ≡ ok_or m NoText
+      go None = refl
+      go (Some t) = refl
 
-    pub walk_fails : {r : Taken} {b : Bool} → r ≡ not_listed → b ≡ good_size n left → not b ≡ true
-        → r ≡ taken_by 0 0 544 (cut o (slice 544 end file))
-    walk_fails {b = b} x q h = x ∙ fails (omega arith) (rw here (sym q ∙ not-true b h))
+  pub walk_fails : place < end → good_size (number_at o 4 0 rest) (length rest) ≡ false
+      → Err NoList ≡ text_from None 544 (cut o (slice 544 end file))
+  unfolding text_from
+  walk_fails h b = let l = long in sym (told ∙ ap (text_from found place) (cut_bad o rest (λ z. omega arith) b))
 
-    module _ {b : Bool} (p : b ≡ good_size n left) (y : not b ≡ false) where
-      g : good_size n left ≡ true
-      g = sym p ∙ not-false b y
+  pub walk_short : {r : Result Taken Refusal} → r ≡ not_listed → place < end → end - place < 16
+      → r ≡ text_from None 544 (cut o (slice 544 end file))
+  walk_short x h k = let l = long in x ∙ walk_fails h (size_short (length rest) (number_at o 4 0 rest) (omega arith))
 
-      good_here : good_size (number_at o 4 0 (slice place end file)) (length (slice place end file)) ≡ true
-      good_here = rw (here, long_slice) g
+  module _ {n : ℕ} (e : n ≡ number_at o 4 0 rest) (g : good_size n (length rest) ≡ true) where
+    fits : Fits n (length rest)
+    fits = size_fits n (length rest) g
 
-      fits : Fits (number_at o 4 0 (slice place end file)) (length (slice place end file))
-      fits = size_fits _ _ good_here
+    the : Extension
+    the = extension_in o rest
 
-      the : Extension
-      the = extension_in o (slice place end file)
+    fits_there : Fits (number_at o 4 0 rest) (length rest)
+    fits_there = rw (sym e) fits
 
-      the_size : size_of the ≡ n
-      unfolding the
-      the_size = size_is o (slice place end file) fits ∙ here
+    the_size : size_of the ≡ n
+    unfolding the
+    the_size = size_is o rest fits_there ∙ sym e
 
-      the_code : {c : ℕ} → c ≡ number_at o 4 (place + 4) file → the.code ≡ c
+    the_body : length the.body ≡ n - 8
+    unfolding the extension_in
+    the_body = body_length o rest fits_there ∙ ap (λ k. k - 8) (sym e)
+
+    stepped : cut o rest ≡ one_more_if true the (cut o (slice (place + n) end file))
+    unfolding the
+    stepped = cut_good o rest (rw (sym e) g) ∙ ap (λ k. one_more_if true (extension_in o rest) (cut o k))
+        (ap (λ k. drop k rest) (sym e) ∙ ap (drop n) (sym (part_is place end file w.ahead)) ∙ drop-drop n place (take end file))
+
+    goes : (found₁ : Maybe Taken) → found_then found place the ≡ found₁ → Walking file o end found₁ (place + n)
+    goes found₁ q =
+        let a = w.low in
+        let b = w.ahead in
+        let l = long in
+        let i = fits.inside in
+        record {
+          low = omega arith;
+          ahead = omega arith;
+          inside = w.inside;
+          same = told ∙ ap (text_from found place) stepped ∙ step_on found place the (cut o (slice (place + n) end file))
+              ∙ ap (λ m. text_from m (place + size_of the) (cut o (slice (place + n) end file))) q
+              ∙ ap (λ k. text_from found₁ (place + k) (cut o (slice (place + n) end file))) the_size;
+        }
+
+    -- one was taken before
+    pub walk_past : is_some found ≡ true → Walking file o end found (place + n)
+    walk_past p = goes found (kept_past place the found p)
+
+    module _ {c : ℕ} (q : c ≡ number_at o 4 4 rest) (p : is_some found ≡ false) where
+      pub walk_other : (c ≡ 32 → ⊥) → Walking file o end found (place + n)
       unfolding the extension_in
-      the_code q = let r = w.reach in number_slice o 4 4 place end file (omega arith) ∙ sym q
+      walk_other z = goes found (kept_other place the found p (λ y. z (q ∙ y)))
 
-      the_body : length the.body ≡ n - 8
+      pub walk_takes : c ≡ 32 → Walking file o end (Some (record { start = place + 8; length = n - 8 })) (place + n)
       unfolding the extension_in
-      the_body = body_length o (slice place end file) fits ∙ ap (λ k. k - 8) here
-
-      stepped : cut o (slice place end file) ≡ one_more_if true the (cut o (slice (place + n) end file))
-      unfolding the
-      stepped =
-          cut_good o (slice place end file) good_here
-          ∙ ap (λ l. one_more_if true (extension_in o (slice place end file)) (cut o l))
-          (ap (λ k. drop k (slice place end file)) here ∙ drop-drop n place (take end file))
-
-      goes : (start₁ size₁ : ℕ) → taken_by start size place (one_more_if true the (cut o (slice (place + n) end file)))
-          ≡ taken_by start₁ size₁ (place + size_of the) (cut o (slice (place + n) end file))
-          → Walking file o end start₁ size₁ (place + n) (left - n)
-      goes start₁ size₁ q =
-          let f = size_fits n left g in
-          let i = f.inside in
-          let r = w.reach in
-          let u = w.low in
-          record {
-            low = omega arith;
-            reach = omega arith;
-            inside = w.inside;
-            same = w.same ∙ ap (taken_by start size place) stepped ∙ q
-                ∙ ap (λ k. taken_by start₁ size₁ (place + k) (cut o (slice (place + n) end file))) the_size;
-          }
-
-      -- one was taken before
-      pub walk_past : (start ≡ 0 → ⊥) → Walking file o end start size (place + n) (left - n)
-      walk_past z = goes start size (skip_on start size place the _ (rw (ne_eqb start 0 z)))
-
-      module _ {c : ℕ} (q : c ≡ number_at o 4 (place + 4) file) where
-        pub walk_other : (c ≡ 32 → ⊥) → Walking file o end start size (place + n) (left - n)
-        walk_other z = goes start size (skip_on start size place the _
-            (and_no (eqb start 0) (eqb the.code 32) (ne_eqb the.code 32 (λ y. z (sym (the_code q) ∙ y)))))
-
-        pub walk_takes : start ≡ 0 → c ≡ 32 → Walking file o end (place + 8) (n - 8) (place + n) (left - n)
-        walk_takes y z = goes (place + 8) (n - 8)
-            (take_on start size place the _ y (the_code q ∙ z)
-            ∙ ap (λ k. taken_by (place + 8) k (place + size_of the) (cut o (slice (place + n) end file))) the_body)
+      walk_takes z = goes (Some (record { start = place + 8; length = n - 8 }))
+          (kept_taken place the found p (sym q ∙ z) ∙ ap (λ k. Some (record { start = place + 8; length = k })) the_body)
 
 pub ruleset walking = (
   allows_inside,

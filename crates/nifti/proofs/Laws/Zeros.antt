@@ -1,7 +1,7 @@
 -- THE ZEROS AT THE END: dropped one by one from the last. Assumes nothing.
 use Rattle.std.specs.Prelude.{◌≡◌, refl, List, [], ◌∷◌, ◌++◌, Bool, true, false, cond, ℕ, suc, ◌+◌, ◌-◌, ◌≤◌, ◌<◌, eqb, get_or, take, drop, replicate}
 use Rattle.std.proofs.Math.Path.{sym}
-use Rattle.std.proofs.Common.{ap, ◌∙◌, add-one, length-append, length-drop, length-take, take-suc, length-take-le, get_or-drop, eqb-true, ne_eqb}
+use Rattle.std.proofs.Common.{ap, ◌∙◌, add-one, length-append, length-drop, length-take, take_all, take-suc, length-take-le, get_or-drop, eqb-true, ne_eqb}
 use native.Mathlib.Omega.{arith}
 use Rattle.std.proofs.Math.ListN.{length}
 use Rattle.std.proofs.Math.Seq.{take-append_seam}
@@ -74,6 +74,26 @@ module _ {file : List ℕ} {start size n : ℕ} (l : Left file start size n) whe
         ∙ all_kept (drop start file) (n - 1) room (λ q. e (sym (get_or-drop start file (n - 1) 0) ∙ q)) ∙ back)
 
 pub ruleset stripping = (left_begins, left_ends, left_next, left_stays)
+
+-- ---- As a loop down a slice meets them: the last byte of what is left.
+
+pub none_kept : (s : List ℕ) → length s < 1 → s ≡ without_zeros s
+unfolding without_zeros
+none_kept [] h = refl
+none_kept (b ∷ s) h = absurd (omega arith)
+
+module _ (s : List ℕ) (h : 1 ≤ length s) where
+  parted : s ≡ take (length s - 1) s ++ (get_or s (length s - 1) 0 ∷ [])
+  parted =
+      let e : length s ≡ suc (length s - 1) = omega arith in
+      sym (take_all (length s) s (omega arith)) ∙ ap (λ n. take n s) e ∙ take-suc s (length s - 1) 0 (omega arith)
+
+  pub last_passed : get_or s (length s - 1) 0 ≡ 0 → without_zeros (take (length s - 1) s) ≡ without_zeros s
+  last_passed e = sym (ap without_zeros parted ∙ ap (λ b. without_zeros (take (length s - 1) s ++ (b ∷ []))) e
+      ∙ zero_dropped (take (length s - 1) s))
+
+  pub last_kept : (get_or s (length s - 1) 0 ≡ 0 → ⊥) → s ≡ without_zeros s
+  last_kept e = sym (ap without_zeros parted ∙ other_kept (take (length s - 1) s) (get_or s (length s - 1) 0) e ∙ sym parted)
 
 -- ---- NO-ZERO-LAST: what is kept and zeros are the bytes, and what is kept does not end with a zero.
 

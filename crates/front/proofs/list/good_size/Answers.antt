@@ -1,15 +1,11 @@
-use Rattle.std.proofs.Common.{rules}
-use Rattle.nifti.proofs.Laws.Walk.{sizing}
+use Rattle.std.proofs.Common.{rules, tests}
+use Rattle.nifti.specs.Model.{good_size}
 use Rattle.front.proofs.list.good_size.Goals as goal
 
-pub returns-then-size-lt16 : goal.returns-then-size-lt16
-returns-then-size-lt16 c = search (sizing, rules)
+pub returns-then-size-le2147483647-clause-value : goal.returns-then-size-le2147483647-clause-value
+unfolding good_size
+returns-then-size-le2147483647-clause-value c = search (tests, rules)
 
-pub returns-then-left-size : goal.returns-then-left-size
-returns-then-left-size c = search (sizing, rules)
-
-pub returns-then-size-gt2147483647 : goal.returns-then-size-gt2147483647
-returns-then-size-gt2147483647 c = search (sizing, rules)
-
-pub returns : goal.returns
-returns c = search (sizing, rules)
+pub returns-else-size-le2147483647-clause-value : goal.returns-else-size-le2147483647-clause-value
+unfolding good_size
+returns-else-size-le2147483647-clause-value c = search (tests, rules)

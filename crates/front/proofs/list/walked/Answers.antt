@@ -1,36 +1,23 @@
 use Rattle.std.proofs.Common.{rules}
-use Rattle.nifti.proofs.Laws.Walk.{walking, walk_ends, walk_takes, walk_other, walk_past}
+use Rattle.nifti.proofs.Laws.Walk.{walk_ends, walk_fails, walk_past, walk_other, walk_takes}
 use Rattle.front.proofs.list.walked.Goals as goal
+use Rattle.front.proofs.list.walked.Goals.{then-is_none+then-four-eq32, else-is_none, else-is_none-via-then-is_none+else-four-eq32, else-is_none-via-else-is_none}
 
-pub returns-then-left-lt16 : goal.returns-then-left-lt16
-returns-then-left-lt16 c = search (walking, rules)
+pub returns-in_err-size : goal.returns-in_err-size
+returns-in_err-size c = search (walk_fails, rules)
 
-pub returns-then-not-good_size : goal.returns-then-not-good_size
-returns-then-not-good_size c = search (walking, rules)
-
-pub overflow_sub-left-in-loop-left : goal.overflow_sub-left-in-loop-left
-overflow_sub-left-in-loop-left c = search (walking, rules)
-
-pub overflow_sub-body : goal.overflow_sub-body
-overflow_sub-body c = search (walking, rules)
-
-pub loop-left-smaller-then-four-eq32 : goal.loop-left-smaller-then-four-eq32
-loop-left-smaller-then-four-eq32 c = search (walking, rules)
-
-pub loop-left-preserved-then-four-eq32 : goal.loop-left-preserved-then-four-eq32
-loop-left-preserved-then-four-eq32 c = search walk_takes
-
-pub loop-left-smaller-else-four-eq32 : goal.loop-left-smaller-else-four-eq32
-loop-left-smaller-else-four-eq32 c = search (walking, rules)
-
-pub loop-left-preserved-else-four-eq32 : goal.loop-left-preserved-else-four-eq32
-loop-left-preserved-else-four-eq32 c = search walk_other
-
-pub loop-left-smaller : goal.loop-left-smaller
-loop-left-smaller c = search (walking, rules)
-
-pub loop-left-preserved : goal.loop-left-preserved
-loop-left-preserved c = search walk_past
+pub loop-place-preserved : goal.loop-place-preserved
+loop-place-preserved c =
+    let w = c.loop-place.invariant in
+    let e = c.in_ok-size.ensures.0 in
+    let g = c.in_ok-size.ensures.1 in
+    elim c.if-is_none.branch [
+      | then-is_none+then-four-eq32 x ↦ rw x.text-is (walk_takes w e g x.four.ensures x.if-is_none.ensures x.if-four-eq32.true)
+      | else-is_none x ↦ rw x.text-is (elim x.else-is_none.branch [
+        | else-is_none-via-then-is_none+else-four-eq32 y ↦ walk_other w e g y.four.ensures y.if-is_none.ensures y.if-four-eq32.false
+        | else-is_none-via-else-is_none y ↦ walk_past w e g y.if-is_none.ensures
+      ])
+    ]
 
 pub returns : goal.returns
-returns c = search walk_ends
+returns c = search (walk_ends, rules)
