@@ -11,12 +11,10 @@ use super::classes::is_blank;
 pub fn blanks_end(text: &[u8], at: usize) -> usize
     ensures { Some result ≡ stepped (length text.now) (span blank (drop at text.now)) }
 {
-    let mut i = at;
-    while i < text.len() {
+    for i in at..text.len() {
         if !is_blank(text[i]) {
             return i;
         }
-        i += 1;
     }
     text.len()
 }
@@ -25,10 +23,7 @@ pub fn blanks_end(text: &[u8], at: usize) -> usize
 pub fn gap_end(text: &[u8], at: usize) -> Option<usize>
     ensures { result ≡ stepped (length text.now) (gap_at (drop at text.now)) }
 {
-    if text.len() <= at {
-        return None;
-    }
-    if !is_blank(text[at]) {
+    if !is_blank(*text.get(at)?) {
         return None;
     }
     Some(blanks_end(text, at + 1))
@@ -38,13 +33,11 @@ pub fn gap_end(text: &[u8], at: usize) -> Option<usize>
 pub fn feed_end(text: &[u8], at: usize) -> usize
     ensures { Some result ≡ stepped (length text.now) (feed_at (ascii "\n") (drop at text.now)) }
 {
-    if text.len() <= at {
-        return text.len();
+    match text.get(at) {
+        Some(b'\n') => at + 1,
+        Some(_) => at,
+        None => text.len(),
     }
-    if text[at] == b'\n' {
-        return at + 1;
-    }
-    at
 }
 
 // `=`, with blanks round it.
@@ -52,66 +45,47 @@ pub fn equals_end(text: &[u8], at: usize) -> Option<usize>
     ensures { result ≡ stepped (length text.now) (equals_at (drop at text.now)) }
 {
     let i = blanks_end(text, at);
-    if text.len() <= i {
-        return None;
-    }
-    if text[i] != b'=' {
+    if *text.get(i)? != b'=' {
         return None;
     }
     Some(blanks_end(text, i + 1))
+}
+
+// What stands from `at` on: nothing, behind the end.
+fn behind(text: &[u8], at: usize) -> &[u8]
+    ensures { result.now ≡ drop at text.now }
+{
+    text.get(at..).unwrap_or(&[])
 }
 
 // The bytes of the word.
 pub fn mark_end(text: &[u8], at: usize, word: &[u8]) -> Option<usize>
     ensures { result ≡ stepped (length text.now) (mark word.now (drop at text.now)) }
 {
-    let mut i = at;
-    let mut k = 0;
-    while k < word.len() {
-        if text.len() <= i {
-            return None;
-        }
-        if text[i] != word[k] {
-            return None;
-        }
-        i += 1;
-        k += 1;
-    }
-    if text.len() < i {
-        return Some(text.len());
-    }
-    Some(i)
+    let rest = behind(text, at).strip_prefix(word)?;
+    Some(text.len() - rest.len())
 }
 
 // The word stands at `at`.
 pub fn starts(text: &[u8], at: usize, word: &[u8]) -> bool
     ensures { result ≡ begins word.now (drop at text.now) }
 {
-    match mark_end(text, at, word) {
-        Some(_) => true,
-        None => false,
-    }
+    mark_end(text, at, word).is_some()
 }
 
 // `>` or `/` stands behind the blanks at `at`.
 pub fn tag_ends(text: &[u8], at: usize) -> bool
     ensures { result ≡ ends closing (drop at text.now) }
 {
-    let i = blanks_end(text, at);
-    if text.len() <= i {
-        return false;
+    match text.get(blanks_end(text, at)) {
+        Some(b) => (*b == b'>') | (*b == b'/'),
+        None => false,
     }
-    let b = text[i];
-    (b == b'>') | (b == b'/')
 }
 
 // `?` stands behind the blanks at `at`.
 pub fn asks(text: &[u8], at: usize) -> bool
     ensures { result ≡ ends asking (drop at text.now) }
 {
-    let i = blanks_end(text, at);
-    if text.len() <= i {
-        return false;
-    }
-    text[i] == b'?'
+    text.get(blanks_end(text, at)) == Some(&b'?')
 }

@@ -8,10 +8,8 @@ pub fn block_lacks(text: &[u8], at: usize, sign: u8) -> bool
     ensures { result ≡ through (other sign) text.now at (at + 16) }
 {
     let mut free = true;
-    let mut i = 0;
-    while i < 16 {
-        free = free & (text[at + i] != sign);
-        i += 1;
+    for i in 0..16 {
+        free &= text[at + i] != sign;
     }
     free
 }
@@ -22,11 +20,9 @@ fn block_shown(text: &[u8], at: usize) -> bool
     ensures { result ≡ through shown text.now at (at + 16) }
 {
     let mut free = true;
-    let mut k = 0;
-    while k < 16 {
+    for k in 0..16 {
         let b = text[at + k];
-        free = free & (((31 < b) & (b <= 127)) | (b == b'\n'));
-        k += 1;
+        free &= ((31 < b) & (b <= 127)) | (b == b'\n');
     }
     free
 }
@@ -45,13 +41,7 @@ pub fn past_quick(text: &[u8], at: usize) -> usize
     ensures { Through quick text.now at result }
 {
     let mut i = at;
-    while i < text.len() {
-        if text.len() - i < 16 {
-            return i;
-        }
-        if !block_quick(text, i) {
-            return i;
-        }
+    while 16 <= text.len().saturating_sub(i) && block_quick(text, i) {
         i += 16;
     }
     i

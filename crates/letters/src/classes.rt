@@ -3,78 +3,87 @@ ghost use Rattle.std.specs.Prelude.{◌≡◌};
 ghost use Rattle.grammar.specs.Bytes.{between, blank, name_start, name_byte, quote};
 ghost use Rattle.grammar.specs.Characters.{lead1, lead2, lead3, lead4, continues, noncharacter};
 
+#[tactic(auto, unfolding(grammar::specs::Bytes::blank))]
 pub fn is_blank(b: u8) -> bool
     ensures { result ≡ blank b }
 {
-    (b == b' ') | ((b == b'\t') | ((b == b'\n') | (b == b'\r')))
+    matches!(b, b' ' | b'\t' | b'\n' | b'\r')
 }
 
+#[tactic(auto, unfolding(grammar::specs::Bytes::name_start, grammar::specs::Bytes::letter))]
 pub fn is_name_start(b: u8) -> bool
     ensures { result ≡ name_start b }
 {
-    (((b'A' <= b) & (b <= b'Z')) | ((b'a' <= b) & (b <= b'z'))) | (b == b'_')
+    matches!(b, b'A'..=b'Z' | b'a'..=b'z' | b'_')
 }
 
+#[tactic(auto, unfolding(grammar::specs::Bytes::name_byte, grammar::specs::Bytes::letter))]
 pub fn is_name_byte(b: u8) -> bool
     ensures { result ≡ name_byte b }
 {
-    (((b'A' <= b) & (b <= b'Z')) | ((b'a' <= b) & (b <= b'z')))
-        | (((b'0' <= b) & (b <= b'9'))
-            | ((b == b'_') | ((b == b'-') | ((b == b'.') | (b == b':')))))
+    matches!(b, b'A'..=b'Z' | b'a'..=b'z' | b'0'..=b'9' | b'_' | b'-' | b'.' | b':')
 }
 
+#[tactic(auto, unfolding(grammar::specs::Bytes::quote))]
 pub fn is_quote(b: u8) -> bool
     ensures { result ≡ quote b }
 {
-    (b == b'"') | (b == b'\'')
+    matches!(b, b'"' | b'\'')
 }
 
 // Most characters of one byte: a test that serves for speed alone.
 pub fn is_plain(b: u8) -> bool
     ensures { result ≡ between 32 127 b }
 {
-    (32 <= b) & (b <= 127)
+    matches!(b, 32..=127)
 }
 
 // A character of one byte.
+#[tactic(auto, unfolding(grammar::specs::Characters::lead1, grammar::specs::Bytes::blank))]
 pub fn is_lead1(a: u8) -> bool
     ensures { result ≡ lead1 a }
 {
-    ((a == b' ') | ((a == b'\t') | ((a == b'\n') | (a == b'\r')))) | ((32 <= a) & (a <= 127))
+    matches!(a, b' ' | b'\t' | b'\n' | b'\r' | 32..=127)
 }
 
+#[tactic(auto, unfolding(grammar::specs::Characters::lead2))]
 pub fn is_lead2(a: u8) -> bool
     ensures { result ≡ lead2 a }
 {
-    (194 <= a) & (a <= 223)
+    matches!(a, 194..=223)
 }
 
+#[tactic(auto, unfolding(grammar::specs::Characters::continues))]
 pub fn is_continuing(b: u8) -> bool
     ensures { result ≡ continues b }
 {
-    (128 <= b) & (b <= 191)
+    matches!(b, 128..=191)
 }
 
+#[tactic(auto, unfolding(grammar::specs::Characters::lead3, grammar::specs::Characters::continues))]
 pub fn is_lead3(a: u8, b: u8) -> bool
     ensures { result ≡ lead3 a b }
 {
-    ((a == 224) & ((160 <= b) & (b <= 191)))
-        | ((((225 <= a) & (a <= 236)) & ((128 <= b) & (b <= 191)))
-            | (((a == 237) & ((128 <= b) & (b <= 159)))
-                | (((238 <= a) & (a <= 239)) & ((128 <= b) & (b <= 191)))))
+    matches!(
+        (a, b),
+        (224, 160..=191) | (225..=236, 128..=191) | (237, 128..=159) | (238..=239, 128..=191)
+    )
 }
 
+#[tactic(auto, unfolding(grammar::specs::Characters::lead4, grammar::specs::Characters::continues))]
 pub fn is_lead4(a: u8, b: u8) -> bool
     ensures { result ≡ lead4 a b }
 {
-    ((a == 240) & ((144 <= b) & (b <= 191)))
-        | ((((241 <= a) & (a <= 243)) & ((128 <= b) & (b <= 191)))
-            | ((a == 244) & ((128 <= b) & (b <= 143))))
+    matches!(
+        (a, b),
+        (240, 144..=191) | (241..=243, 128..=191) | (244, 128..=143)
+    )
 }
 
 // U+FFFE and U+FFFF.
+#[tactic(auto, unfolding(grammar::specs::Characters::noncharacter))]
 pub fn is_noncharacter(a: u8, b: u8, c: u8) -> bool
     ensures { result ≡ noncharacter a b c }
 {
-    (a == 239) & ((b == 191) & (190 <= c))
+    matches!((a, b, c), (239, 191, 190..))
 }

@@ -11,12 +11,10 @@ use super::classes::{is_name_byte, is_name_start};
 pub fn name_bytes_end(text: &[u8], at: usize) -> usize
     ensures { Some result ≡ stepped (length text.now) (span name_byte (drop at text.now)) }
 {
-    let mut i = at;
-    while i < text.len() {
+    for i in at..text.len() {
         if !is_name_byte(text[i]) {
             return i;
         }
-        i += 1;
     }
     text.len()
 }
@@ -25,10 +23,7 @@ pub fn name_bytes_end(text: &[u8], at: usize) -> usize
 pub fn name_end(text: &[u8], at: usize) -> Option<usize>
     ensures { result ≡ stepped (length text.now) (name_at (drop at text.now)) }
 {
-    if text.len() <= at {
-        return None;
-    }
-    if !is_name_start(text[at]) {
+    if !is_name_start(*text.get(at)?) {
         return None;
     }
     let i = name_bytes_end(text, at + 1);
@@ -42,15 +37,5 @@ pub fn name_end(text: &[u8], at: usize) -> Option<usize>
 pub fn equal(s: &[u8], t: &[u8]) -> bool
     ensures { result ≡ same_bytes s.now t.now }
 {
-    if s.len() != t.len() {
-        return false;
-    }
-    let mut i = 0;
-    while i < s.len() {
-        if s[i] != t[i] {
-            return false;
-        }
-        i += 1;
-    }
-    true
+    s == t
 }

@@ -1,9 +1,6 @@
-use borrow.Author.Rules.{rules}
-use Rattle.steps.proofs.Laws.Steps.{ends_none, asking_some}
+use Rattle.std.specs.Prelude.{refl}
+use Rattle.letters.proofs.Fronts.{asks_there}
 use Rattle.letters.proofs.blanks.asks.Goals as goal
 
-pub returns-then-text-i : goal.returns-then-text-i
-returns-then-text-i c = search (ends_none, rules)
-
 pub returns : goal.returns
-returns c = search (asking_some, rules)
+returns c = asks_there _ _ _ c.blanks_end.ensures _ c.get.ensures.lookup _ refl c.eq.ensures

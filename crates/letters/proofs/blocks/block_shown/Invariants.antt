@@ -1,10 +1,6 @@
-use Prim.Native.Nat.{◌-◌}
 use Rattle.steps.specs.Blocks.{shown}
 use Rattle.steps.proofs.Laws.Blocks.{Blocking}
 use Rattle.letters.proofs.blocks.block_shown.Given as goal
 
 abbrev pub invariant-loop-k : goal.invariant-loop-k
 invariant-loop-k l = Blocking shown l.text l.at l.k l.free
-
-abbrev pub decreases-loop-k : goal.decreases-loop-k
-decreases-loop-k l = 16 - l.k

@@ -1,4 +1,4 @@
-use Rattle.std.proofs.lemmas.Bool.{not_from_true}
+use Rattle.std.proofs.Common.{ap, not}
 use Rattle.steps.proofs.Laws.Blocks.{by_blocks, through_on}
 use Rattle.letters.proofs.blocks.past_quick.Goals as goal
 
@@ -6,4 +6,4 @@ pub loop-i-init : goal.loop-i-init
 loop-i-init c = search by_blocks
 
 pub loop-i-preserved : goal.loop-i-preserved
-loop-i-preserved c = through_on c.loop-i.invariant c.block_quick.ensures (not_from_true _ c.if-not-block_quick.false)
+loop-i-preserved c = through_on c.loop-i.invariant c.block_quick.ensures (ap not c.if-block_quick.true)

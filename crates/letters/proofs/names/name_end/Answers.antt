@@ -2,8 +2,8 @@ use borrow.Author.Rules.{rules}
 use Rattle.steps.proofs.Laws.Steps.{name_none, name_other, name_ahead, name_long, name_some}
 use Rattle.letters.proofs.names.name_end.Goals as goal
 
-pub returns-then-text-at : goal.returns-then-text-at
-returns-then-text-at c = search (name_none, rules)
+pub returns-in_err-get : goal.returns-in_err-get
+returns-in_err-get c = rw c.from_residual.ensures (search (name_none, rules))
 
 pub returns-then-not-is_name_start : goal.returns-then-not-is_name_start
 returns-then-not-is_name_start c = search (name_other, rules)
