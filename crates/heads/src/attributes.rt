@@ -92,10 +92,7 @@ pub fn attributes_end(text: &[u8], at: usize) -> Option<usize>
 pub fn head_end(text: &[u8], at: usize) -> Option<usize>
     ensures { result ≡ stepped (length text.now) (head_at (drop at text.now)) }
 {
-    if text.len() <= at {
-        return None;
-    }
-    if text[at] != b'<' {
+    if *text.get(at)? != b'<' {
         return None;
     }
     let i = name_end(text, at + 1)?;

@@ -1,6 +1,5 @@
 // CDATA.
 ghost use Rattle.std.specs.Prelude.{◌≡◌, length, drop, Some};
-ghost use Rattle.grammar.specs.Bytes.{ascii, begins};
 ghost use Rattle.grammar.specs.Read.{span};
 ghost use Rattle.grammar.specs.Parser.{data_character_at, data_at_lem};
 ghost use Rattle.steps.specs.Step.{stepped};
@@ -10,50 +9,32 @@ use super::characters::character_end;
 use letters::blanks::{feed_end, mark_end, starts};
 use letters::blocks::past_quick;
 
-// `]]>` stands at `at`.
-fn brackets_at(text: &[u8], at: usize) -> bool
-    ensures { result ≡ begins (ascii "]]>") (drop at text.now) }
-{
-    if text.len() <= at {
-        return false;
-    }
-    if text[at] != b']' {
-        return false;
-    }
-    starts(text, at, b"]]>")
-}
-
 // A character, or the end of a line.
 fn data_character_end(text: &[u8], at: usize) -> Option<usize>
     ensures { result ≡ stepped (length text.now) (data_character_at (drop at text.now)) }
 {
-    if text.len() <= at {
-        return None;
-    }
-    if text[at] == b'\r' {
+    if *text.get(at)? == b'\r' {
         return Some(feed_end(text, at + 1));
     }
     character_end(text, at)
 }
 
 // A byte that is a character by itself, and is no `]` and no return.
+#[tactic(auto, unfolding(steps::specs::Leaves::data_plain, grammar::specs::Characters::lead1, grammar::specs::Bytes::blank))]
 fn is_data_plain(a: u8) -> bool
     ensures { result ≡ data_plain a }
 {
-    (((a == b' ') | ((a == b'\t') | ((a == b'\n') | (a == b'\r')))) | ((32 <= a) & (a <= 127)))
-        & (!(a == b']') & !(a == b'\r'))
+    matches!(a, b'\t' | b'\n' | 32..=127) && a != b']'
 }
 
 // Where such bytes end: by blocks, and one by one behind the last block.
 fn far_data_plain_end(text: &[u8], at: usize) -> usize
     ensures { Some result ≡ stepped (length text.now) (span data_plain (drop at text.now)) }
 {
-    let mut i = past_quick(text, at);
-    while i < text.len() {
+    for i in past_quick(text, at)..text.len() {
         if !is_data_plain(text[i]) {
             return i;
         }
-        i += 1;
     }
     text.len()
 }
@@ -62,19 +43,16 @@ fn far_data_plain_end(text: &[u8], at: usize) -> usize
 fn data_plain_end(text: &[u8], at: usize) -> usize
     ensures { Some result ≡ stepped (length text.now) (span data_plain (drop at text.now)) }
 {
-    let mut i = at;
-    let mut k: usize = 0;
-    while k < 16 {
-        if text.len() <= i {
+    let near = at.saturating_add(16);
+    for i in at..near {
+        let Some(b) = text.get(i) else {
             return text.len();
-        }
-        if !is_data_plain(text[i]) {
+        };
+        if !is_data_plain(*b) {
             return i;
         }
-        i += 1;
-        k += 1;
     }
-    far_data_plain_end(text, i)
+    far_data_plain_end(text, near)
 }
 
 // The rest of CDATA, with its end.
@@ -84,17 +62,10 @@ fn data_rest_end(text: &[u8], at: usize) -> Option<usize>
     let mut i = at;
     while i < text.len() {
         let j = data_plain_end(text, i);
-        if brackets_at(text, j) {
+        if starts(text, j, b"]]>") {
             return mark_end(text, j, b"]]>");
         }
-        match data_character_end(text, j) {
-            Some(k) => {
-                i = k;
-            }
-            None => {
-                return None;
-            }
-        }
+        i = data_character_end(text, j)?;
     }
     None
 }
@@ -102,8 +73,6 @@ fn data_rest_end(text: &[u8], at: usize) -> Option<usize>
 pub fn data_end(text: &[u8], at: usize) -> Option<usize>
     ensures { result ≡ stepped (length text.now) (data_at_lem (drop at text.now)) }
 {
-    match mark_end(text, at, b"<![CDATA[") {
-        Some(i) => data_rest_end(text, i),
-        None => None,
-    }
+    let from = mark_end(text, at, b"<![CDATA[")?;
+    data_rest_end(text, from)
 }

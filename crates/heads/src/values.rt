@@ -13,40 +13,28 @@ use letters::classes::{is_blank, is_quote};
 fn odd_in_value_end(text: &[u8], at: usize, q: u8) -> Option<usize>
     ensures { result ≡ stepped (length text.now) (value_character_at q (drop at text.now)) }
 {
-    if text.len() <= at {
-        return None;
+    match *text.get(at)? {
+        b'&' => reference_end(text, at),
+        b'\r' => Some(feed_end(text, at + 1)),
+        b if is_blank(b) => Some(at + 1),
+        b if b == b'<' || b == q => None,
+        _ => wide_character_end(text, at),
     }
-    let b = text[at];
-    if b == b'&' {
-        return reference_end(text, at);
-    }
-    if b == b'\r' {
-        return Some(feed_end(text, at + 1));
-    }
-    if is_blank(b) {
-        return Some(at + 1);
-    }
-    if (b == b'<') | (b == q) {
-        return None;
-    }
-    wide_character_end(text, at)
 }
 
 // Most characters in a value between two `q`.
+#[tactic(auto, unfolding(grammar::specs::Bytes::special))]
 fn is_plain_in(b: u8, q: u8) -> bool
     ensures { result ≡ (between 32 127 b && (not (special b) && not (eqb b q))) }
 {
-    ((32 <= b) & (b <= 127)) & (!((b == b'<') | (b == b'&')) & !(b == q))
+    matches!(b, 32..=127) && !matches!(b, b'<' | b'&') && b != q
 }
 
 // The same, quick where the character is plain.
 pub fn value_character_end(text: &[u8], at: usize, q: u8) -> Option<usize>
     ensures { result ≡ stepped (length text.now) (value_character_at q (drop at text.now)) }
 {
-    if text.len() <= at {
-        return None;
-    }
-    if is_plain_in(text[at], q) {
+    if is_plain_in(*text.get(at)?, q) {
         return Some(at + 1);
     }
     odd_in_value_end(text, at, q)
@@ -61,14 +49,7 @@ fn value_rest_end(text: &[u8], at: usize, q: u8) -> Option<usize>
         if text[i] == q {
             return Some(i + 1);
         }
-        match value_character_end(text, i, q) {
-            Some(j) => {
-                i = j;
-            }
-            None => {
-                return None;
-            }
-        }
+        i = value_character_end(text, i, q)?;
     }
     None
 }
@@ -77,10 +58,7 @@ fn value_rest_end(text: &[u8], at: usize, q: u8) -> Option<usize>
 pub fn value_end(text: &[u8], at: usize) -> Option<usize>
     ensures { result ≡ stepped (length text.now) (value_at (drop at text.now)) }
 {
-    if text.len() <= at {
-        return None;
-    }
-    let q = text[at];
+    let q = *text.get(at)?;
     if !is_quote(q) {
         return None;
     }

@@ -1,11 +1,11 @@
 use Rattle.steps.proofs.Laws.Data.{data_characters}
 use Rattle.heads.proofs.data.data_character_end.Goals as goal
 
-pub returns-then-text-at : goal.returns-then-text-at
-returns-then-text-at c = search data_characters
+pub returns-in_err-get : goal.returns-in_err-get
+returns-in_err-get c = rw c.from_residual.ensures (search data_characters)
 
-pub returns-then-text-at-eq13 : goal.returns-then-text-at-eq13
-returns-then-text-at-eq13 c = search data_characters
+pub returns-then-branch-eq13 : goal.returns-then-branch-eq13
+returns-then-branch-eq13 c = search data_characters
 
 pub returns : goal.returns
 returns c = search data_characters

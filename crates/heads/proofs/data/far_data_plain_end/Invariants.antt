@@ -1,11 +1,6 @@
 use Rattle.steps.proofs.Laws.Steps.{Spanning}
-use Prim.Native.Nat.{◌-◌}
-use lib.ListN.{length}
 use Rattle.steps.specs.Leaves.{data_plain}
 use Rattle.heads.proofs.data.far_data_plain_end.Given as goal
 
 abbrev pub invariant-loop-i : goal.invariant-loop-i
 invariant-loop-i l = Spanning data_plain l.text l.at l.i
-
-abbrev pub decreases-loop-i : goal.decreases-loop-i
-decreases-loop-i l = length l.text - l.i
