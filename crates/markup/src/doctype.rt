@@ -9,20 +9,18 @@ use heads::characters::character_end;
 use letters::blanks::mark_end;
 
 // A DOCTYPE passes over it.
+#[tactic(auto, unfolding(grammar::specs::Bytes::skipped))]
 fn is_skipped(a: u8) -> bool
     ensures { result ≡ skipped a }
 {
-    !(a == b'[') & (!(a == b']') & (!(a == b'<') & !(a == b'>')))
+    !matches!(a, b'[' | b']' | b'<' | b'>')
 }
 
 // A character that it passes over.
 fn skipped_end(text: &[u8], at: usize) -> Option<usize>
     ensures { result ≡ stepped (length text.now) (skipped_at (drop at text.now)) }
 {
-    if text.len() <= at {
-        return None;
-    }
-    if !is_skipped(text[at]) {
+    if !is_skipped(*text.get(at)?) {
         return None;
     }
     character_end(text, at)
@@ -37,14 +35,7 @@ fn doctype_rest_end(text: &[u8], at: usize) -> Option<usize>
         if text[i] == b'>' {
             return Some(i + 1);
         }
-        match skipped_end(text, i) {
-            Some(j) => {
-                i = j;
-            }
-            None => {
-                return None;
-            }
-        }
+        i = skipped_end(text, i)?;
     }
     None
 }
@@ -52,8 +43,6 @@ fn doctype_rest_end(text: &[u8], at: usize) -> Option<usize>
 pub fn doctype_end(text: &[u8], at: usize) -> Option<usize>
     ensures { result ≡ stepped (length text.now) (doctype_at (drop at text.now)) }
 {
-    match mark_end(text, at, b"<!DOCTYPE") {
-        Some(i) => doctype_rest_end(text, i),
-        None => None,
-    }
+    let from = mark_end(text, at, b"<!DOCTYPE")?;
+    doctype_rest_end(text, from)
 }

@@ -18,10 +18,10 @@ fn element_end(text: &[u8], at: usize, depth: usize) -> Option<usize>
         return None;
     }
     match open_end(text, at) {
-        Opened::Full(i) => match contents_end(text, i, depth - 1) {
-            Some(j) => closing_end(text, at, j),
-            None => None,
-        },
+        Opened::Full(i) => {
+            let j = contents_end(text, i, depth - 1)?;
+            closing_end(text, at, j)
+        }
         Opened::Empty(i) => Some(i),
         Opened::Bad => None,
     }
@@ -38,14 +38,9 @@ fn contents_end(text: &[u8], at: usize, depth: usize) -> Option<usize>
             Between::Close(j) => {
                 return Some(j);
             }
-            Between::Start(j) => match element_end(text, j, depth) {
-                Some(k) => {
-                    i = k;
-                }
-                None => {
-                    return None;
-                }
-            },
+            Between::Start(j) => {
+                i = element_end(text, j, depth)?;
+            }
             Between::Bad => {
                 return None;
             }

@@ -21,14 +21,11 @@ pub mod prolog;
 pub fn well_formed(text: &[u8]) -> bool
     ensures { WellFormed text.now result }
 {
-    match root_start(text) {
-        Some(i) => match whole_end(text, i) {
-            Some(j) => match asides_end(text, j) {
-                Some(k) => k == text.len(),
-                None => false,
-            },
-            None => false,
-        },
-        None => false,
-    }
+    let Some(i) = root_start(text) else {
+        return false;
+    };
+    let Some(j) = whole_end(text, i) else {
+        return false;
+    };
+    asides_end(text, j) == Some(text.len())
 }

@@ -17,55 +17,40 @@ use steps::pieces::{Between, Front};
 fn marked_front(text: &[u8], at: usize) -> Front
     ensures { result ≡ front (look₃ (drop at text.now)) }
 {
-    if text.len() <= at {
-        return Front::Comment;
+    match text.get(at) {
+        Some(b'[') => Front::Data,
+        Some(_) => Front::Comment,
+        None => Front::Comment,
     }
-    if text[at] == b'[' {
-        return Front::Data;
-    }
-    Front::Comment
 }
 
 pub fn front_at(text: &[u8], at: usize) -> Front
     ensures { result ≡ front (look (drop at text.now)) }
 {
-    if text.len() <= at {
+    let Some(a) = text.get(at) else {
         return Front::Close;
-    }
-    if text[at] != b'<' {
+    };
+    if *a != b'<' {
         return Front::Text;
     }
-    if text.len() <= at + 1 {
-        return Front::Start;
+    match text.get(at + 1) {
+        Some(b'/') => Front::Close,
+        Some(b'!') => marked_front(text, at + 2),
+        Some(_) => Front::Start,
+        None => Front::Start,
     }
-    let b = text[at + 1];
-    if b == b'/' {
-        return Front::Close;
-    }
-    if b == b'!' {
-        return marked_front(text, at + 2);
-    }
-    Front::Start
 }
 
 // One character of text, one reference, or one end of a line.
 pub fn text_end(text: &[u8], at: usize) -> Option<usize>
     ensures { result ≡ stepped (length text.now) (text_at (drop at text.now)) }
 {
-    if text.len() <= at {
-        return None;
+    match *text.get(at)? {
+        b'&' => reference_end(text, at),
+        b'\r' => Some(feed_end(text, at + 1)),
+        b'<' => None,
+        _ => character_end(text, at),
     }
-    let b = text[at];
-    if b == b'&' {
-        return reference_end(text, at);
-    }
-    if b == b'\r' {
-        return Some(feed_end(text, at + 1));
-    }
-    if b == b'<' {
-        return None;
-    }
-    character_end(text, at)
 }
 
 // A `]`, which begins no `]]>`.
@@ -85,11 +70,9 @@ fn remark_end(text: &[u8], at: usize) -> Option<usize>
     ensures { result ≡ stepped (length text.now) (piece_at (drop at text.now)) }
 {
     match front_at(text, at) {
-        Front::Close => None,
         Front::Comment => comment_end(text, at),
         Front::Data => data_end(text, at),
-        Front::Start => None,
-        Front::Text => None,
+        Front::Close | Front::Start | Front::Text => None,
     }
 }
 
@@ -97,37 +80,29 @@ fn remark_end(text: &[u8], at: usize) -> Option<usize>
 pub fn piece_end(text: &[u8], at: usize) -> Option<usize>
     ensures { result ≡ stepped (length text.now) (piece_at (drop at text.now)) }
 {
-    if text.len() <= at {
-        return None;
+    match *text.get(at)? {
+        b'<' => remark_end(text, at),
+        b']' => bracket_end(text, at),
+        _ => text_end(text, at),
     }
-    let b = text[at];
-    if b == b'<' {
-        return remark_end(text, at);
-    }
-    if b == b']' {
-        return bracket_end(text, at);
-    }
-    text_end(text, at)
 }
 
 // A byte that is a character of text by itself, and begins no `]]>`.
+#[tactic(auto, unfolding(steps::specs::Pieces::plain, grammar::specs::Characters::lead1, grammar::specs::Bytes::blank, grammar::specs::Bytes::special))]
 pub fn is_plain(b: u8) -> bool
     ensures { result ≡ plain b }
 {
-    (((b == b' ') | ((b == b'\t') | ((b == b'\n') | (b == b'\r')))) | ((32 <= b) & (b <= 127)))
-        & (!((b == b'<') | (b == b'&')) & !(b == b']'))
+    matches!(b, b'\t' | b'\n' | b'\r' | 32..=127) && !matches!(b, b'<' | b'&' | b']')
 }
 
 // Where plain bytes end: by blocks, and one by one behind the last block.
 fn far_plain_end(text: &[u8], at: usize) -> usize
     ensures { Some result ≡ stepped (length text.now) (span plain (drop at text.now)) }
 {
-    let mut i = past_quick(text, at);
-    while i < text.len() {
+    for i in past_quick(text, at)..text.len() {
         if !is_plain(text[i]) {
             return i;
         }
-        i += 1;
     }
     text.len()
 }
@@ -136,19 +111,16 @@ fn far_plain_end(text: &[u8], at: usize) -> usize
 pub fn plain_end(text: &[u8], at: usize) -> usize
     ensures { Some result ≡ stepped (length text.now) (span plain (drop at text.now)) }
 {
-    let mut i = at;
-    let mut k: usize = 0;
-    while k < 16 {
-        if text.len() <= i {
+    let near = at.saturating_add(16);
+    for i in at..near {
+        let Some(b) = text.get(i) else {
             return text.len();
-        }
-        if !is_plain(text[i]) {
+        };
+        if !is_plain(*b) {
             return i;
         }
-        i += 1;
-        k += 1;
     }
-    far_plain_end(text, i)
+    far_plain_end(text, near)
 }
 
 // What stands at `at`, where no piece does.
@@ -157,10 +129,8 @@ fn halt_at(text: &[u8], at: usize) -> Between
 {
     match front_at(text, at) {
         Front::Close => Between::Close(at),
-        Front::Comment => Between::Bad,
-        Front::Data => Between::Bad,
         Front::Start => Between::Start(at),
-        Front::Text => Between::Bad,
+        Front::Comment | Front::Data | Front::Text => Between::Bad,
     }
 }
 
@@ -171,13 +141,9 @@ pub fn between_end(text: &[u8], at: usize) -> Between
     let mut i = at;
     loop {
         let j = plain_end(text, i);
-        match piece_end(text, j) {
-            Some(k) => {
-                i = k;
-            }
-            None => {
-                return halt_at(text, j);
-            }
-        }
+        let Some(k) = piece_end(text, j) else {
+            return halt_at(text, j);
+        };
+        i = k;
     }
 }

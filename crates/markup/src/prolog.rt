@@ -19,14 +19,7 @@ pub fn asides_end(text: &[u8], at: usize) -> Option<usize>
         if !starts(text, j, b"<!-") {
             return Some(j);
         }
-        match comment_end(text, j) {
-            Some(k) => {
-                i = k;
-            }
-            None => {
-                return None;
-            }
-        }
+        i = comment_end(text, j)?;
     }
 }
 
@@ -34,25 +27,15 @@ pub fn asides_end(text: &[u8], at: usize) -> Option<usize>
 fn quoted_end(text: &[u8], at: usize, value: &[u8]) -> Option<usize>
     ensures { result ≡ stepped (length text.now) (quoted_at value.now (drop at text.now)) }
 {
-    if text.len() <= at {
-        return None;
-    }
-    let quote = text[at];
+    let quote = *text.get(at)?;
     if !is_quote(quote) {
         return None;
     }
-    match mark_end(text, at + 1, value) {
-        Some(i) => {
-            if text.len() <= i {
-                return None;
-            }
-            if text[i] != quote {
-                return None;
-            }
-            Some(i + 1)
-        }
-        None => None,
+    let i = mark_end(text, at + 1, value)?;
+    if *text.get(i)? != quote {
+        return None;
     }
+    Some(i + 1)
 }
 
 // `key="value"`, with the blanks before it.
@@ -60,16 +43,10 @@ fn setting_end(text: &[u8], at: usize, key: &[u8], value: &[u8]) -> Option<usize
     ensures { result ≡ stepped (length text.now)
         (setting_at key.now value.now (drop at text.now)) }
 {
-    match gap_end(text, at) {
-        Some(i) => match mark_end(text, i, key) {
-            Some(j) => match equals_end(text, j) {
-                Some(k) => quoted_end(text, k, value),
-                None => None,
-            },
-            None => None,
-        },
-        None => None,
-    }
+    let i = gap_end(text, at)?;
+    let j = mark_end(text, i, key)?;
+    let k = equals_end(text, j)?;
+    quoted_end(text, k, value)
 }
 
 // The encoding, or nothing where `?` stands next.
@@ -89,16 +66,10 @@ pub fn declaration_end(text: &[u8]) -> Option<usize>
     if !starts(text, 0, b"<?") {
         return Some(0);
     }
-    match mark_end(text, 0, b"<?xml") {
-        Some(i) => match setting_end(text, i, b"version", b"1.0") {
-            Some(j) => match encoding_end(text, j) {
-                Some(k) => mark_end(text, blanks_end(text, k), b"?>"),
-                None => None,
-            },
-            None => None,
-        },
-        None => None,
-    }
+    let i = mark_end(text, 0, b"<?xml")?;
+    let j = setting_end(text, i, b"version", b"1.0")?;
+    let k = encoding_end(text, j)?;
+    mark_end(text, blanks_end(text, k), b"?>")
 }
 
 // A DOCTYPE with the blanks and comments behind it, or nothing.
@@ -111,28 +82,22 @@ fn typed_end(text: &[u8], at: usize) -> Option<usize>
     if !starts(text, at, b"<!D") {
         return Some(at);
     }
-    match doctype_end(text, at) {
-        Some(i) => asides_end(text, i),
-        None => None,
-    }
+    let i = doctype_end(text, at)?;
+    asides_end(text, i)
 }
 
 // Blanks and comments, and at most one DOCTYPE among them.
 fn prologue_end(text: &[u8], at: usize) -> Option<usize>
     ensures { result ≡ stepped (length text.now) (prologue_at (drop at text.now)) }
 {
-    match asides_end(text, at) {
-        Some(i) => typed_end(text, i),
-        None => None,
-    }
+    let i = asides_end(text, at)?;
+    typed_end(text, i)
 }
 
 // Where the root begins.
 pub fn root_start(text: &[u8]) -> Option<usize>
     ensures { result ≡ stepped (length text.now) (preamble_at text.now) }
 {
-    match declaration_end(text) {
-        Some(i) => prologue_end(text, i),
-        None => None,
-    }
+    let i = declaration_end(text)?;
+    prologue_end(text, i)
 }

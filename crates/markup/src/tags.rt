@@ -13,14 +13,14 @@ use steps::tags::Opened;
 pub fn open_end(text: &[u8], at: usize) -> Opened
     ensures { result ≡ opened (length text.now) (head_at (drop at text.now)) }
 {
-    match head_end(text, at) {
-        Some(i) => match mark_end(text, i, b">") {
-            Some(j) => Opened::Full(j),
-            None => match mark_end(text, i, b"/>") {
-                Some(j) => Opened::Empty(j),
-                None => Opened::Bad,
-            },
-        },
+    let Some(i) = head_end(text, at) else {
+        return Opened::Bad;
+    };
+    if let Some(j) = mark_end(text, i, b">") {
+        return Opened::Full(j);
+    }
+    match mark_end(text, i, b"/>") {
+        Some(j) => Opened::Empty(j),
         None => Opened::Bad,
     }
 }
@@ -29,13 +29,9 @@ pub fn open_end(text: &[u8], at: usize) -> Opened
 pub fn close_end(text: &[u8], at: usize, name: &[u8]) -> Option<usize>
     ensures { result ≡ stepped (length text.now) (close_at name.now (drop at text.now)) }
 {
-    match mark_end(text, at, b"</") {
-        Some(i) => match mark_end(text, i, name) {
-            Some(j) => mark_end(text, blanks_end(text, j), b">"),
-            None => None,
-        },
-        None => None,
-    }
+    let i = mark_end(text, at, b"</")?;
+    let j = mark_end(text, i, name)?;
+    mark_end(text, blanks_end(text, j), b">")
 }
 
 // The end tag at `at` of the element whose start tag begins at `from`.
@@ -47,8 +43,6 @@ pub fn closing_end(text: &[u8], from: usize, at: usize) -> Option<usize>
         return None;
     }
     let begin = from + 1;
-    match name_end(text, begin) {
-        Some(end) => close_end(text, at, &text[begin..end]),
-        None => None,
-    }
+    let end = name_end(text, begin)?;
+    close_end(text, at, &text[begin..end])
 }

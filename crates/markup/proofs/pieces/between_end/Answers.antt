@@ -7,5 +7,5 @@ loop-k-smaller c = search passing
 pub loop-k-preserved : goal.loop-k-preserved
 loop-k-preserved c = search passing
 
-pub returns-in-None : goal.returns-in-None
-returns-in-None c = search passing
+pub returns-in_default : goal.returns-in_default
+returns-in_default c = search passing

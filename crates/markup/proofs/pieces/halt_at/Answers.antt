@@ -7,11 +7,5 @@ returns-in-Close c = search halting_at
 pub returns-in-Comment : goal.returns-in-Comment
 returns-in-Comment c = search halting_at
 
-pub returns-in-Data : goal.returns-in-Data
-returns-in-Data c = search halting_at
-
 pub returns-in-Start : goal.returns-in-Start
 returns-in-Start c = search halting_at
-
-pub returns-in-Text : goal.returns-in-Text
-returns-in-Text c = search halting_at

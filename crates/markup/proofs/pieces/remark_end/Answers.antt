@@ -9,9 +9,3 @@ returns-in-Comment c = search tagged
 
 pub returns-in-Data : goal.returns-in-Data
 returns-in-Data c = search tagged
-
-pub returns-in-Start : goal.returns-in-Start
-returns-in-Start c = search tagged
-
-pub returns-in-Text : goal.returns-in-Text
-returns-in-Text c = search tagged

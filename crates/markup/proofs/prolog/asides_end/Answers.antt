@@ -10,5 +10,5 @@ loop-at-smaller c = search asides
 pub loop-at-preserved : goal.loop-at-preserved
 loop-at-preserved c = search asides
 
-pub returns-in-None : goal.returns-in-None
-returns-in-None c = search asides
+pub returns-in_err-i : goal.returns-in_err-i
+returns-in_err-i c = rw c.from_residual.ensures (search asides)

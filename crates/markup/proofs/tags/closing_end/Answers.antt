@@ -10,7 +10,7 @@ slice_bounds-close_end-count c = omega (
   arith,
   name_span c.args.text.now
       c.args.from 0 c.name_end.ensures
-      c.in-Some.is c.if-text-from.false,
+      c.in_ok-end.was c.if-text-from.false,
 )
 
 pub slice_bounds-close_end-start : goal.slice_bounds-close_end-start
@@ -18,7 +18,7 @@ slice_bounds-close_end-start c = omega (
   arith,
   name_span c.args.text.now
       c.args.from 0 c.name_end.ensures
-      c.in-Some.is c.if-text-from.false,
+      c.in_ok-end.was c.if-text-from.false,
 )
 
 pub slice_bounds-close_end-end : goal.slice_bounds-close_end-end
@@ -26,13 +26,13 @@ slice_bounds-close_end-end c = omega (
   arith,
   name_span c.args.text.now
       c.args.from 0 c.name_end.ensures
-      c.in-Some.is c.if-text-from.false,
+      c.in_ok-end.was c.if-text-from.false,
 )
 
-pub returns-in-Some : goal.returns-in-Some
-returns-in-Some c =
-    closing_whole c.args.text.now c.args.from c.args.at c.name_end.ensures c.in-Some.is
+pub returns : goal.returns
+returns c =
+    closing_whole c.args.text.now c.args.from c.args.at c.name_end.ensures c.in_ok-end.was
     c.close_end.ensures
 
-pub returns-in-None : goal.returns-in-None
-returns-in-None c = search closing
+pub returns-in_err-end : goal.returns-in_err-end
+returns-in_err-end c = rw c.from_residual.ensures (search closing)
