@@ -19,12 +19,13 @@ fn data_character_end(text: &[u8], at: usize) -> Option<usize>
     character_end(text, at)
 }
 
-// A byte that is a character by itself, and is no `]` and no return.
+// A byte that is a character by itself, and is no `]` and no return. By `&` and `|`, for speed (letters/classes.rt).
 #[tactic(auto, unfolding(steps::specs::Leaves::data_plain, grammar::specs::Characters::lead1, grammar::specs::Bytes::blank))]
 fn is_data_plain(a: u8) -> bool
     ensures { result ≡ data_plain a }
 {
-    matches!(a, b'\t' | b'\n' | 32..=127) && a != b']'
+    (((a == b' ') | ((a == b'\t') | ((a == b'\n') | (a == b'\r')))) | ((32 <= a) & (a <= 127)))
+        & (!(a == b']') & !(a == b'\r'))
 }
 
 // Where such bytes end: by blocks, and one by one behind the last block.
