@@ -66,20 +66,19 @@ pub fn is_continuing(b: u8) -> bool
 pub fn is_lead3(a: u8, b: u8) -> bool
     ensures { result ≡ lead3 a b }
 {
-    matches!(
-        (a, b),
-        (224, 160..=191) | (225..=236, 128..=191) | (237, 128..=159) | (238..=239, 128..=191)
-    )
+    ((a == 224) & ((160 <= b) & (b <= 191)))
+        | ((((225 <= a) & (a <= 236)) & ((128 <= b) & (b <= 191)))
+            | (((a == 237) & ((128 <= b) & (b <= 159)))
+                | (((238 <= a) & (a <= 239)) & ((128 <= b) & (b <= 191)))))
 }
 
 #[tactic(auto, unfolding(grammar::specs::Characters::lead4, grammar::specs::Characters::continues))]
 pub fn is_lead4(a: u8, b: u8) -> bool
     ensures { result ≡ lead4 a b }
 {
-    matches!(
-        (a, b),
-        (240, 144..=191) | (241..=243, 128..=191) | (244, 128..=143)
-    )
+    ((a == 240) & ((144 <= b) & (b <= 191)))
+        | ((((241 <= a) & (a <= 243)) & ((128 <= b) & (b <= 191)))
+            | ((a == 244) & ((128 <= b) & (b <= 143))))
 }
 
 // U+FFFE and U+FFFF.
