@@ -29,10 +29,8 @@ fn past_gap(text: &[u8], at: usize, words: bool) -> usize
 fn blank_data_end(text: &[u8], at: usize) -> Option<usize>
     ensures { result ≡ stepped (length text.now) (blank_data_at (drop at text.now)) }
 {
-    match mark_end(text, at, b"<![CDATA[") {
-        Some(i) => mark_end(text, blanks_end(text, i), b"]]>"),
-        None => None,
-    }
+    let i = mark_end(text, at, b"<![CDATA[")?;
+    mark_end(text, blanks_end(text, i), b"]]>")
 }
 
 // CDATA in a gap: with `words` any, else such that holds blanks alone.
@@ -63,31 +61,17 @@ pub fn ahead_from(text: &[u8], at: usize, words: bool) -> Ahead
     loop {
         let t = past_gap(text, i, words);
         match front_at(text, t) {
-            Front::Start => {
-                return Ahead::Child(t);
-            }
+            Front::Start => return Ahead::Child(t),
             Front::Comment => match comment_end(text, t) {
-                Some(j) => {
-                    i = j;
-                }
-                None => {
-                    return Ahead::Stray;
-                }
+                Some(j) => i = j,
+                None => return Ahead::Stray,
             },
             Front::Data => match gap_data_end(text, t, words) {
-                Some(j) => {
-                    i = j;
-                }
-                None => {
-                    return Ahead::Stray;
-                }
+                Some(j) => i = j,
+                None => return Ahead::Stray,
             },
-            Front::Close => {
-                return end_at(text, t);
-            }
-            Front::Text => {
-                return Ahead::Stray;
-            }
+            Front::Close => return end_at(text, t),
+            Front::Text => return Ahead::Stray,
         }
     }
 }
@@ -97,9 +81,9 @@ pub fn ahead_in_tag(text: &[u8], at: usize, words: bool) -> Ahead
     ensures { result ≡ ahead_in_tag words text.now at }
 {
     match tag_left(text, at) {
-        Tag::Open(i) => ahead_from(text, i, words),
-        Tag::Bare(i) => Ahead::End(i),
-        Tag::No => Ahead::Stray,
+        Some(Tag::Open(i)) => ahead_from(text, i, words),
+        Some(Tag::Bare(i)) => Ahead::End(i),
+        None => Ahead::Stray,
     }
 }
 

@@ -15,18 +15,12 @@ use markup::pieces::front_at;
 use nodes::scan::{Sign, Tag};
 use steps::pieces::Front;
 
-// A place up to which the byte does not stand, reached by blocks.
+// A place up to which the byte does not stand, reached by blocks of sixteen, for speed.
 fn past_blocks(text: &[u8], at: usize, sign: u8) -> usize
     ensures { Through (other sign) text.now at result }
 {
     let mut i = at;
-    while i < text.len() {
-        if text.len() - i < 16 {
-            return i;
-        }
-        if !block_lacks(text, i, sign) {
-            return i;
-        }
+    while i < near_limit(text) && block_lacks(text, i, sign) {
         i += 16;
     }
     i
@@ -36,12 +30,10 @@ fn past_blocks(text: &[u8], at: usize, sign: u8) -> usize
 pub fn to_tag(text: &[u8], at: usize) -> usize
     ensures { result ≡ length text.now - length (to_tag (drop at text.now)) }
 {
-    let mut i = past_blocks(text, at, b'<');
-    while i < text.len() {
+    for i in past_blocks(text, at, b'<')..text.len() {
         if text[i] == b'<' {
             return i;
         }
-        i += 1;
     }
     text.len()
 }
@@ -50,12 +42,10 @@ pub fn to_tag(text: &[u8], at: usize) -> usize
 pub fn past_tag(text: &[u8], at: usize) -> Option<usize>
     ensures { result ≡ stepped (length text.now) (past_tag (drop at text.now)) }
 {
-    let mut i = at;
-    while i < text.len() {
+    for i in at..text.len() {
         if text[i] == b'>' {
             return Some(i + 1);
         }
-        i += 1;
     }
     None
 }
@@ -74,60 +64,50 @@ fn turns_tag(b: u8) -> bool
 }
 
 // Behind a tag that ends with the byte at `at`.
-fn finish_at(text: &[u8], at: usize) -> Tag
+fn finish_at(text: &[u8], at: usize) -> Option<Tag>
     requires { at < length text.now }
     ensures { result ≡ tag_told (length text.now)
         (finish (get_or text.now at 0) (drop (at + 1) text.now)) }
 {
     if text[at] == b'>' {
-        return Tag::Open(at + 1);
+        return Some(Tag::Open(at + 1));
     }
-    if text.len() <= at + 1 {
-        return Tag::No;
+    if at + 1 < text.len() && text[at + 1] == b'>' {
+        return Some(Tag::Bare(at + 2));
     }
-    if text[at + 1] == b'>' {
-        return Tag::Bare(at + 2);
-    }
-    Tag::No
+    None
 }
 
 // From here on fewer than sixteen bytes are left.
 fn near_limit(text: &[u8]) -> usize
     ensures { result ≡ length text.now - 15 }
 {
-    if text.len() < 15 {
-        return 0;
-    }
-    text.len() - 15
+    text.len().saturating_sub(15)
 }
 
-// How many of sixteen bytes pass, outside of quotes. Their count is fixed, so that the loop is unrolled.
+// How many of sixteen bytes pass, outside of quotes. Their count is fixed for speed: the loop is unrolled.
 fn near_sign(text: &[u8], at: usize) -> usize
     requires { at + 16 ≤ length text.now }
     ensures { Nearby text.now 0 at result }
 {
-    let mut k = 0;
-    while k < 16 {
+    for k in 0..16 {
         if turns_tag(text[at + k]) {
             return k;
         }
-        k += 1;
     }
-    k
+    16
 }
 
 // Where the tag turns that goes on at `at` outside of quotes, or the end of the text: by bytes.
 fn far_sign(text: &[u8], at: usize) -> usize
     ensures { Turning text.now 0 at result }
 {
-    let mut i = at;
-    while i < text.len() {
+    for i in at..text.len() {
         if turns_tag(text[i]) {
             return i;
         }
-        i += 1;
     }
-    i
+    at.max(text.len())
 }
 
 // The same, quick where it turns within sixteen bytes.
@@ -144,19 +124,17 @@ fn to_sign(text: &[u8], at: usize) -> usize
     far_sign(text, at + 16)
 }
 
-// How many of sixteen bytes pass, in a value: most values end within them.
+// How many of sixteen bytes pass, in a value: most values end within them, and a fixed count is quick.
 fn near_quote(text: &[u8], at: usize, q: u8) -> usize
     requires { (q ≡ 0 → ⊥) × (at + 16 ≤ length text.now) }
     ensures { Nearby text.now q at result }
 {
-    let mut k = 0;
-    while k < 16 {
+    for k in 0..16 {
         if text[at + k] == q {
             return k;
         }
-        k += 1;
     }
-    k
+    16
 }
 
 // Where the quote stands that ends the value at `at`, or the end of the text: by blocks, then by bytes.
@@ -164,14 +142,13 @@ fn far_quote(text: &[u8], at: usize, q: u8) -> usize
     requires { q ≡ 0 → ⊥ }
     ensures { Turning text.now q at result }
 {
-    let mut i = past_blocks(text, at, q);
-    while i < text.len() {
+    let far = past_blocks(text, at, q);
+    for i in far..text.len() {
         if text[i] == q {
             return i;
         }
-        i += 1;
     }
-    i
+    far.max(text.len())
 }
 
 // The same, quick where the value ends within sixteen bytes.
@@ -190,14 +167,14 @@ fn to_quote(text: &[u8], at: usize, q: u8) -> usize
 }
 
 // The start tag that goes on at `at`, outside of quotes: signs and values by turns.
-pub fn tag_rest(text: &[u8], at: usize) -> Tag
+pub fn tag_rest(text: &[u8], at: usize) -> Option<Tag>
     ensures { result ≡ tag_told (length text.now) (tag_from 0 (drop at text.now)) }
 {
     let mut i = at;
     loop {
         let j = to_sign(text, i);
         if text.len() <= j {
-            return Tag::No;
+            return None;
         }
         let b = text[j];
         if ends_tag(b) {
@@ -205,64 +182,47 @@ pub fn tag_rest(text: &[u8], at: usize) -> Tag
         }
         let k = to_quote(text, j + 1, b);
         if text.len() <= k {
-            return Tag::No;
+            return None;
         }
         i = k + 1;
     }
 }
 
 // The same, quick where the tag ends at `at`.
-pub fn tag_left(text: &[u8], at: usize) -> Tag
+pub fn tag_left(text: &[u8], at: usize) -> Option<Tag>
     ensures { result ≡ tag_told (length text.now) (tag_from 0 (drop at text.now)) }
 {
-    if at < text.len() {
-        if ends_tag(text[at]) {
-            return finish_at(text, at);
-        }
+    if at < text.len() && ends_tag(text[at]) {
+        return finish_at(text, at);
     }
     tag_rest(text, at)
 }
 
 // The start tag at `at`.
-pub fn tag_end(text: &[u8], at: usize) -> Tag
+pub fn tag_end(text: &[u8], at: usize) -> Option<Tag>
     ensures { result ≡ tag_told (length text.now) (tag_at (drop at text.now)) }
 {
     if text.len() <= at {
-        return Tag::No;
+        return None;
     }
     tag_rest(text, at + 1)
 }
 
 // What stands at a place where contents go on with a tag.
-fn sign_at(text: &[u8], at: usize) -> Sign
+fn sign_at(text: &[u8], at: usize) -> Option<Sign>
+    requires { at ≤ length text.now }
     ensures { result ≡ sign_told (length text.now) (sign (drop at text.now)) }
 {
     match front_at(text, at) {
-        Front::Close => close_sign(text, at),
-        Front::Comment => match comment_end(text, at) {
-            Some(j) => Sign::Flat(j),
-            None => Sign::No,
+        Front::Close => Some(Sign::Close(at)),
+        Front::Comment => Some(Sign::Flat(comment_end(text, at)?)),
+        Front::Data => Some(Sign::Flat(data_end(text, at)?)),
+        Front::Start => match tag_end(text, at)? {
+            Tag::Open(j) => Some(Sign::Open(j)),
+            Tag::Bare(j) => Some(Sign::Flat(j)),
         },
-        Front::Data => match data_end(text, at) {
-            Some(j) => Sign::Flat(j),
-            None => Sign::No,
-        },
-        Front::Start => match tag_end(text, at) {
-            Tag::Open(j) => Sign::Open(j),
-            Tag::Bare(j) => Sign::Flat(j),
-            Tag::No => Sign::No,
-        },
-        Front::Text => Sign::No,
+        Front::Text => None,
     }
-}
-
-fn close_sign(text: &[u8], at: usize) -> Sign
-    ensures { result ≡ Sign.Close (length text.now - length (drop at text.now)) }
-{
-    if text.len() < at {
-        return Sign::Close(text.len());
-    }
-    Sign::Close(at)
 }
 
 // Where the contents that begin at `at` end: before their end tag.
@@ -272,20 +232,13 @@ pub fn contents_end(text: &[u8], at: usize) -> Option<usize>
     let mut depth: usize = 0;
     let mut i = at;
     loop {
-        match sign_at(text, to_tag(text, i)) {
+        match sign_at(text, to_tag(text, i))? {
             Sign::Close(j) => {
                 if depth == 0 {
                     return Some(j);
                 }
-                match past_tag(text, j) {
-                    Some(k) => {
-                        depth -= 1;
-                        i = k;
-                    }
-                    None => {
-                        return None;
-                    }
-                }
+                i = past_tag(text, j)?;
+                depth -= 1;
             }
             Sign::Open(j) => {
                 depth += 1;
@@ -293,9 +246,6 @@ pub fn contents_end(text: &[u8], at: usize) -> Option<usize>
             }
             Sign::Flat(j) => {
                 i = j;
-            }
-            Sign::No => {
-                return None;
             }
         }
     }
@@ -305,19 +255,15 @@ pub fn contents_end(text: &[u8], at: usize) -> Option<usize>
 pub fn leave(text: &[u8], at: usize) -> Option<usize>
     ensures { result ≡ stepped (length text.now) (leave_at (drop at text.now)) }
 {
-    match contents_end(text, at) {
-        Some(j) => past_tag(text, j),
-        None => None,
-    }
+    past_tag(text, contents_end(text, at)?)
 }
 
 // Behind the element at `at`.
 pub fn skip(text: &[u8], at: usize) -> Option<usize>
     ensures { result ≡ stepped (length text.now) (skip_at (drop at text.now)) }
 {
-    match tag_end(text, at) {
+    match tag_end(text, at)? {
         Tag::Open(i) => leave(text, i),
         Tag::Bare(i) => Some(i),
-        Tag::No => None,
     }
 }

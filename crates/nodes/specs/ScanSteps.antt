@@ -1,5 +1,5 @@
 -- The scan as a program takes it: what it answers at each turn.
-use Rattle.std.specs.Prelude.{List, ℕ, ◌-◌, Bool, true, false, length}
+use Rattle.std.specs.Prelude.{List, ℕ, ◌-◌, Bool, true, false, length, Option, Some, None}
 use Rattle.grammar.specs.Read.{Read, fail, got}
 use Rattle.grammar.specs.Parser.{comment_at, data_at_lem, Look, at_close, at_comment, at_data, at_element, at_text, look}
 use Rattle.nodes.specs.Scan.{tag_at}
@@ -8,10 +8,10 @@ use Rattle.nodes.specs.declared.scan.Tag.TheVariants as tag_is
 use Rattle.nodes.specs.declared.scan.Sign.{Sign}
 use Rattle.nodes.specs.declared.scan.Sign.TheVariants as sign-is
 
-unfoldable pub tag_told : ℕ → Read Bool → Tag
-tag_told n fail = tag_is.No
-tag_told n (got true r) = tag_is.Open (n - length r)
-tag_told n (got false r) = tag_is.Bare (n - length r)
+unfoldable pub tag_told : ℕ → Read Bool → Option Tag
+tag_told n fail = None
+tag_told n (got true r) = Some (tag_is.Open (n - length r))
+tag_told n (got false r) = Some (tag_is.Bare (n - length r))
 
 -- what stands where contents go on with a tag, and what is left
 pub data Mark : Type 0 where
@@ -39,8 +39,8 @@ sign_by at_text s = none
 unfoldable pub sign : List ℕ → Mark
 sign s = sign_by (look s) s
 
-unfoldable pub sign_told : ℕ → Mark → Sign
-sign_told n (closes s) = sign-is.Close (n - length s)
-sign_told n (opens r) = sign-is.Open (n - length r)
-sign_told n (flat r) = sign-is.Flat (n - length r)
-sign_told n none = sign-is.No
+unfoldable pub sign_told : ℕ → Mark → Option Sign
+sign_told n (closes s) = Some (sign-is.Close (n - length s))
+sign_told n (opens r) = Some (sign-is.Open (n - length r))
+sign_told n (flat r) = Some (sign-is.Flat (n - length r))
+sign_told n none = None

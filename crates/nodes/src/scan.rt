@@ -1,9 +1,8 @@
-// A start tag that leaves its element open, one that does not, or none; and the place behind it.
+// A start tag that leaves its element open, or one that does not; and the place behind it.
 #[derive(Clone, Copy)]
 pub enum Tag {
     Open(usize),
     Bare(usize),
-    No,
 }
 
 // The next that matters in contents: an end tag and its place; behind a start tag; behind a comment or a bare tag.
@@ -12,5 +11,4 @@ pub enum Sign {
     Close(usize),
     Open(usize),
     Flat(usize),
-    No,
 }

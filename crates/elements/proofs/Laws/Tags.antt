@@ -1,7 +1,7 @@
 -- The turns of a start tag, at a position of the text: one law for each way through the code.
 use Rattle.std.proofs.Math.Path.{◌≡◌, refl}
 use Rattle.std.proofs.Common.{sym, ap, ◌∙◌, rules}
-use Rattle.std.specs.Prelude.{List, ◌∷◌, Bool, ◌||◌, ℕ, zero, suc, ◌+◌, ◌-◌, ◌≤◌, ◌<◌, length, drop}
+use Rattle.std.specs.Prelude.{List, ◌∷◌, Bool, ◌||◌, ℕ, zero, suc, ◌+◌, ◌-◌, ◌≤◌, ◌<◌, length, drop, Option, None}
 use Rattle.std.proofs.Math.Bool.{true, false}
 use native.Mathlib.Omega.{arith}
 use Rattle.std.proofs.Math.Dec.{eqb}
@@ -106,8 +106,11 @@ near_start {text} {q} {at} h =
     record { inside = h; few = omega arith; goes = rw z turn_start }
 
 module _ {text : List ℕ} {q at n : ℕ} (g : Nearing text q at n) where
-  pub near_all : 16 ≤ n → Nearby text q at n
-  near_all h = record { few = g.few; goes = g.goes; here = λ u. absurd (omega arith) }
+  pub near_all : 16 ≤ n → Nearby text q at 16
+  near_all h =
+      let k = g.few in
+      let e : n ≡ 16 = omega arith in
+      record { few = omega arith; goes = rw e at g.goes; here = λ u. absurd (omega arith) }
 
   module _ (u : n < 16) where
     pub near_inside : at + n < length text
@@ -153,7 +156,7 @@ module _ {text : List ℕ} {q at n : ℕ} (g : Nearby text q at n) where
 pub ruleset near_then_far = (near_turns, near_far, rules)
 
 -- A TAG THAT ENDS HERE
-pub sign_now : (text : List ℕ) (at : ℕ) → at < length text → {c : Bool} → c ≡ closing (get_or text at 0) → c ≡ true → {r : Tag}
+pub sign_now : (text : List ℕ) (at : ℕ) → at < length text → {c : Bool} → c ≡ closing (get_or text at 0) → c ≡ true → {r : Option Tag}
     → r ≡ tag_told (length text) (finish (get_or text at 0) (drop (at + 1) text)) → r ≡ tag_told (length text) (tag_from 0 (drop at text))
 unfolding finishes
 sign_now text at u e y z = tag_stops text at 0 at (tag_start text at) u e y z
@@ -162,11 +165,11 @@ pub ruleset tag_now = (sign_now, rules)
 
 -- THE REST OF A TAG
 module _ {text : List ℕ} {at i j : ℕ} (t : Tagging text at 0 i) (s : Turning text 0 i j) where
-  pub sign_none : length text ≤ j → tag_is.No ≡ tag_told (length text) (tag_from 0 (drop at text))
+  pub sign_none : length text ≤ j → None ≡ tag_told (length text) (tag_from 0 (drop at text))
   sign_none h = tag_none text at 0 j (tag_jumps t s.goes) h
 
   module _ (u : j < length text) {c : Bool} (e : c ≡ closing (get_or text j 0)) where
-    pub sign_ends : c ≡ true → {r : Tag} → r ≡ tag_told (length text) (finish (get_or text j 0) (drop (j + 1) text))
+    pub sign_ends : c ≡ true → {r : Option Tag} → r ≡ tag_told (length text) (finish (get_or text j 0) (drop (j + 1) text))
         → r ≡ tag_told (length text) (tag_from 0 (drop at text))
     unfolding finishes
     sign_ends y z = tag_stops text at 0 j (tag_jumps t s.goes) u e y z
@@ -185,7 +188,7 @@ module _ {text : List ℕ} {at i j : ℕ} (t : Tagging text at 0 i) (s : Turning
       opens = tag_goes text at 0 j (tag_jumps t s.goes) u e f (rw is_quote)
 
       module _ {k : ℕ} (v : Turning text (get_or text j 0) (j + 1) k) where
-        pub value_none : length text ≤ k → tag_is.No ≡ tag_told (length text) (tag_from 0 (drop at text))
+        pub value_none : length text ≤ k → None ≡ tag_told (length text) (tag_from 0 (drop at text))
         value_none h = tag_none text at _ k (tag_jumps opens v.goes) h
 
         pub value_less : k < length text → length text - (k + 1) < length text - i

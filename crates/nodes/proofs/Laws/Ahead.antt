@@ -178,21 +178,21 @@ pub ruleset heading = (
 )
 
 -- from a place in a start tag
-module _ (text : List ℕ) (at : ℕ) (words : Bool) {x : Tag} (k : x ≡ tag_told (length text) (tag_from 0 (drop at text))) where
-  pub ahead_none : x ≡ tag_is.No → Stray ≡ ahead_in_tag words text at
+module _ (text : List ℕ) (at : ℕ) (words : Bool) {x : Option Tag} (k : x ≡ tag_told (length text) (tag_from 0 (drop at text))) where
+  pub ahead_none : x ≡ None → Stray ≡ ahead_in_tag words text at
   unfolding ahead_in_tag first_ahead_by
   ahead_none z = rw (none_so (length text) (tag_from 0 (drop at text)) (sym k ∙ z))
 
-  pub ahead_bare : {j : ℕ} → x ≡ tag_is.Bare j → End j ≡ ahead_in_tag words text at
+  pub ahead_bare : {y : Tag} {j : ℕ} → x ≡ Some y → y ≡ tag_is.Bare j → End j ≡ ahead_in_tag words text at
   unfolding ahead_in_tag first_ahead_by
-  ahead_bare {j} z =
-      let b = bare_so text at (tag_from 0 (drop at text)) (tag_from_less 0 (drop at text)) (sym k ∙ z) in
+  ahead_bare {j = j} z w =
+      let b = bare_so text at (tag_from 0 (drop at text)) (tag_from_less 0 (drop at text)) (sym k ∙ z ∙ ap Some w) in
       rw (b.reads, place text j b.inside)
 
-  pub ahead_open : {j : ℕ} → x ≡ tag_is.Open j → {r : Ahead} → r ≡ ahead_at words (length text) (drop j text)
+  pub ahead_open : {y : Tag} {j : ℕ} → x ≡ Some y → y ≡ tag_is.Open j → {r : Ahead} → r ≡ ahead_at words (length text) (drop j text)
       → r ≡ ahead_in_tag words text at
   unfolding ahead_in_tag first_ahead_by
-  ahead_open z w = w ∙ sym (rw (opens_so text at (tag_from 0 (drop at text)) (tag_from_less 0 (drop at text)) (sym k ∙ z)).reads)
+  ahead_open z w q = q ∙ sym (rw (opens_so text at (tag_from 0 (drop at text)) (tag_from_less 0 (drop at text)) (sym k ∙ z ∙ ap Some w)).reads)
 
 pub ruleset in_tag_ahead = (ahead_none, ahead_bare, ahead_open, rules)
 

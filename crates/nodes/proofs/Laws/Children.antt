@@ -18,7 +18,7 @@ use Rattle.nodes.specs.Places.{element₁₆, the, Stands}
 use Rattle.nodes.proofs.Laws.Places.{stands_read, the_read, Tail, tail_of, tail_more, tail_read}
 use Rattle.nodes.proofs.Laws.Depth.{comment_eats, data_eats, element_tails}
 use Rattle.nodes.proofs.Laws.ReadSteps.{Ending, bare, filled, Spelled, spelled, eats_child, Induction, induction}
-use Rattle.nodes.specs.Scan.{to_tag, tag_from, tag_at, skip_at}
+use Rattle.nodes.specs.Scan.{to_tag, past_tag, tag_from, tag_at, skip_at}
 use Rattle.nodes.proofs.Laws.Scanned.{to_tag_short, tag_less, Less}
 use Rattle.nodes.proofs.Laws.ScanEnds.{to_tag_free, text_free}
 use Rattle.nodes.proofs.Laws.Skipping.{tag_here, no_text, no_text_comment, no_text_data, no_text_element, tag_read, tag_bare}
@@ -34,13 +34,12 @@ use Rattle.nodes.proofs.Laws.Scanned.{skip_less, less_tails}
 use Rattle.nodes.specs.ScanSteps.{tag_told}
 use Rattle.steps.specs.Prologue.{preamble_at}
 use Rattle.nodes.specs.Root.{root, root_by}
-use Rattle.steps.specs.Pieces.{front}
-use Rattle.steps.specs.declared.pieces.Front.{Front}
-use Rattle.steps.specs.declared.pieces.Front.TheVariants as front_is
+use Rattle.nodes.specs.Ahead.{past_gap, gap_data, ending, ahead_then, ahead_by, ahead_within, ahead_at}
+use Rattle.nodes.specs.declared.ahead.Ahead.{Ahead}
+use Rattle.nodes.specs.declared.ahead.Ahead.TheVariants.{Child, End, Stray}
 use Rattle.nodes.specs.declared.scan.Tag.{Tag}
 use Rattle.nodes.specs.declared.scan.Tag.TheVariants as tag_is
-use Rattle.nodes.proofs.Laws.Scan.{looks_close, looks_comment, looks_data, looks_start, looks_text}
-use Rattle.nodes.proofs.Laws.Skip.{tag_lies, tag_short, opens_at, bare_at_lem, no_tag}
+use Rattle.nodes.proofs.Laws.Skip.{opens_at, bare_at_lem, no_tag}
 
 -- how much is left of a row: falls from each child to the next
 unfoldable pub left : List ℕ → Option ℕ → ℕ
@@ -233,110 +232,72 @@ first_falls {text} {at} st =
     let n : length (drop at text) ≡ length text - at = length-drop at text in
     rw (left_child text at) (omega (arith, first_left text (drop at text) (tag_at (drop at text)) (tag_less (drop at text)) (omega arith)))
 
-pub record Going (text : List ℕ) (at i : ℕ) : Type 0 where
-  same_kid : kid_at (length text) (drop at text) ≡ kid_at (length text) (drop i text)
+-- WHERE WORDS MAY STAND, a child is what stands ahead
+unfoldable pub child_of : Ahead → Option ℕ
+child_of (Child k) = Some k
+child_of (End k) = None
+child_of Stray = None
 
-pub going_start : (text : List ℕ) (at : ℕ) → Going text at at
-going_start text at = record { same_kid = refl }
+close_child : (n : ℕ) (m : Read (Unit {0})) → None ≡ child_of (ending n m)
+unfolding ending child_of
+close_child n fail = refl
+close_child n (got u r) = refl
 
-module _ (text : List ℕ) (at i : ℕ) (go : Going text at i) {t : ℕ} (et : t ≡ length text - length (to_tag (drop i text))) {f : Front}
-    (ef : f ≡ front (look (drop t text))) where
-  stepped_by : (l : Look) → look (drop t text) ≡ l
-      → kid_at (length text) (drop at text) ≡ kid_by l (kid_at (length text)) (length text) (drop t text)
-  stepped_by l q = let z : to_tag (drop i text) ≡ drop t text = (tag_lies text i et).rest in go.same_kid
-      ∙ kid_step (length text) (drop i text) ∙ rw (z, q)
+module _ (f : List ℕ → Option ℕ) (g : List ℕ → Ahead) (h : (r : List ℕ) → f r ≡ child_of (g r)) where
+  then_child : (m : Read (Unit {0})) → kid_then m f ≡ child_of (ahead_then m g)
+  unfolding kid_then ahead_then child_of
+  then_child fail = refl
+  then_child (got u r) = h r
 
-  pub going_close : f ≡ front_is.Close → None ≡ kid_at (length text) (drop at text)
-  unfolding kid_by
-  going_close q = sym (stepped_by at_close (looks_close (drop t text) ef q))
+  data_child : (m : Read (List ℕ)) → kid_then m f ≡ child_of (ahead_then (gap_data true m) g)
+  unfolding kid_then ahead_then child_of gap_data
+  data_child fail = refl
+  data_child (got b r) = h r
 
-  pub going_text : f ≡ front_is.Text → None ≡ kid_at (length text) (drop at text)
-  unfolding kid_by
-  going_text q = sym (stepped_by at_text (looks_text (drop t text) ef q))
+  by_child : (l : Look) (n : ℕ) (s : List ℕ) → kid_by l f n s ≡ child_of (ahead_by true l g n s)
+  unfolding kid_by ahead_by child_of
+  by_child at_close n s = close_child n (past_tag s)
+  by_child at_comment n s = then_child (comment_at s)
+  by_child at_data n s = data_child (data_at_lem s)
+  by_child at_element n s = refl
+  by_child at_text n s = refl
 
-  pub going_child : f ≡ front_is.Start → Some t ≡ kid_at (length text) (drop at text)
-  unfolding kid_by
-  going_child q =
-      let z : length text - length (drop t text) ≡ t = simp length-drop (omega (arith, (tag_lies text i et).inside)) in
-      sym (stepped_by at_element (looks_start (drop t text) ef q) ∙ ap Some z)
+within_child : (m n : ℕ) (s : List ℕ) → kid_within m n s ≡ child_of (ahead_within m true n s)
+unfolding kid_within ahead_within past_gap child_of
+within_child zero n s = refl
+within_child (suc m) n s = by_child (kid_within m n) (ahead_within m true n) (λ r. within_child m n r) (look (to_tag s)) n (to_tag s)
 
-  -- what is passed over, a comment or CDATA
-  module _ {A : Type 0} (p : Reader A) (l : Look) (q : look (drop t text) ≡ l)
-      (by : kid_by l (kid_at (length text)) (length text) (drop t text) ≡ kid_then (p (drop t text)) (kid_at (length text)))
-      (eats : (s : List ℕ) → Ok (λ _ r. length r < length s) (p s)) (leaves : (s : List ℕ) → Ok (Tails s) (p s))
-      {x : Option ℕ} (k : x ≡ stepped (length text) (p (drop t text))) where
-    over : kid_at (length text) (drop at text) ≡ kid_then (p (drop t text)) (kid_at (length text))
-    over = stepped_by l q ∙ by
+pub kid_ahead : (n : ℕ) (s : List ℕ) → kid_at n s ≡ child_of (ahead_at true n s)
+unfolding kid_at ahead_at
+kid_ahead n s = within_child (suc (length s)) n s
 
-    over_stuck : x ≡ None → None ≡ kid_at (length text) (drop at text)
-    unfolding kid_then
-    over_stuck z = sym (over ∙ rw (fell (length text) (p (drop t text)) (sym z ∙ k)))
+module _ (text : List ℕ) (at : ℕ) {a : Ahead} (k : a ≡ ahead_at true (length text) (drop at text)) where
+  pub kid_there : {j : ℕ} → a ≡ Child j → Some j ≡ kid_at (length text) (drop at text)
+  unfolding child_of
+  kid_there z = sym (kid_ahead (length text) (drop at text) ∙ ap child_of (sym k ∙ z))
 
-    module _ {j : ℕ} (z : x ≡ Some j) where
-      passed : Went p text t j
-      passed = went p text t j (leaves (drop t text)) (sym z ∙ k)
+  pub kid_ended : {j : ℕ} → a ≡ End j → None ≡ kid_at (length text) (drop at text)
+  unfolding child_of
+  kid_ended z = sym (kid_ahead (length text) (drop at text) ∙ ap child_of (sym k ∙ z))
 
-      over_on : Going text at j
-      unfolding kid_then
-      over_on = record { same_kid = over ∙ rw passed.reads }
+  pub kid_stray : a ≡ Stray → None ≡ kid_at (length text) (drop at text)
+  unfolding child_of
+  kid_stray z = sym (kid_ahead (length text) (drop at text) ∙ ap child_of (sym k ∙ z))
 
-      over_less : length text - j < length text - i
-      over_less =
-          let h : length (drop j text) < length (drop t text) = ok_got (rw passed.reads at (eats (drop t text))) in
-          omega (arith, tag_short text i et, length-drop j text, length-drop t text)
+pub ruleset kid_of_ahead = (kid_there, kid_ended, kid_stray, rules)
 
-  module _ (q : f ≡ front_is.Comment) {x : Option ℕ} (k : x ≡ stepped (length text) (comment_at (drop t text))) where
-    pub going_stuck : x ≡ None → None ≡ kid_at (length text) (drop at text)
-    unfolding kid_by
-    going_stuck z = over_stuck comment_at at_comment (looks_comment (drop t text) ef q) refl comment_eats (λ s. tails (comment_sound s)) k z
-
-    pub going_on : {j : ℕ} → x ≡ Some j → Going text at j
-    unfolding kid_by
-    going_on z = over_on comment_at at_comment (looks_comment (drop t text) ef q) refl comment_eats (λ s. tails (comment_sound s)) k z
-
-    pub going_less : {j : ℕ} → x ≡ Some j → length text - j < length text - i
-    unfolding kid_by
-    going_less z = over_less comment_at at_comment (looks_comment (drop t text) ef q) refl comment_eats (λ s. tails (comment_sound s)) k z
-
-  module _ (q : f ≡ front_is.Data) {x : Option ℕ} (k : x ≡ stepped (length text) (data_at_lem (drop t text))) where
-    pub data_stuck : x ≡ None → None ≡ kid_at (length text) (drop at text)
-    unfolding kid_by
-    data_stuck z = over_stuck data_at_lem at_data (looks_data (drop t text) ef q) refl data_eats (λ s. tails (data_sound s)) k z
-
-    pub data_on : {j : ℕ} → x ≡ Some j → Going text at j
-    unfolding kid_by
-    data_on z = over_on data_at_lem at_data (looks_data (drop t text) ef q) refl data_eats (λ s. tails (data_sound s)) k z
-
-    pub data_less : {j : ℕ} → x ≡ Some j → length text - j < length text - i
-    unfolding kid_by
-    data_less z = over_less data_at_lem at_data (looks_data (drop t text) ef q) refl data_eats (λ s. tails (data_sound s)) k z
-
-pub ruleset going = (
-  going_start,
-  going_close,
-  going_text,
-  going_child,
-  going_stuck,
-  going_on,
-  going_less,
-  data_stuck,
-  data_on,
-  data_less,
-  rules,
-)
-
-module _ (text : List ℕ) (at : ℕ) {x : Tag} (k : x ≡ tag_told (length text) (tag_at (drop at text))) where
-  pub first_none : x ≡ tag_is.No → None ≡ first_child text at
+module _ (text : List ℕ) (at : ℕ) {x : Option Tag} (k : x ≡ tag_told (length text) (tag_at (drop at text))) where
+  pub first_none : x ≡ None → None ≡ first_child text at
   unfolding first_child first_by
   first_none z = rw (no_tag text at k z)
 
-  pub first_bare : {j : ℕ} → x ≡ tag_is.Bare j → None ≡ first_child text at
+  pub first_bare : {y : Tag} {j : ℕ} → x ≡ Some y → y ≡ tag_is.Bare j → None ≡ first_child text at
   unfolding first_child first_by
-  first_bare z = rw (bare_at_lem text at k z).reads
+  first_bare z w = rw (bare_at_lem text at k (z ∙ ap Some w)).reads
 
-  pub first_open : {j : ℕ} → x ≡ tag_is.Open j → {r : Option ℕ} → r ≡ kid_at (length text) (drop j text) → r ≡ first_child text at
+  pub first_open : {y : Tag} {j : ℕ} → x ≡ Some y → y ≡ tag_is.Open j → {r : Option ℕ} → r ≡ kid_at (length text) (drop j text) → r ≡ first_child text at
   unfolding first_child first_by
-  first_open z w = w ∙ sym (rw (opens_at text at k z).reads)
+  first_open z w q = q ∙ sym (rw (opens_at text at k (z ∙ ap Some w)).reads)
 
 module _ (text : List ℕ) (at : ℕ) {x : Option ℕ} (k : x ≡ stepped (length text) (skip_at (drop at text))) where
   pub next_none : x ≡ None → None ≡ next text at
@@ -347,19 +308,14 @@ module _ (text : List ℕ) (at : ℕ) {x : Option ℕ} (k : x ≡ stepped (lengt
   unfolding next kid_then
   next_on {j} z w = w ∙ sym (rw (went skip_at text at j (less_tails (skip_less (drop at text))) (sym z ∙ k)).reads)
 
-module _ (text : List ℕ) {x : Option ℕ} (k : x ≡ stepped (length text) (preamble_at text)) where
-  pub root_none : x ≡ None → None ≡ root text
-  unfolding root root_by
-  root_none z = rw (fell (length text) (preamble_at text) (sym z ∙ k))
+pub rooted : (text : List ℕ) {x : Option ℕ} → x ≡ stepped (length text) (preamble_at text) → x ≡ root text
+unfolding root stepped root_by
+rooted text k = k ∙ go (preamble_at text)
+  where
+    go : (m : Read (Unit {0})) → stepped (length text) m ≡ root_by (length text) m
+    go fail = refl
+    go (got u r) = refl
 
-  pub root_there : {j : ℕ} → x ≡ Some j → Some j ≡ root text
-  unfolding root root_by stepped
-  root_there {j} z = go (preamble_at text) (sym k ∙ z)
-    where
-      go : (m : Read (Unit {0})) → stepped (length text) m ≡ Some j → Some j ≡ root_by (length text) m
-      go fail e = clash (cc)
-      go (got u r) e = let q : length text - length r ≡ j = cc in cc
-
-pub ruleset rooting = (root_none, root_there, rules)
+pub ruleset rooting = (rooted, rules)
 
 pub ruleset siblings = (first_none, first_bare, first_open, next_none, next_on, rules)

@@ -1,5 +1,5 @@
 -- The scan for tags, at a position of the text: one law for each way through the code.
-use Rattle.std.specs.Prelude.{◌≡◌, refl, List, ◌∷◌, ℕ, ◌+◌, ◌-◌, ◌≤◌, ◌<◌, Bool, true, false, eqb, length, get_or, Some, None}
+use Rattle.std.specs.Prelude.{◌≡◌, refl, List, ◌∷◌, ℕ, ◌+◌, ◌-◌, ◌≤◌, ◌<◌, Bool, true, false, eqb, length, get_or, Option, Some, None}
 use Rattle.std.proofs.Math.Path.{sym}
 use Rattle.std.proofs.Common.{◌∙◌, rules}
 use native.Mathlib.Omega.{arith}
@@ -99,24 +99,24 @@ module _ (text : List ℕ) (at : ℕ) (here : at < length text) where
   place : (k : ℕ) → k ≤ length text → length text - length (drop k text) ≡ k
   place k h = simp length-drop (omega arith)
 
-  pub finish_open : get_or text at 0 ≡ 62 → tag_is.Open (at + 1) ≡ tag_told (length text) (finish (get_or text at 0) (drop (at + 1) text))
+  pub finish_open : get_or text at 0 ≡ 62 → Some (tag_is.Open (at + 1)) ≡ tag_told (length text) (finish (get_or text at 0) (drop (at + 1) text))
   unfolding finish tag_told
   finish_open e = rw (eq-eqb _ _ e, place (at + 1) (omega arith))
 
   pub finish_short : (get_or text at 0 ≡ 62 → ⊥) → length text ≤ at + 1
-      → tag_is.No ≡ tag_told (length text) (finish (get_or text at 0) (drop (at + 1) text))
+      → None ≡ tag_told (length text) (finish (get_or text at 0) (drop (at + 1) text))
   unfolding finish tag_told bind mark
   finish_short f h = rw (ne_eqb _ _ f, at_end text (at + 1) h)
 
   pub finish_bare : (get_or text at 0 ≡ 62 → ⊥) → at + 1 < length text → get_or text (at + 1) 0 ≡ 62
-      → tag_is.Bare (at + 2) ≡ tag_told (length text) (finish (get_or text at 0) (drop (at + 1) text))
+      → Some (tag_is.Bare (at + 2)) ≡ tag_told (length text) (finish (get_or text at 0) (drop (at + 1) text))
   unfolding finish tag_told bind mark test
   finish_bare f h e =
       let z : at + 1 + 1 ≡ at + 2 = omega arith in
       rw (ne_eqb _ _ f, at_byte text (at + 1) h, eq-eqb _ _ e, z, place (at + 2) (omega arith))
 
   pub finish_bad : (get_or text at 0 ≡ 62 → ⊥) → at + 1 < length text → (get_or text (at + 1) 0 ≡ 62 → ⊥)
-      → tag_is.No ≡ tag_told (length text) (finish (get_or text at 0) (drop (at + 1) text))
+      → None ≡ tag_told (length text) (finish (get_or text at 0) (drop (at + 1) text))
   unfolding finish tag_told bind mark test
   finish_bad f h e = rw (ne_eqb _ _ f, at_byte text (at + 1) h, ne_eqb _ _ e)
 
@@ -129,12 +129,12 @@ pub tag_start : (text : List ℕ) (at : ℕ) → Tagging text at 0 at
 tag_start text at = record { same_rest = refl }
 
 module _ (text : List ℕ) (at q i : ℕ) (go : Tagging text at q i) where
-  pub tag_none : length text ≤ i → tag_is.No ≡ tag_told (length text) (tag_from 0 (drop at text))
+  pub tag_none : length text ≤ i → None ≡ tag_told (length text) (tag_from 0 (drop at text))
   unfolding tag_from tag_told
   tag_none h = rw (go.same_rest, at_end text i h)
 
   module _ (h : i < length text) {t : Bool} (e : t ≡ finishes q (get_or text i 0)) where
-    pub tag_stops : t ≡ true → {r : Tag} → r ≡ tag_told (length text) (finish (get_or text i 0) (drop (i + 1) text))
+    pub tag_stops : t ≡ true → {r : Option Tag} → r ≡ tag_told (length text) (finish (get_or text i 0) (drop (i + 1) text))
         → r ≡ tag_told (length text) (tag_from 0 (drop at text))
     unfolding tag_from
     tag_stops y z = z ∙ sym (rw (go.same_rest, at_byte text i h, sym e ∙ y))
@@ -165,7 +165,7 @@ tag_jumps t k = record { same_rest = t.same_rest ∙ k.same }
 
 -- THE WHOLE TAG
 module _ (text : List ℕ) (at : ℕ) where
-  pub tag_past : length text ≤ at → tag_is.No ≡ tag_told (length text) (tag_at (drop at text))
+  pub tag_past : length text ≤ at → None ≡ tag_told (length text) (tag_at (drop at text))
   unfolding tag_at tag_told
   tag_past h = rw (at_end text at h)
 
@@ -173,7 +173,7 @@ module _ (text : List ℕ) (at : ℕ) where
   unfolding tag_at
   tag_opens h = record { same_tag = rw (at_byte text at h) }
 
-  pub tag_whole : at < length text → {r : Tag} → r ≡ tag_told (length text) (tag_from 0 (drop (at + 1) text))
+  pub tag_whole : at < length text → {r : Option Tag} → r ≡ tag_told (length text) (tag_from 0 (drop (at + 1) text))
       → r ≡ tag_told (length text) (tag_at (drop at text))
   tag_whole h e = rw (tag_opens h).same_tag e
 

@@ -91,21 +91,21 @@ module _ (text s : List ℕ) (t : Tail text s) where
       let l = lies u e in
       record { inside = l.inside; is = ap made l.rest; falls = omega (arith, u.fits, k.falls) }
 
-  told_open : (m : Mark) {j : ℕ} → Leaves s m → sign_told (length text) m ≡ sign-is.Open j → Told text s m j opens
+  told_open : (m : Mark) {j : ℕ} → Leaves s m → sign_told (length text) m ≡ Some (sign-is.Open j) → Told text s m j opens
   unfolding sign_told
   told_open (closes r) k e = clash (cc)
   told_open (opens r) {j} (leaves_open k) e = told_of r j opens k (let q : length text - length r ≡ j = cc in q)
   told_open (flat r) k e = clash (cc)
   told_open none k e = clash (cc)
 
-  told_flat : (m : Mark) {j : ℕ} → Leaves s m → sign_told (length text) m ≡ sign-is.Flat j → Told text s m j flat
+  told_flat : (m : Mark) {j : ℕ} → Leaves s m → sign_told (length text) m ≡ Some (sign-is.Flat j) → Told text s m j flat
   unfolding sign_told
   told_flat (closes r) k e = clash (cc)
   told_flat (opens r) k e = clash (cc)
   told_flat (flat r) {j} (leaves_flat k) e = told_of r j flat k (let q : length text - length r ≡ j = cc in q)
   told_flat none k e = clash (cc)
 
-  told_close : (m : Mark) {j : ℕ} → Leaves s m → sign_told (length text) m ≡ sign-is.Close j → (m ≡ closes (drop j text))
+  told_close : (m : Mark) {j : ℕ} → Leaves s m → sign_told (length text) m ≡ Some (sign-is.Close j) → (m ≡ closes (drop j text))
       × (length text - j ≤ length s)
   unfolding sign_told
   told_close (closes _) {j} leaves_close e =
@@ -116,7 +116,7 @@ module _ (text s : List ℕ) (t : Tail text s) where
   told_close (flat r) k e = clash (cc)
   told_close none k e = clash (cc)
 
-  told_none : (m : Mark) → sign_told (length text) m ≡ sign-is.No → m ≡ none
+  told_none : (m : Mark) → sign_told (length text) m ≡ None → m ≡ none
   unfolding sign_told
   told_none (closes r) e = clash (cc)
   told_none (opens r) e = clash (cc)
@@ -132,7 +132,7 @@ pub scan_start : (text : List ℕ) (at : ℕ) → Scanning text at 0 at
 scan_start text at = record { same_end = refl; small = omega arith }
 
 module _ (text : List ℕ) (at depth i : ℕ) (go : Scanning text at depth i) {t : ℕ}
-    (et : t ≡ length text - length (to_tag (drop i text))) {g : Sign} (eg : g ≡ sign_told (length text) (sign (drop t text))) where
+    (et : t ≡ length text - length (to_tag (drop i text))) {g : Option Sign} (eg : g ≡ sign_told (length text) (sign (drop t text))) where
   abbrev s : List ℕ
   s = drop t text
 
@@ -142,13 +142,13 @@ module _ (text : List ℕ) (at depth i : ℕ) (go : Scanning text at depth i) {t
   short : length s ≤ length text - i
   short = omega (arith, tag_short text i et, length-drop t text)
 
-  pub scan_none : g ≡ sign-is.No → None ≡ stepped (length text) (scan 0 (drop at text))
+  pub scan_none : g ≡ None → None ≡ stepped (length text) (scan 0 (drop at text))
   unfolding go_on
   scan_none z = refuses (length text) (scan 0 (drop at text)) (on ∙ rw (told_none text s (tail_of text t) (sign s) (sym eg ∙ z)))
 
-  module _ {j : ℕ} (z : g ≡ sign-is.Open j) where
+  module _ {y : Sign} (there : g ≡ Some y) {j : ℕ} (z : y ≡ sign-is.Open j) where
     opened : Told text s (sign s) j opens
-    opened = told_open text s (tail_of text t) (sign s) (sign_leaves s) (sym eg ∙ z)
+    opened = told_open text s (tail_of text t) (sign s) (sign_leaves s) (sym eg ∙ there ∙ ap Some z)
 
     pub scan_room : depth < length text
     scan_room = omega (arith, go.small, opened.falls, short)
@@ -162,9 +162,9 @@ module _ (text : List ℕ) (at depth i : ℕ) (go : Scanning text at depth i) {t
     pub scan_open_less : length text - j < length text - i
     scan_open_less = omega (arith, opened.falls, short)
 
-  module _ {j : ℕ} (z : g ≡ sign-is.Flat j) where
+  module _ {y : Sign} (there : g ≡ Some y) {j : ℕ} (z : y ≡ sign-is.Flat j) where
     flattened : Told text s (sign s) j flat
-    flattened = told_flat text s (tail_of text t) (sign s) (sign_leaves s) (sym eg ∙ z)
+    flattened = told_flat text s (tail_of text t) (sign s) (sign_leaves s) (sym eg ∙ there ∙ ap Some z)
 
     pub scan_flat : Scanning text at depth j
     unfolding go_on
@@ -173,15 +173,15 @@ module _ (text : List ℕ) (at depth i : ℕ) (go : Scanning text at depth i) {t
     pub scan_flat_less : length text - j < length text - i
     scan_flat_less = omega (arith, flattened.falls, short)
 
-  module _ {j : ℕ} (z : g ≡ sign-is.Close j) where
+  module _ {y : Sign} (there : g ≡ Some y) {j : ℕ} (z : y ≡ sign-is.Close j) where
     closed : (sign s ≡ closes (drop j text)) × (length text - j ≤ length s)
-    closed = told_close text s (tail_of text t) (sign s) (sign_leaves s) (sym eg ∙ z)
+    closed = told_close text s (tail_of text t) (sign s) (sign_leaves s) (sym eg ∙ there ∙ ap Some z)
 
     inside : j ≤ length text
     unfolding sign_told
-    inside = go_in (sign s) (sym eg ∙ z)
+    inside = go_in (sign s) (sym eg ∙ there ∙ ap Some z)
       where
-        go_in : (m : Mark) → sign_told (length text) m ≡ sign-is.Close j → j ≤ length text
+        go_in : (m : Mark) → sign_told (length text) m ≡ Some (sign-is.Close j) → j ≤ length text
         go_in (closes r) e = let q : length text - length r ≡ j = cc in omega arith
         go_in (opens r) e = clash (cc)
         go_in (flat r) e = clash (cc)
@@ -248,47 +248,47 @@ module _ (text : List ℕ) (at : ℕ) where
       let u = lies (tail_more l.front r l.whole (tail_of text at)) w in
       record { inside = u.inside; reads = ap (got wide) u.rest }
 
-  pub opens_so : (m : Read Bool) → Ok (Less (drop at text)) m → {j : ℕ} → tag_told (length text) m ≡ tag_is.Open j → Opens text m j true
+  pub opens_so : (m : Read Bool) → Ok (Less (drop at text)) m → {j : ℕ} → tag_told (length text) m ≡ Some (tag_is.Open j) → Opens text m j true
   unfolding tag_told
   opens_so fail h q = clash (cc)
   opens_so (got true r) (good h) {j} q = read_so r h (let w : length text - length r ≡ j = cc in w)
   opens_so (got false r) h q = clash (cc)
 
-  pub bare_so : (m : Read Bool) → Ok (Less (drop at text)) m → {j : ℕ} → tag_told (length text) m ≡ tag_is.Bare j → Opens text m j false
+  pub bare_so : (m : Read Bool) → Ok (Less (drop at text)) m → {j : ℕ} → tag_told (length text) m ≡ Some (tag_is.Bare j) → Opens text m j false
   unfolding tag_told
   bare_so fail h q = clash (cc)
   bare_so (got true r) h q = clash (cc)
   bare_so (got false r) (good h) {j} q = read_so r h (let w : length text - length r ≡ j = cc in w)
 
-pub none_so : (n : ℕ) (m : Read Bool) → tag_told n m ≡ tag_is.No → m ≡ fail
+pub none_so : (n : ℕ) (m : Read Bool) → tag_told n m ≡ None → m ≡ fail
 unfolding tag_told
 none_so n fail q = refl
 none_so n (got true r) q = clash (cc)
 none_so n (got false r) q = clash (cc)
 
-module _ (text : List ℕ) (at : ℕ) {x : Tag} (k : x ≡ tag_told (length text) (tag_at (drop at text))) where
-  pub opens_at : {j : ℕ} → x ≡ tag_is.Open j → Opens text (tag_at (drop at text)) j true
+module _ (text : List ℕ) (at : ℕ) {x : Option Tag} (k : x ≡ tag_told (length text) (tag_at (drop at text))) where
+  pub opens_at : {j : ℕ} → x ≡ Some (tag_is.Open j) → Opens text (tag_at (drop at text)) j true
   opens_at z = opens_so text at (tag_at (drop at text)) (tag_less (drop at text)) (sym k ∙ z)
 
-  pub bare_at_lem : {j : ℕ} → x ≡ tag_is.Bare j → Opens text (tag_at (drop at text)) j false
+  pub bare_at_lem : {j : ℕ} → x ≡ Some (tag_is.Bare j) → Opens text (tag_at (drop at text)) j false
   bare_at_lem z = bare_so text at (tag_at (drop at text)) (tag_less (drop at text)) (sym k ∙ z)
 
-  pub no_tag : x ≡ tag_is.No → tag_at (drop at text) ≡ fail
+  pub no_tag : x ≡ None → tag_at (drop at text) ≡ fail
   no_tag z = none_so (length text) (tag_at (drop at text)) (sym k ∙ z)
 
-  pub skip_none : x ≡ tag_is.No → None ≡ stepped (length text) (skip_at (drop at text))
+  pub skip_none : x ≡ None → None ≡ stepped (length text) (skip_at (drop at text))
   unfolding skip_at bind
   skip_none z = refuses (length text) (skip_at (drop at text)) (rw (no_tag z))
 
-  pub skip_bare : {j : ℕ} → x ≡ tag_is.Bare j → Some j ≡ stepped (length text) (skip_at (drop at text))
+  pub skip_bare : {y : Tag} {j : ℕ} → x ≡ Some y → y ≡ tag_is.Bare j → Some j ≡ stepped (length text) (skip_at (drop at text))
   unfolding skip_at bind passed leave_at
-  skip_bare {j} z = let o = bare_at_lem z in let q : skip_at (drop at text) ≡ got tt (drop j text) = rw o.reads in
+  skip_bare {j = j} z w = let o = bare_at_lem (z ∙ ap Some w) in let q : skip_at (drop at text) ≡ got tt (drop j text) = rw o.reads in
       arrives text (skip_at (drop at text)) j o.inside q
 
-  pub skip_open : {i : ℕ} → x ≡ tag_is.Open i → {r : Option ℕ} → r ≡ stepped (length text) (leave_at (drop i text))
+  pub skip_open : {y : Tag} {i : ℕ} → x ≡ Some y → y ≡ tag_is.Open i → {r : Option ℕ} → r ≡ stepped (length text) (leave_at (drop i text))
       → r ≡ stepped (length text) (skip_at (drop at text))
   unfolding skip_at bind passed leave_at
-  skip_open z q = q ∙ sym (rw (opens_at z).reads)
+  skip_open z w q = q ∙ sym (rw (opens_at (z ∙ ap Some w)).reads)
 
 pub ruleset skipping = (skip_none, skip_bare, skip_open, rules)
 

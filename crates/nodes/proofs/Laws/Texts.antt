@@ -39,18 +39,18 @@ use Rattle.nodes.proofs.Laws.Scan.{looks_close, looks_comment, looks_data, looks
 use Rattle.nodes.proofs.Laws.Skip.{opens_at, bare_at_lem, no_tag, lies}
 
 -- WHERE CONTENTS BEGIN
-module _ (text : List ℕ) (at : ℕ) {x : Tag} (k : x ≡ tag_told (length text) (tag_at (drop at text))) where
-  pub inside_none : x ≡ tag_is.No → None ≡ inside text at
+module _ (text : List ℕ) (at : ℕ) {x : Option Tag} (k : x ≡ tag_told (length text) (tag_at (drop at text))) where
+  pub inside_none : x ≡ None → None ≡ inside text at
   unfolding inside inside_by
   inside_none z = rw (no_tag text at k z)
 
-  pub inside_bare : {j : ℕ} → x ≡ tag_is.Bare j → None ≡ inside text at
+  pub inside_bare : {y : Tag} {j : ℕ} → x ≡ Some y → y ≡ tag_is.Bare j → None ≡ inside text at
   unfolding inside inside_by
-  inside_bare z = rw (bare_at_lem text at k z).reads
+  inside_bare z w = rw (bare_at_lem text at k (z ∙ ap Some w)).reads
 
-  pub inside_open : {j : ℕ} → x ≡ tag_is.Open j → Some j ≡ inside text at
+  pub inside_open : {y : Tag} {j : ℕ} → x ≡ Some y → y ≡ tag_is.Open j → Some j ≡ inside text at
   unfolding inside inside_by
-  inside_open {j} z = let o = opens_at text at k z in let p : length text - length (drop j text) ≡ j =
+  inside_open {j = j} z w = let o = opens_at text at k (z ∙ ap Some w) in let p : length text - length (drop j text) ≡ j =
       simp length-drop (omega (arith, o.inside)) in rw (o.reads, p)
 
 pub ruleset beginning = (inside_none, inside_bare, inside_open, rules)

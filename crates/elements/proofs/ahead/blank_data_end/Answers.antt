@@ -1,8 +1,8 @@
-use Rattle.nodes.proofs.Laws.BlankData.{blank_marked}
+use Rattle.nodes.proofs.Laws.BlankData.{blank_missing, blank_there}
 use Rattle.elements.proofs.ahead.blank_data_end.Goals as goal
 
-pub returns-in-Some : goal.returns-in-Some
-returns-in-Some c = search blank_marked
+pub returns-in_err-i : goal.returns-in_err-i
+returns-in_err-i c = rw c.from_residual.ensures (blank_missing _ _ c.mark_end.ensures c.in_err-i.was)
 
-pub returns-in-None : goal.returns-in-None
-returns-in-None c = search blank_marked
+pub returns : goal.returns
+returns c = blank_there _ _ c.mark_end.ensures c.in_ok-i.was c.blanks_end.ensures c.mark_end-2.ensures

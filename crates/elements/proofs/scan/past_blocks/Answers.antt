@@ -1,4 +1,4 @@
-use Rattle.std.proofs.lemmas.Bool.{not_from_true}
+use borrow.Author.Rules.{rules}
 use Rattle.steps.proofs.Laws.Blocks.{through_on, by_blocks}
 use Rattle.elements.proofs.scan.past_blocks.Goals as goal
 
@@ -6,4 +6,4 @@ pub loop-i-init : goal.loop-i-init
 loop-i-init c = search by_blocks
 
 pub loop-i-preserved : goal.loop-i-preserved
-loop-i-preserved c = through_on c.loop-i.invariant c.block_lacks.ensures (not_from_true _ c.if-not-block_lacks.false)
+loop-i-preserved c = through_on c.loop-i.invariant c.block_lacks.ensures (search rules)

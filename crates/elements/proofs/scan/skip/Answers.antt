@@ -7,5 +7,5 @@ returns-in-Open c = search skipping
 pub returns-in-Bare : goal.returns-in-Bare
 returns-in-Bare c = search skipping
 
-pub returns-in-No : goal.returns-in-No
-returns-in-No c = search skipping
+pub returns-in_err-i : goal.returns-in_err-i
+returns-in_err-i c = search skipping
