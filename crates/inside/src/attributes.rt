@@ -13,29 +13,14 @@ fn place_from(text: &[u8], at: usize, word: &[u8]) -> Option<usize>
     ensures { result ≡ place_in word.now (keys_at_lem (length text.now) (drop at text.now)) }
 {
     let mut i = at;
-    loop {
-        if tag_ends(text, i) {
-            return None;
+    while !tag_ends(text, i) {
+        let Key { from, to, end } = key_at(text, i)?;
+        if equal(&text[from..to], word) {
+            return Some(end);
         }
-        match key_at(text, i) {
-            Some(Key { from, to, end }) => {
-                if equal(&text[from..to], word) {
-                    return Some(end);
-                }
-                match value_end(text, end) {
-                    Some(j) => {
-                        i = j;
-                    }
-                    None => {
-                        return None;
-                    }
-                }
-            }
-            None => {
-                return None;
-            }
-        }
+        i = value_end(text, end)?;
     }
+    None
 }
 
 // Where the value of the attribute with the name begins, in the tag of the element at `at`.
@@ -45,8 +30,5 @@ pub fn attribute(text: &[u8], at: usize, word: &[u8]) -> Option<usize>
     if text.len() <= at {
         return None;
     }
-    match name_end(text, at + 1) {
-        Some(i) => place_from(text, i, word),
-        None => None,
-    }
+    place_from(text, name_end(text, at + 1)?, word)
 }

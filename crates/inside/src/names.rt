@@ -8,10 +8,7 @@ use letters::names::{equal, name_end};
 pub fn name_is(text: &[u8], at: usize, word: &[u8]) -> bool
     ensures { result ≡ named text.now at word.now }
 {
-    if text.len() <= at {
-        return false;
-    }
-    if text[at] != b'<' {
+    if text.len() <= at || text[at] != b'<' {
         return false;
     }
     match name_end(text, at + 1) {

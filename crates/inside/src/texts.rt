@@ -18,10 +18,9 @@ use steps::pieces::Front;
 pub fn text_start(text: &[u8], at: usize) -> Option<usize>
     ensures { result ≡ inside text.now at }
 {
-    match tag_end(text, at) {
+    match tag_end(text, at)? {
         Tag::Open(i) => Some(i),
         Tag::Bare(_) => None,
-        Tag::No => None,
     }
 }
 
@@ -34,14 +33,10 @@ fn letter_at(text: &[u8], at: usize) -> Text
     }
     let b = text[at];
     if b == b'&' {
-        match reference_at(text, at) {
-            Some((c, j)) => {
-                return Text::Letter(c, j);
-            }
-            None => {
-                return Text::Letter(b'&', at + 1);
-            }
-        }
+        return match reference_at(text, at) {
+            Some((c, j)) => Text::Letter(c, j),
+            None => Text::Letter(b'&', at + 1),
+        };
     }
     if b == b'\r' {
         return Text::Letter(b'\n', feed_end(text, at + 1));
@@ -80,14 +75,10 @@ fn within_at(text: &[u8], at: usize) -> Text
     }
     let b = text[at];
     if b == b']' {
-        match mark_end(text, at, b"]]>") {
-            Some(j) => {
-                return Text::Skip(j);
-            }
-            None => {
-                return Text::Letter(b']', text.len() + 1 + (at + 1));
-            }
-        }
+        return match mark_end(text, at, b"]]>") {
+            Some(j) => Text::Skip(j),
+            None => Text::Letter(b']', text.len() + 1 + (at + 1)),
+        };
     }
     if b == b'\r' {
         return Text::Letter(b'\n', text.len() + 1 + feed_end(text, at + 1));
@@ -110,19 +101,10 @@ pub fn text_at(text: &[u8], at: usize) -> Text
 pub fn written<'t>(text: &'t [u8], at: usize) -> &'t [u8]
     ensures { result.now ≡ between_tags text.now at }
 {
-    match text_start(text, at) {
-        Some(i) => {
-            match contents_end(text, i) {
-                Some(j) => {
-                    return &text[i..j];
-                }
-                None => {
-                    return &text[0..0];
-                }
-            }
-        }
-        None => {
-            return &text[0..0];
+    if let Some(i) = text_start(text, at) {
+        if let Some(j) = contents_end(text, i) {
+            return &text[i..j];
         }
     }
+    &text[0..0]
 }

@@ -2,7 +2,7 @@
 ghost use Rattle.std.specs.Prelude.{◌≡◌, drop, get_or};
 ghost use Rattle.grammar.specs.Parser.{same_bytes};
 ghost use Rattle.nodes.specs.Values.{decoded_at, value_there, tells};
-ghost use Rattle.nodes.specs.Fronts.{behind_quote, begins_at_lem};
+ghost use Rattle.nodes.specs.Fronts.{behind_quote, behind_front, begins_at_lem};
 ghost use Rattle.nodes.specs.Found.{value_at_name};
 
 use super::attributes::attribute;
@@ -22,14 +22,7 @@ fn any_decoded(text: &[u8], at: usize, quote: u8) -> Option<(u8, usize)>
         return None;
     }
     if b == b'&' {
-        match reference_at(text, at) {
-            Some((c, j)) => {
-                return Some((c, j));
-            }
-            None => {
-                return Some((b'&', at + 1));
-            }
-        }
+        return Some(reference_at(text, at).unwrap_or((b'&', at + 1)));
     }
     if b == b'\r' {
         return Some((b' ', feed_end(text, at + 1)));
@@ -44,44 +37,38 @@ fn any_decoded(text: &[u8], at: usize, quote: u8) -> Option<(u8, usize)>
 pub fn decoded(text: &[u8], at: usize, quote: u8) -> Option<(u8, usize)>
     ensures { result ≡ decoded_at text.now at quote }
 {
-    if text.len() <= at {
-        return any_decoded(text, at, quote);
-    }
-    let b = text[at];
-    if b == quote {
+    if text.len() <= at || text[at] == quote {
         return None;
     }
+    let b = text[at];
     if b <= b'&' {
         return any_decoded(text, at, quote);
     }
     Some((b, at + 1))
 }
 
+// The place behind the word, where the decoded bytes from `at` begin with it.
+fn past_word(text: &[u8], at: usize, quote: u8, word: &[u8]) -> Option<usize>
+    ensures { result ≡ behind_front text.now quote word.now at }
+{
+    let mut i = at;
+    for want in word {
+        let (b, j) = decoded(text, i, quote)?;
+        if b != *want {
+            return None;
+        }
+        i = j;
+    }
+    Some(i)
+}
+
 // The decoded bytes from `at` up to the quote are the word.
 pub fn rest_is(text: &[u8], at: usize, quote: u8, word: &[u8]) -> bool
     ensures { result ≡ same_bytes (tells quote (drop at text.now)) word.now }
 {
-    let mut k = 0;
-    let mut i = at;
-    loop {
-        match decoded(text, i, quote) {
-            Some((b, j)) => {
-                if k >= word.len() {
-                    return false;
-                }
-                if b != word[k] {
-                    return false;
-                }
-                k += 1;
-                i = j;
-            }
-            None => {
-                if word.len() <= k {
-                    return true;
-                }
-                return false;
-            }
-        }
+    match past_word(text, at, quote, word) {
+        Some(i) => decoded(text, i, quote).is_none(),
+        None => false,
     }
 }
 
@@ -109,24 +96,7 @@ fn behind_quote(text: &[u8], v: usize) -> usize
 pub fn begins(text: &[u8], v: usize, front: &[u8]) -> Option<usize>
     ensures { result ≡ begins_at_lem text.now v front.now }
 {
-    let q = quote_at(text, v);
-    let mut met = 0;
-    let mut i = behind_quote(text, v);
-    while met < front.len() {
-        match decoded(text, i, q) {
-            Some((b, j)) => {
-                if b != front[met] {
-                    return None;
-                }
-                met += 1;
-                i = j;
-            }
-            None => {
-                return None;
-            }
-        }
-    }
-    Some(i)
+    past_word(text, behind_quote(text, v), quote_at(text, v), front)
 }
 
 // The value that begins at `v`, with its quote, is the word.
@@ -142,6 +112,6 @@ pub fn attribute_is(text: &[u8], at: usize, name: &[u8], word: &[u8]) -> bool
 {
     match attribute(text, at, name) {
         Some(v) => value_is(text, v, word),
-        None => word.len() == 0,
+        None => word.is_empty(),
     }
 }

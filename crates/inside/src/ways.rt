@@ -15,21 +15,14 @@ pub fn child_named(text: &[u8], at: usize, word: &[u8], n: u64) -> Option<usize>
     let mut left = n;
     let mut kid = first_child(text, at);
     loop {
-        match kid {
-            Some(k) => {
-                let passes = name_is(text, k, word);
-                if passes & (left == 0) {
-                    return Some(k);
-                }
-                kid = next_child(text, k);
-                if passes {
-                    left -= 1;
-                }
+        let k = kid?;
+        if name_is(text, k, word) {
+            if left == 0 {
+                return Some(k);
             }
-            None => {
-                return None;
-            }
+            left -= 1;
         }
+        kid = next_child(text, k);
     }
 }
 
@@ -38,8 +31,8 @@ pub fn behind_tag(text: &[u8], at: usize) -> usize
     ensures { result ≡ tag_end text.now at }
 {
     match tag_end(text, at) {
-        Tag::Open(i) => i,
-        Tag::Bare(i) => i,
-        Tag::No => 0,
+        Some(Tag::Open(i)) => i,
+        Some(Tag::Bare(i)) => i,
+        None => 0,
     }
 }

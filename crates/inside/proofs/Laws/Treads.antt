@@ -25,7 +25,7 @@ use Rattle.nodes.proofs.Laws.Names.{name_is_law}
 use Rattle.nodes.specs.Root.{root}
 use Rattle.nodes.proofs.Laws.Root.{Rooted, root_law}
 use Rattle.nodes.specs.declared.scan.Tag.{Tag}
-use Rattle.nodes.specs.declared.scan.Tag.TheVariants.{Open, Bare, No}
+use Rattle.nodes.specs.declared.scan.Tag.TheVariants.{Open, Bare}
 use Rattle.inside.specs.Way.{WayStep, step}
 use Rattle.inside.specs.Walked.{places_within, places_from, nth_place, child_at, thence, walked, walked_from, way_at}
 use Rattle.inside.proofs.Laws.Walked.{child_same, Agrees}
@@ -194,16 +194,16 @@ pub ruleset seeking = (
 
 -- ---- The start tag.
 
-module _ (text : List ℕ) (at : ℕ) {t : Tag} (e : t ≡ tag_told (length text) (tag_at (drop at text))) where
-  pub behind_open : {i : ℕ} → t ≡ Open i → i ≡ tag_end text at
+module _ (text : List ℕ) (at : ℕ) {t : Option Tag} (e : t ≡ tag_told (length text) (tag_at (drop at text))) where
+  pub behind_open : {y : Tag} {i : ℕ} → t ≡ Some y → y ≡ Open i → i ≡ tag_end text at
   unfolding tag_end behind_tag
-  behind_open h = sym (ap behind_tag (sym e ∙ h))
+  behind_open h w = sym (ap behind_tag (sym e ∙ h ∙ ap Some w))
 
-  pub behind_bare : {i : ℕ} → t ≡ Bare i → i ≡ tag_end text at
+  pub behind_bare : {y : Tag} {i : ℕ} → t ≡ Some y → y ≡ Bare i → i ≡ tag_end text at
   unfolding tag_end behind_tag
-  behind_bare h = sym (ap behind_tag (sym e ∙ h))
+  behind_bare h w = sym (ap behind_tag (sym e ∙ h ∙ ap Some w))
 
-  pub behind_none : t ≡ No → 0 ≡ tag_end text at
+  pub behind_none : t ≡ None → 0 ≡ tag_end text at
   unfolding tag_end behind_tag
   behind_none h = sym (ap behind_tag (sym e ∙ h))
 

@@ -1,5 +1,5 @@
 -- A value that begins with a front part is that part and the decoded bytes behind it; and one law for each way through the code.
-use Rattle.std.specs.Prelude.{◌≡◌, refl, List, [], ◌∷◌, ◌++◌, Bool, true, false, ◌&&◌, cond, ℕ, ◌+◌, ◌≤◌, ◌<◌, eqb, leb, length, drop, get_or, Option, Some, None}
+use Rattle.std.specs.Prelude.{◌≡◌, refl, List, [], ◌∷◌, ◌++◌, Bool, true, false, ◌&&◌, not, cond, ℕ, ◌+◌, ◌≤◌, ◌<◌, eqb, leb, length, drop, get_or, Option, Some, None, is_some}
 use Rattle.std.proofs.Common.{ap, ◌∙◌, arith, rules}
 use Rattle.std.proofs.Math.Path.{sym}
 use borrow.Author.Tests.{eq-eqb, ne_eqb, eqb-true, le-leb, lt-leb, leb-true}
@@ -91,36 +91,78 @@ unfolding begins_at_lem
 begins_not text v front e h =
     ap (begins front) (value_behind text v) ∙ behind_not text (get_or text v 0) front (behind_quote text v) (sym e ∙ h)
 
--- THE LOOP
-pub record Fronting (text : List ℕ) (v : ℕ) (front : List ℕ) (q k i : ℕ) : Type 0 where
-  same_front : begins_at_lem text v front ≡ behind_front text q (drop k front) i
+-- BYTE BY BYTE
+pub record Fronting (text : List ℕ) (q : ℕ) (word : List ℕ) (at k i : ℕ) : Type 0 where
+  same_front : behind_front text q word at ≡ behind_front text q (drop k word) i
 
-pub front_start : (text : List ℕ) (v : ℕ) (front : List ℕ) {q : ℕ} → q ≡ get_or text v 0 → {i : ℕ} → i ≡ behind_quote text v
-    → Fronting text v front q 0 i
-unfolding begins_at_lem
-front_start text v front e f = record { same_front = rw (e, f) }
+pub front_start : (text : List ℕ) (q : ℕ) (word : List ℕ) (at : ℕ) → Fronting text q word at 0 at
+front_start text q word at = record { same_front = refl }
 
-module _ {text : List ℕ} {v : ℕ} {front : List ℕ} {q k i : ℕ} (go : Fronting text v front q k i) where
-  pub front_behind : length front ≤ k → Some i ≡ begins_at_lem text v front
+met_pair : (a : ℕ) (p : ℕ × ℕ) (f : ℕ → Option ℕ) → met a (Some p) f ≡ pick (eqb p.0 a) (f p.1) None
+unfolding met
+met_pair a (b, j) f = refl
+
+module _ {text : List ℕ} {q : ℕ} {word : List ℕ} {at k i : ℕ} (go : Fronting text q word at k i) where
+  pub front_behind : length word ≤ k → Some i ≡ behind_front text q word at
   unfolding behind_front
-  front_behind h = sym (go.same_front ∙ rw (at_end front k h))
+  front_behind h = sym (go.same_front ∙ rw (at_end word k h))
 
-  module _ (h : k < length front) {c : Option (ℕ × ℕ)} (ec : c ≡ decoded_at text i q) where
-    next : begins_at_lem text v front ≡ met (get_or front k 0) c (behind_front text q (drop (k + 1) front))
+  module _ (h : k < length word) {c : Option (ℕ × ℕ)} (ec : c ≡ decoded_at text i q) where
+    next : behind_front text q word at ≡ met (get_or word k 0) c (behind_front text q (drop (k + 1) word))
     unfolding behind_front
-    next = go.same_front ∙ rw (at_byte front k h, ec)
+    next = go.same_front ∙ rw (at_byte word k h, ec)
 
-    pub front_ends : c ≡ None → None ≡ begins_at_lem text v front
+    pub front_ends : c ≡ None → None ≡ behind_front text q word at
     unfolding met
     front_ends e = sym (next ∙ rw e)
 
-    module _ {b j : ℕ} (is : c ≡ Some (b, j)) where
-      pub front_other : (b ≡ get_or front k 0 → ⊥) → None ≡ begins_at_lem text v front
-      unfolding met
-      front_other f = sym (next ∙ rw (is, ne_eqb _ _ f))
+    module _ {p : ℕ × ℕ} (is : c ≡ Some p) where
+      here : behind_front text q word at ≡ pick (eqb p.0 (get_or word k 0)) (behind_front text q (drop (k + 1) word) p.1) None
+      here = next ∙ ap (λ x. met (get_or word k 0) x (behind_front text q (drop (k + 1) word))) is ∙ met_pair _ p _
 
-      pub front_more : b ≡ get_or front k 0 → Fronting text v front q (k + 1) j
-      unfolding met
-      front_more e = record { same_front = next ∙ rw (is, eq-eqb _ _ e) }
+      pub front_other : (p.0 ≡ get_or word k 0 → ⊥) → None ≡ behind_front text q word at
+      front_other f = sym (here ∙ rw (ne_eqb _ _ f))
+
+      pub front_more : p.0 ≡ get_or word k 0 → Fronting text q word at (k + 1) p.1
+      front_more e = record { same_front = here ∙ rw (eq-eqb _ _ e) }
 
 pub ruleset fronting = (front_start, front_behind, front_ends, front_other, front_more, rules)
+
+pub front_begins : (text : List ℕ) (v : ℕ) (front : List ℕ) {q i : ℕ} → q ≡ get_or text v 0 → i ≡ behind_quote text v → {r : Option ℕ}
+    → r ≡ behind_front text q front i → r ≡ begins_at_lem text v front
+unfolding begins_at_lem
+front_begins text v front e f h = h ∙ rw (e, f)
+
+-- A WHOLE WORD
+same_begun : (w l : List ℕ) → same_bytes (w ++ l) w ≡ same_bytes l []
+unfolding same_bytes
+same_begun [] l = refl
+same_begun (a ∷ w) l = rw (eq-eqb a a refl) (same_begun w l)
+
+same_unbegun : (w l : List ℕ) → begins w l ≡ false → same_bytes l w ≡ false
+unfolding same_bytes begins
+same_unbegun [] l e = clash (cc)
+same_unbegun (a ∷ w) [] e = refl
+same_unbegun (a ∷ w) (b ∷ l) e = go (eqb b a) e (same_unbegun w l)
+  where
+    go : (t : Bool) → (t && begins w l) ≡ false → (begins w l ≡ false → same_bytes l w ≡ false) → (t && same_bytes l w) ≡ false
+    go true z ih = ih z
+    go false z ih = refl
+
+module _ (text : List ℕ) (at q : ℕ) (word : List ℕ) {r : Option ℕ} (e : r ≡ behind_front text q word at) where
+  pub rest_other : r ≡ None → false ≡ same_bytes (tells q (drop at text)) word
+  rest_other z = sym (same_unbegun word (tells q (drop at text)) (behind_not text q word at (sym e ∙ z)))
+
+  module _ {i : ℕ} (z : r ≡ Some i) {c : Option (ℕ × ℕ)} (ec : c ≡ decoded_at text i q) where
+    rest_so : same_bytes (tells q (drop at text)) word ≡ same_bytes (tells q (drop i text)) []
+    rest_so = ap (λ l. same_bytes l word) (behind_is text q word at (sym e ∙ z)) ∙ same_begun word (tells q (drop i text))
+
+    pub rest_ends : {t : Bool} → is_some c ≡ not t → t ≡ same_bytes (tells q (drop at text)) word
+    unfolding same_bytes
+    rest_ends {t} n = go c ec t n ∙ sym rest_so
+      where
+        go : (x : Option (ℕ × ℕ)) → x ≡ decoded_at text i q → (t : Bool) → is_some x ≡ not t → t ≡ same_bytes (tells q (drop i text)) []
+        go None w true n = rw (decoded_end text q i w refl)
+        go None w false n = clash (cc)
+        go (Some (b, j)) w true n = clash (cc)
+        go (Some (b, j)) w false n = rw (decoded_byte text q i w refl).splits
