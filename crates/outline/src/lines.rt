@@ -1,26 +1,45 @@
 // The bytes of lines, put one behind the other where there is room.
+ghost use Rattle.std.specs.Prelude.{◌≤◌};
 
-// A byte at `at`; the place behind it.
-pub fn put(out: &mut [u8], at: usize, b: u8) -> usize {
-    if at < out.len() {
-        out[at] = b;
-        return at + 1;
-    }
-    at
+pub const ROOM: usize = 131072;
+
+#[derive(Drop)]
+pub struct Lines {
+    bytes: [u8; 131072],
+    used: usize,
+    ghost within: { used ≤ 131072 },
 }
 
-// The bytes of the text from one place to another.
-pub fn put_part(out: &mut [u8], at: usize, text: &[u8], from: usize, to: usize) -> usize {
-    let mut n = at;
-    let mut k = from;
-    while k < to {
-        if text.len() <= k {
-            return n;
+impl Lines {
+    pub fn new() -> Lines {
+        Lines {
+            bytes: [0; ROOM],
+            used: 0,
         }
-        n = put(out, n, text[k]);
-        k += 1;
     }
-    n
+
+    pub fn put(&mut self, b: u8) {
+        if self.used < ROOM {
+            self.bytes[self.used] = b;
+            self.used += 1;
+        }
+    }
+
+    pub fn put_all(&mut self, part: &[u8]) {
+        for b in part {
+            self.put(*b);
+        }
+    }
+
+    // A byte in hexadecimal.
+    pub fn put_hex(&mut self, b: u8) {
+        self.put(digit(b / 16));
+        self.put(digit(b % 16));
+    }
+
+    pub fn all(&self) -> &[u8] {
+        &self.bytes[..self.used]
+    }
 }
 
 // The digit of a number below 16.
@@ -28,10 +47,4 @@ fn digit(d: u8) -> u8 {
     let digits = b"0123456789abcdef";
     let k = (d % 16) as usize;
     digits[k]
-}
-
-// A byte in hexadecimal.
-pub fn put_hex(out: &mut [u8], at: usize, b: u8) -> usize {
-    let n = put(out, at, digit(b / 16));
-    put(out, n, digit(b % 16))
 }

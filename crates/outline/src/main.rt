@@ -6,6 +6,7 @@
 ghost use Rattle.std.specs.Prelude.{◌≤◌, length};
 
 use elements::children::root_of;
+use lines::Lines;
 use markup::well_formed;
 use std::io::{Read, Write};
 
@@ -14,14 +15,11 @@ mod lines;
 // The walk over the document.
 mod walk;
 
-// The lines of the text, in the room lent.
-fn lines_of(out: &mut [u8], text: &[u8]) -> usize {
-    if !well_formed(text) {
-        return lines::put_part(out, 0, b"refused 3\n", 0, 10);
-    }
+// The lines of the text.
+fn put_lines(out: &mut Lines, text: &[u8]) {
     match root_of(text) {
-        Some(root) => walk::outlined(out, text, root),
-        None => lines::put_part(out, 0, b"refused 3\n", 0, 10),
+        Some(root) if well_formed(text) => walk::outlined(out, text, root),
+        _ => out.put_all(b"refused 3\n"),
     }
 }
 
@@ -32,40 +30,31 @@ fn read_full<R: Read>(from: &mut R, bytes: &mut [u8]) -> usize
     let mut n = 0;
     while n < bytes.len() {
         match from.read(&mut bytes[n..]) {
-            Ok(more) => {
-                if more == 0 {
-                    return n;
-                }
-                n += more;
-            }
-            Err(_) => {
-                return n;
-            }
+            Ok(0) => return n,
+            Ok(more) => n += more,
+            Err(_) => return n,
         }
     }
     n
 }
 
-fn print<W: Write, E: Write>(to: &mut W, told: &mut E, out: &[u8], size: usize) {
-    if size <= out.len() {
-        if to.write_all(&out[..size]).is_ok() {
-            return;
-        }
+fn print<W: Write, E: Write>(to: &mut W, told: &mut E, out: &[u8]) {
+    if to.write_all(out).is_err() {
+        let _ = told.write_all(b"outline: writing failed\n");
     }
-    let _ = told.write_all(b"outline: writing failed\n");
 }
 
 fn main(rt: HostRuntime) {
     let mut text = [0u8; 32769];
-    let mut out = [0u8; 131072];
+    let mut out = Lines::new();
     let mut from = rt.stdin();
     let mut to = rt.stdout();
     let mut told = rt.stderr();
     let size = read_full(&mut from, &mut text);
     if 32768 < size {
-        print(&mut to, &mut told, b"refused 2\n", 10);
+        print(&mut to, &mut told, b"refused 2\n");
         return;
     }
-    let n = lines_of(&mut out, &text[..size]);
-    print(&mut to, &mut told, &out, n);
+    put_lines(&mut out, &text[..size]);
+    print(&mut to, &mut told, out.all());
 }

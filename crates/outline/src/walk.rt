@@ -1,6 +1,6 @@
 // The lines of a document, in the order of its text. Every turn of a loop passes at least one byte, so there are never more turns than
 // bytes.
-use super::lines::{put, put_hex, put_part};
+use super::lines::Lines;
 use elements::scan::{past_tag, tag_end};
 use heads::attributes::key_at;
 use heads::values::value_end;
@@ -14,211 +14,158 @@ use nodes::scan::Tag;
 use steps::attributes::Key;
 use steps::pieces::Front;
 
-// How far the lines go, where the text goes on, how many elements are open, and whether a run is.
-#[derive(Drop)]
+// Where the text goes on, how many elements are open, and whether a run is.
+#[derive(Clone, Copy)]
 struct State {
-    lines: usize,
     at: usize,
     open: usize,
     run: bool,
 }
 
 // The decoded bytes of the value at `at`.
-fn put_value(out: &mut [u8], from: usize, text: &[u8], at: usize) -> usize {
+fn put_value(out: &mut Lines, text: &[u8], at: usize) {
     if text.len() <= at {
-        return from;
+        return;
     }
     let q = text[at];
-    let mut n = from;
     let mut i = at + 1;
-    let mut turn = 0;
-    while turn < text.len() {
-        turn += 1;
-        match decoded(text, i, q) {
-            Some((b, j)) => {
-                n = put_hex(out, n, b);
-                i = j;
-            }
-            None => {
-                return n;
-            }
-        }
+    for _ in 0..text.len() {
+        let Some((b, j)) = decoded(text, i, q) else {
+            return;
+        };
+        out.put_hex(b);
+        i = j;
     }
-    n
 }
 
 // The line of an attribute: where its name stands, and where its value begins.
-fn put_attribute(
-    out: &mut [u8],
-    from: usize,
-    text: &[u8],
-    first: usize,
-    to: usize,
-    value: usize,
-) -> usize {
-    let n = put(out, from, b'@');
-    let k = put_part(out, n, text, first, to);
-    let m = put(out, k, b' ');
-    let l = put_value(out, m, text, value);
-    put(out, l, b'\n')
+fn put_attribute(out: &mut Lines, text: &[u8], key: Key) {
+    out.put(b'@');
+    out.put_all(text.get(key.from..key.to).unwrap_or(&[]));
+    out.put(b' ');
+    put_value(out, text, key.end);
+    out.put(b'\n');
 }
 
 // A line for each attribute from `at` on.
-fn put_attributes(out: &mut [u8], from: usize, text: &[u8], at: usize) -> usize {
-    let mut n = from;
+fn put_attributes(out: &mut Lines, text: &[u8], at: usize) {
     let mut i = at;
-    let mut turn = 0;
-    while turn < text.len() {
-        turn += 1;
+    for _ in 0..text.len() {
         if tag_ends(text, i) {
-            return n;
+            return;
         }
-        match key_at(text, i) {
-            Some(
-                Key {
-                    from: first,
-                    to,
-                    end,
-                },
-            ) => {
-                n = put_attribute(out, n, text, first, to, end);
-                i = behind(text, end);
-            }
-            None => {
-                return n;
-            }
-        }
-    }
-    n
-}
-
-// The place behind a value.
-fn behind(text: &[u8], at: usize) -> usize {
-    match value_end(text, at) {
-        Some(j) => j,
-        None => text.len(),
+        let Some(key) = key_at(text, i) else {
+            return;
+        };
+        put_attribute(out, text, key);
+        i = value_end(text, key.end).unwrap_or(text.len());
     }
 }
 
 // The lines of the start tag at `at`.
-fn put_start(out: &mut [u8], from: usize, text: &[u8], at: usize) -> usize {
+fn put_start(out: &mut Lines, text: &[u8], at: usize) {
     if text.len() <= at {
-        return from;
+        return;
     }
-    let n = put(out, from, b'<');
-    match name_end(text, at + 1) {
-        Some(j) => {
-            let k = put_part(out, n, text, at + 1, j);
-            let m = put(out, k, b'\n');
-            put_attributes(out, m, text, j)
-        }
-        None => n,
+    out.put(b'<');
+    if let Some(j) = name_end(text, at + 1) {
+        out.put_all(text.get(at + 1..j).unwrap_or(&[]));
+        out.put(b'\n');
+        put_attributes(out, text, j);
     }
-}
-
-// The line of an end.
-fn put_end(out: &mut [u8], from: usize) -> usize {
-    let n = put(out, from, b'>');
-    put(out, n, b'\n')
 }
 
 // A run that is open ends here.
-fn put_stop(out: &mut [u8], from: usize, run: bool) -> usize {
+fn put_stop(out: &mut Lines, run: bool) {
     if run {
-        return put(out, from, b'\n');
+        out.put(b'\n');
     }
-    from
 }
 
-fn made(lines: usize, at: usize, open: usize, run: bool) -> State {
-    State {
-        lines,
+// Over a start tag; the elements that are open are 16 at most.
+fn over_start(out: &mut Lines, text: &[u8], s: State) -> Option<State> {
+    put_stop(out, s.run);
+    put_start(out, text, s.at);
+    let mut open = s.open;
+    let at = match tag_end(text, s.at)? {
+        Tag::Open(j) => {
+            if open < 16 {
+                open += 1;
+            }
+            j
+        }
+        Tag::Bare(j) => {
+            out.put_all(b">\n");
+            j
+        }
+    };
+    Some(State {
         at,
         open,
-        run,
-    }
-}
-
-// Over a start tag: one that leaves its element open, or none.
-fn over_start(out: &mut [u8], text: &[u8], s: State) -> State {
-    let first = put_stop(out, s.lines, s.run);
-    let n = put_start(out, first, text, s.at);
-    match tag_end(text, s.at) {
-        Tag::Open(j) => made(n, j, more(s.open), false),
-        Tag::Bare(j) => made(put_end(out, n), j, s.open, false),
-        Tag::No => made(n, text.len(), 0, false),
-    }
-}
-
-// One open element more; at most 16 are.
-fn more(open: usize) -> usize {
-    if open < 16 {
-        return open + 1;
-    }
-    open
+        run: false,
+    })
 }
 
 // Over an end tag.
-fn over_end(out: &mut [u8], text: &[u8], s: State) -> State {
-    let first = put_stop(out, s.lines, s.run);
-    let n = put_end(out, first);
-    match past_tag(text, s.at) {
-        Some(j) => made(n, j, fewer(s.open), false),
-        None => made(n, text.len(), 0, false),
-    }
+fn over_end(out: &mut Lines, text: &[u8], s: State) -> Option<State> {
+    put_stop(out, s.run);
+    out.put_all(b">\n");
+    Some(State {
+        at: past_tag(text, s.at)?,
+        open: s.open.saturating_sub(1),
+        run: false,
+    })
 }
 
-fn fewer(open: usize) -> usize {
-    if 0 < open {
-        return open - 1;
-    }
-    open
-}
-
-// Over a character, a comment or a mark of CDATA.
-fn over_text(out: &mut [u8], text: &[u8], s: State) -> State {
+// Over a character, a comment or a mark of CDATA; a run begins where none is open.
+fn over_text(out: &mut Lines, text: &[u8], s: State) -> Option<State> {
     match text_at(text, s.at) {
         Text::Letter(b, j) => {
-            let first = put_run(out, s.lines, s.run);
-            made(put_hex(out, first, b), j, s.open, true)
+            if !s.run {
+                out.put(b'#');
+            }
+            out.put_hex(b);
+            Some(State {
+                at: j,
+                open: s.open,
+                run: true,
+            })
         }
-        Text::Skip(j) => made(s.lines, j, s.open, s.run),
-        Text::Stop => made(s.lines, text.len(), 0, false),
+        Text::Skip(j) => Some(State {
+            at: j,
+            open: s.open,
+            run: s.run,
+        }),
+        Text::Stop => None,
     }
-}
-
-// A run begins here, where none is open.
-fn put_run(out: &mut [u8], from: usize, run: bool) -> usize {
-    if run {
-        return from;
-    }
-    put(out, from, b'#')
 }
 
 // Over what stands next. A place behind the end of the text is within CDATA.
-fn over(out: &mut [u8], text: &[u8], s: State) -> State {
+fn over(out: &mut Lines, text: &[u8], s: State) -> Option<State> {
     if text.len() < s.at {
         return over_text(out, text, s);
     }
     match front_at(text, s.at) {
         Front::Start => over_start(out, text, s),
         Front::Close => over_end(out, text, s),
-        Front::Comment => over_text(out, text, s),
-        Front::Data => over_text(out, text, s),
-        Front::Text => over_text(out, text, s),
+        Front::Comment | Front::Data | Front::Text => over_text(out, text, s),
     }
 }
 
-// The lines of the element at `root`: how many bytes they have.
-pub fn outlined(out: &mut [u8], text: &[u8], root: usize) -> usize {
-    let mut s = over(out, text, made(0, root, 0, false));
-    let mut turn = 0;
-    while turn < text.len() {
-        turn += 1;
-        if s.open == 0 {
-            return s.lines;
+// The lines of the element at `root`.
+pub fn outlined(out: &mut Lines, text: &[u8], root: usize) {
+    let mut s = State {
+        at: root,
+        open: 0,
+        run: false,
+    };
+    for _ in 0..text.len() {
+        match over(out, text, s) {
+            Some(next) => s = next,
+            None => return,
         }
-        s = over(out, text, s);
+        if s.open == 0 {
+            return;
+        }
     }
-    s.lines
 }
