@@ -34,6 +34,7 @@ fn blank_data_end(text: &[u8], at: usize) -> Option<usize>
 }
 
 // CDATA in a gap: with `words` any, else such that holds blanks alone.
+#[tactic(auto, using(nodes::proofs::Laws::BlankData::gap_blank, nodes::proofs::Laws::BlankData::gap_marked))]
 fn gap_data_end(text: &[u8], at: usize, words: bool) -> Option<usize>
     ensures { result ≡ stepped (length text.now) (gap_data words (data_at_lem (drop at text.now))) }
 {

@@ -37,6 +37,7 @@ pub fn next_child(text: &[u8], at: usize) -> Option<usize>
 }
 
 // The root of the text: the element behind all that stands before it.
+#[tactic(auto, using(nodes::proofs::Laws::Children::rooting))]
 pub fn root_of(text: &[u8]) -> Option<usize>
     ensures { result ≡ root text.now }
 {

@@ -50,6 +50,7 @@ pub fn past_tag(text: &[u8], at: usize) -> Option<usize>
     None
 }
 
+#[tactic(auto, using(crate::proofs::Laws::Tags::byte_turns))]
 fn ends_tag(b: u8) -> bool
     ensures { result ≡ closing b }
 {
@@ -57,6 +58,7 @@ fn ends_tag(b: u8) -> bool
 }
 
 // Whether a tag turns at the byte, outside of quotes.
+#[tactic(auto, using(crate::proofs::Laws::Tags::byte_turns))]
 fn turns_tag(b: u8) -> bool
     ensures { result ≡ turns 0 b }
 {
@@ -64,6 +66,7 @@ fn turns_tag(b: u8) -> bool
 }
 
 // Behind a tag that ends with the byte at `at`.
+#[tactic(auto, using(nodes::proofs::Laws::Scan::finishing))]
 fn finish_at(text: &[u8], at: usize) -> Option<Tag>
     requires { at < length text.now }
     ensures { result ≡ tag_told (length text.now)
@@ -99,6 +102,7 @@ fn near_sign(text: &[u8], at: usize) -> usize
 }
 
 // Where the tag turns that goes on at `at` outside of quotes, or the end of the text: by bytes.
+#[tactic(auto, using(crate::proofs::Laws::Tags::signs_on))]
 fn far_sign(text: &[u8], at: usize) -> usize
     ensures { Turning text.now 0 at result }
 {
@@ -125,6 +129,7 @@ fn to_sign(text: &[u8], at: usize) -> usize
 }
 
 // How many of sixteen bytes pass, in a value: most values end within them, and a fixed count is quick.
+// A twin of `near_sign`: one function for both would take the test as a closure, and clauses that say what it answers.
 fn near_quote(text: &[u8], at: usize, q: u8) -> usize
     requires { (q ≡ 0 → ⊥) × (at + 16 ≤ length text.now) }
     ensures { Nearby text.now q at result }
@@ -138,6 +143,7 @@ fn near_quote(text: &[u8], at: usize, q: u8) -> usize
 }
 
 // Where the quote stands that ends the value at `at`, or the end of the text: by blocks, then by bytes.
+#[tactic(auto, using(crate::proofs::Laws::Tags::values_on))]
 fn far_quote(text: &[u8], at: usize, q: u8) -> usize
     requires { q ≡ 0 → ⊥ }
     ensures { Turning text.now q at result }

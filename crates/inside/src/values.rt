@@ -76,10 +76,7 @@ pub fn rest_is(text: &[u8], at: usize, quote: u8, word: &[u8]) -> bool
 pub fn quote_at(text: &[u8], v: usize) -> u8
     ensures { result ≡ get_or text.now v 0 }
 {
-    if text.len() <= v {
-        return 0;
-    }
-    text[v]
+    text.get(v).copied().unwrap_or(0)
 }
 
 // The place behind the quote of the value at `v`.

@@ -3,6 +3,7 @@
 #![tactic(auto)]
 
 // A step over the text of an element: a decoded byte, what is passed over, or the end.
+// `Stop` is a variant, and no None: the crates above are handed this type, and match all three together.
 #[derive(Clone, Copy)]
 pub enum Text {
     Letter(u8, usize),

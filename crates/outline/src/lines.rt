@@ -1,13 +1,13 @@
 // The bytes of lines, put one behind the other where there is room.
-ghost use Rattle.std.specs.Prelude.{◌≤◌};
+ghost use Rattle.std.specs.Prelude.{◌≤◌, length};
 
 pub const ROOM: usize = 131072;
 
 #[derive(Drop)]
 pub struct Lines {
-    bytes: [u8; 131072],
+    bytes: [u8; ROOM],
     used: usize,
-    ghost within: { used ≤ 131072 },
+    ghost within: { used ≤ length bytes },
 }
 
 impl Lines {
