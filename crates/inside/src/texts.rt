@@ -87,6 +87,7 @@ fn within_at(text: &[u8], at: usize) -> Text
 }
 
 // What stands at a place in the text of an element: up to the text's length a byte outside of CDATA, beyond it one within.
+#[tactic(auto, using(nodes::proofs::Laws::Texts::placing))]
 pub fn text_at(text: &[u8], at: usize) -> Text
     ensures { result ≡ text_step text.now at }
 {

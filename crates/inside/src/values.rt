@@ -80,6 +80,7 @@ pub fn quote_at(text: &[u8], v: usize) -> u8
 }
 
 // The place behind the quote of the value at `v`.
+#[tactic(auto, using(nodes::proofs::Laws::Fronts::valued))]
 fn behind_quote(text: &[u8], v: usize) -> usize
     ensures { result ≡ behind_quote text.now v }
 {
@@ -97,6 +98,7 @@ pub fn begins(text: &[u8], v: usize, front: &[u8]) -> Option<usize>
 }
 
 // The value that begins at `v`, with its quote, is the word.
+#[tactic(auto, using(nodes::proofs::Laws::Fronts::valued))]
 pub fn value_is(text: &[u8], v: usize, word: &[u8]) -> bool
     ensures { result ≡ same_bytes (value_there text.now v) word.now }
 {
@@ -104,6 +106,7 @@ pub fn value_is(text: &[u8], v: usize, word: &[u8]) -> bool
 }
 
 // The value of the attribute with the name, nothing where it is missing, is the word.
+#[tactic(auto, using(nodes::proofs::Laws::Values::having))]
 pub fn attribute_is(text: &[u8], at: usize, name: &[u8], word: &[u8]) -> bool
     ensures { result ≡ same_bytes (value_at_name text.now at name.now) word.now }
 {
