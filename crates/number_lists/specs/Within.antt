@@ -13,6 +13,11 @@ pub record Past (text : List ℕ) (at i : ℕ) : Type 0 where
   pub inside : i ≤ length text
   pub same : next_number text (in_data text at) ≡ next_number text (in_data text i)
 
+-- blanks were passed, be it outside of CDATA or inside
+pub record Blanks (text : List ℕ) (at i : ℕ) : Type 0 where
+  pub outside : next_number text at ≡ next_number text i
+  pub within : at ≤ length text → Past text at i
+
 -- the plain digits at byte `at` are read from there, be it outside of CDATA or inside
 pub record Digits (text : List ℕ) (at stop : ℕ) (run : Run) : Type 0 where
   pub outside : Plain text at stop run

@@ -13,10 +13,11 @@ use nodes::Text;
 use numbers::{Run, Source};
 
 // A byte that may read as something else than itself.
+#[tactic(auto, unfolding(crate::specs::Letters::odd, grammar::specs::Bytes::special))]
 fn is_odd(b: u8) -> bool
     ensures { result ≡ odd b }
 {
-    ((b == b'<') | (b == b'&')) | (b == b'\r')
+    matches!(b, b'<' | b'&' | b'\r')
 }
 
 // The next decoded byte of a text: comments and children are passed over.
@@ -44,14 +45,10 @@ fn any_letter(text: &[u8], at: usize) -> Option<(u8, usize)>
 pub fn letter(text: &[u8], at: usize) -> Option<(u8, usize)>
     ensures { result ≡ letter_at text.now at }
 {
-    if text.len() <= at {
-        return any_letter(text, at);
+    match text.get(at) {
+        Some(&b) if !is_odd(b) => Some((b, at + 1)),
+        _ => any_letter(text, at),
     }
-    let b = text[at];
-    if is_odd(b) {
-        return any_letter(text, at);
-    }
-    Some((b, at + 1))
 }
 
 // The next decoded byte.
@@ -65,17 +62,12 @@ pub fn char_at(text: &[u8], at: usize, source: Source) -> Option<(u8, usize)>
     }
 }
 
-pub fn wide(b: u8) -> u64
-    ensures { result ≡ b }
-{
-    b as u64
-}
-
 // A digit that reads as itself in a value between two quotes.
+#[tactic(auto, unfolding(crate::specs::Digits::plain_digit, numbers::specs::Numbers::digit, grammar::specs::Bytes::between))]
 fn is_plain_digit(b: u8, quote: u8) -> bool
     ensures { result ≡ plain_digit quote b }
 {
-    ((b'0' <= b) & (b <= b'9')) & !(b == quote)
+    b.is_ascii_digit() && b != quote
 }
 
 // The plain digits at `at` in a value, as far as they go.
@@ -84,31 +76,25 @@ fn plain_digits(text: &[u8], at: usize, quote: u8, most: u64, before: u64) -> Ru
     ensures { Running (Value quote) text.now most before at result.value result.count result.next }
 {
     let mut n = before;
-    let mut k: u64 = 0;
     let mut i = at;
-    while k < most {
-        if text.len() <= i {
-            return Run {
-                value: n,
-                count: k,
-                next: i,
-            };
+    for k in 0..most {
+        match text.get(i) {
+            Some(&b) if is_plain_digit(b, quote) => {
+                n = n * 10 + u64::from(b - b'0');
+                i += 1;
+            }
+            _ => {
+                return Run {
+                    value: n,
+                    count: k,
+                    next: i,
+                };
+            }
         }
-        let b = text[i];
-        if !is_plain_digit(b, quote) {
-            return Run {
-                value: n,
-                count: k,
-                next: i,
-            };
-        }
-        n = n * 10 + wide(b - b'0');
-        k += 1;
-        i += 1;
     }
     Run {
         value: n,
-        count: k,
+        count: most,
         next: i,
     }
 }
@@ -135,30 +121,14 @@ pub fn digits(text: &[u8], at: usize, source: Source, most: u64, before: u64) ->
 {
     let first = first_digits(text, at, source, most, before);
     let mut n = first.value;
-    let mut k = first.count;
     let mut i = first.next;
-    while k < most {
+    for k in first.count..most {
         match char_at(text, i, source) {
-            Some((b, j)) => {
-                if b < b'0' {
-                    return Run {
-                        value: n,
-                        count: k,
-                        next: i,
-                    };
-                }
-                if b'9' < b {
-                    return Run {
-                        value: n,
-                        count: k,
-                        next: i,
-                    };
-                }
-                n = n * 10 + wide(b - b'0');
-                k += 1;
+            Some((b, j)) if b.is_ascii_digit() => {
+                n = n * 10 + u64::from(b - b'0');
                 i = j;
             }
-            None => {
+            _ => {
                 return Run {
                     value: n,
                     count: k,
@@ -169,7 +139,7 @@ pub fn digits(text: &[u8], at: usize, source: Source, most: u64, before: u64) ->
     }
     Run {
         value: n,
-        count: k,
+        count: most,
         next: i,
     }
 }
@@ -192,13 +162,10 @@ pub fn blanks(text: &[u8], at: usize) -> usize
     let mut i = at;
     loop {
         match letter(text, i) {
-            Some((b, j)) => {
-                if !letters::classes::is_blank(b) {
-                    return i;
-                }
+            Some((b, j)) if letters::classes::is_blank(b) => {
                 i = j;
             }
-            None => {
+            _ => {
                 return i;
             }
         }

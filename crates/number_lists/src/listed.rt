@@ -4,38 +4,30 @@ ghost use Rattle.grammar.specs.Bytes.{blank};
 ghost use Rattle.numbers.specs.Stream.{digits_at, Few, Stops, DigitsBegun, EightLeft, run_of};
 ghost use Rattle.numbers.specs.declared.Source.TheVariants.{Contents};
 ghost use Rattle.numbers.specs.Answers.{next_number};
-ghost use Rattle.number_lists.specs.Within.{Digits};
+ghost use Rattle.number_lists.specs.Within.{Blanks, Digits};
 
-use super::chars::{blanks, digits, letter, wide, word_ends};
+use super::chars::{blanks, digits, letter, word_ends};
 use super::within::late_number;
 use numbers::{Next, Run, Source};
 
 // The place behind the plain blanks at `at`, those that stand in the text as they are; none from `last` on is looked at.
-fn plain_blanks(text: &[u8], at: usize, last: usize) -> usize
+pub(crate) fn plain_blanks(text: &[u8], at: usize, last: usize) -> usize
     requires { last ≤ length text.now }
-    ensures { next_number text.now at ≡ next_number text.now result }
+    ensures { Blanks text.now at result }
 {
-    let mut i = at;
-    while i < last {
+    for i in at..last {
         if !letters::classes::is_blank(text[i]) {
             return i;
         }
-        i += 1;
     }
-    i
+    at.max(last)
 }
 
 // The place behind seven bytes from `at` on, nearer where the text ends.
 pub(crate) fn seven_on(text: &[u8], at: usize) -> usize
     ensures { Stops text.now at result }
 {
-    if text.len() <= at {
-        return at;
-    }
-    if text.len() - at < 7 {
-        return text.len();
-    }
-    at + 7
+    at.saturating_add(7).min(text.len())
 }
 
 // The plain digits at `at`, up to `stop`.
@@ -44,19 +36,14 @@ pub(crate) fn plain_digits(text: &[u8], at: usize, stop: usize) -> Run
     ensures { Digits text.now at stop result }
 {
     let mut n: u64 = 0;
-    let mut i = at;
-    while i < stop {
+    for i in at..stop {
         let b = text[i];
-        if b < b'0' {
+        if !b.is_ascii_digit() {
             return run_of(n, at, i);
         }
-        if b'9' < b {
-            return run_of(n, at, i);
-        }
-        n = n * 10 + wide(b - b'0');
-        i += 1;
+        n = n * 10 + u64::from(b - b'0');
     }
-    run_of(n, at, i)
+    run_of(n, at, at.max(stop))
 }
 
 pub(crate) fn run_of(n: u64, at: usize, next: usize) -> Run
@@ -75,8 +62,7 @@ fn ends_plain(text: &[u8], run: Run) -> bool
     requires { run.next < length text.now }
     ensures { result ≡ blank (get_or text.now run.next 0) }
 {
-    let j = run.next;
-    letters::classes::is_blank(text[j])
+    letters::classes::is_blank(text[run.next])
 }
 
 // The digits that were read and those behind them, whatever stands between; 7 in all.
@@ -99,14 +85,10 @@ fn number_from(text: &[u8], at: usize, value: u64, next: usize) -> Next
 {
     let run = all_digits(text, run_of(value, at, next));
     if run.count == 0 {
-        match letter(text, run.next) {
-            Some((_, _)) => {
-                return Next::Bad;
-            }
-            None => {
-                return Next::End;
-            }
-        }
+        return match letter(text, run.next) {
+            Some(_) => Next::Bad,
+            None => Next::End,
+        };
     }
     if word_ends(text, run.next, Source::Contents) {
         return Next::Number(run.value, run.next);
@@ -127,10 +109,7 @@ pub(crate) fn number_at(text: &[u8], at: usize) -> Next
 pub(crate) fn eight_left(text: &[u8]) -> usize
     ensures { EightLeft text.now result }
 {
-    if text.len() < 8 {
-        return 0;
-    }
-    text.len() - 8
+    text.len().saturating_sub(8)
 }
 
 // The next number, whatever stands before it or in it: plain bytes first.

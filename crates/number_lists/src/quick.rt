@@ -4,7 +4,6 @@ ghost use Rattle.numbers.specs.Stream.{Few};
 ghost use Rattle.numbers.specs.Quick.{space_or_feed, FromZero, SixAhead, Six, Quick};
 ghost use Rattle.numbers.specs.Answers.{next_number};
 
-use super::chars::wide;
 use super::listed::{any_number, eight_left, run_of};
 use numbers::{Next, Run};
 
@@ -12,7 +11,7 @@ use numbers::{Next, Run};
 fn from_zero(b: u8) -> u64
     ensures { FromZero b result }
 {
-    (wide(b) + 208) % 256
+    (u64::from(b) + 208) % 256
 }
 
 // The plain digits at `at`, six at most. The loop counts to six, so that it is unrolled.
@@ -21,16 +20,14 @@ fn six_digits(text: &[u8], at: usize) -> Run
     ensures { Six text.now at result }
 {
     let mut n: u64 = 0;
-    let mut k: usize = 0;
-    while k < 6 {
+    for k in 0..6 {
         let d = from_zero(text[at + k]);
         if 9 < d {
             return run_of(n, at, at + k);
         }
         n = n * 10 + d;
-        k += 1;
     }
-    run_of(n, at, at + k)
+    run_of(n, at, at + 6)
 }
 
 // A space or a line feed, the blanks that stand between most numbers; the space is a branch of its own.
@@ -56,21 +53,14 @@ fn packed(run: Run) -> u64
 pub fn quick_number(text: &[u8], at: usize) -> u64
     ensures { Quick text.now at result }
 {
-    if eight_left(text) <= at {
-        return 0;
-    }
-    if !is_space_or_feed(text[at]) {
+    if eight_left(text) <= at || !is_space_or_feed(text[at]) {
         return 0;
     }
     let run = six_digits(text, at + 1);
-    if run.count == 0 {
+    if run.count == 0 || !is_space_or_feed(text[run.next]) {
         return 0;
     }
-    let next = run.next;
-    if is_space_or_feed(text[next]) {
-        return packed(run);
-    }
-    0
+    packed(run)
 }
 
 // The next number of the list in a text, from `at` on.

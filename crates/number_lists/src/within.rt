@@ -2,36 +2,20 @@
 ghost use Rattle.std.specs.Prelude.{◌≡◌, ◌≤◌, length, get_or};
 ghost use Rattle.grammar.specs.Bytes.{blank};
 ghost use Rattle.numbers.specs.Answers.{next_number};
-ghost use Rattle.number_lists.specs.Within.{in_data, Past};
+ghost use Rattle.number_lists.specs.Within.{in_data};
 
-use super::listed::{number_at, plain_digits, seven_on};
+use super::listed::{number_at, plain_blanks, plain_digits, seven_on};
 use numbers::Next;
-
-// The byte behind the blanks that stand at byte `at` inside CDATA.
-#[tactic(auto, using(crate::proofs::Laws::Within::passing_within))]
-fn blanks_within(text: &[u8], at: usize) -> usize
-    requires { at ≤ length text.now }
-    ensures { Past text.now at result }
-{
-    let mut i = at;
-    while i < text.len() {
-        if !letters::classes::is_blank(text[i]) {
-            return i;
-        }
-        i += 1;
-    }
-    i
-}
 
 // Byte `at` is a blank; behind the text there is none.
 #[tactic(auto, using(crate::proofs::Laws::Within::looking))]
 fn blank_byte(text: &[u8], at: usize) -> bool
     ensures { result ≡ blank (get_or text.now at 0) }
 {
-    if text.len() <= at {
-        return false;
+    match text.get(at) {
+        Some(&b) => letters::classes::is_blank(b),
+        None => false,
     }
-    letters::classes::is_blank(text[at])
 }
 
 // The next number from byte `at` inside CDATA on.
@@ -39,7 +23,7 @@ fn number_within(text: &[u8], at: usize) -> Next
     requires { at ≤ length text.now }
     ensures { result ≡ next_number text.now (in_data text.now at) }
 {
-    let i = blanks_within(text, at);
+    let i = plain_blanks(text, at, text.len());
     let run = plain_digits(text, i, seven_on(text, i));
     if run.count == 0 {
         return number_at(text, text.len() + 1 + i);
@@ -54,12 +38,8 @@ fn number_within(text: &[u8], at: usize) -> Next
 pub(crate) fn late_number(text: &[u8], at: usize) -> Next
     ensures { result ≡ next_number text.now at }
 {
-    if at <= text.len() {
-        return number_at(text, at);
+    match at.checked_sub(text.len() + 1) {
+        Some(i) if i <= text.len() => number_within(text, i),
+        _ => number_at(text, at),
     }
-    let i = at - (text.len() + 1);
-    if text.len() < i {
-        return number_at(text, at);
-    }
-    number_within(text, i)
 }

@@ -31,13 +31,13 @@ module _ (q b : ℕ) (yes : plain_digit q b ≡ true) where
       let n : not (eqb b q) ≡ true = and_right (digit b) (not (eqb b q)) yes in
       let t : not (eqb b q) ≡ false = ap not (eq-eqb b q e) in clash (cc)
 
-pub digit_least : (q b : ℕ) {t : Bool} → t ≡ plain_digit q b → not t ≡ false → 48 ≤ b
-digit_least q b {t} e h = plain_from q b (sym e ∙ not-false t h)
+pub digit_least : (q b : ℕ) {t : Bool} → t ≡ plain_digit q b → t ≡ true → 48 ≤ b
+digit_least q b e h = plain_from q b (sym e ∙ h)
 
 module _ {q : ℕ} {text : List ℕ} {most before at n k i : ℕ} (go : Running (Value q) text most before at n k i) (left : k < most)
-    (inside : i < length text) {b : ℕ} (is_byte_lem : b ≡ get_or text i 0) {t : Bool} (e : t ≡ plain_digit q b) (is_plain : not t ≡ false) where
+    (inside : i < length text) {b : ℕ} (is_byte_lem : b ≡ get_or text i 0) {t : Bool} (e : t ≡ plain_digit q b) (is_plain : t ≡ true) where
   plain_here : plain_digit q b ≡ true
-  plain_here = sym e ∙ not-false t is_plain
+  plain_here = sym e ∙ is_plain
 
   here : plain_digit q (get_or text i 0) ≡ true
   here = ap (plain_digit q) (sym is_byte_lem) ∙ plain_here

@@ -7,8 +7,9 @@ use Prim.Native.Nat.{ℕ, zero, suc, ◌+◌, ◌*◌, ◌-◌, ◌^◌, ◌≤�
 use native.Mathlib.Omega.{arith}
 use borrow.Author.Tests.{eqb-true, eqb-false, leb-true, leb-false, not-false}
 use Rattle.std.proofs.Math.Dec.{eqb, leb}
+use Rattle.std.specs.Char.{is_ascii_digit}
 use Rattle.std.proofs.Math.ListN.{length, get_or, get_or-eq_default}
-use Rattle.lists.proofs.Laws.Booleans.{clash}
+use Rattle.lists.proofs.Laws.Booleans.{and_left, and_right, clash}
 use Rattle.grammar.specs.Bytes.{ascii, blank}
 use Rattle.grammar.proofs.Laws.Facts.{blank_in}
 use Rattle.grammar.specs.Parser.{feed_at}
@@ -20,6 +21,7 @@ use Rattle.numbers.specs.Stream.{char_at, stream, word_ends, digits_by, digits_a
 use Rattle.numbers.specs.Answers.{next_number}
 use Rattle.numbers.proofs.Laws.Stream.{letter_byte, char_byte, run_suc}
 use Rattle.numbers.proofs.Laws.Listed.{BlankAt, next_blank, next_number_lem}
+use Rattle.numbers.proofs.Laws.Listed.{byte_passed as outside_passed}
 use Rattle.numbers.proofs.Laws.Read.{digit_yes, digit_low}
 use Rattle.numbers.proofs.Laws.Next.{Digging, digging_start, digging_done, hurrying, starting}
 use Rattle.numbers.proofs.Laws.Next.{Walking, walking_start, walking_from, walking_done, walking_inside, walking_times, walking_room}
@@ -28,7 +30,7 @@ use Rattle.numbers.specs.declared.Source.TheVariants.{Contents}
 use Rattle.numbers.specs.declared.Run.{Run}
 use Rattle.numbers.specs.declared.Next.{Next}
 use Rattle.numbers.specs.declared.Next.TheVariants.{Number}
-use Rattle.number_lists.specs.Within.{in_data, Past, Digits}
+use Rattle.number_lists.specs.Within.{in_data, Past, Blanks, Digits}
 
 -- a byte inside CDATA
 module _ (text : List ℕ) (i : ℕ) (h : i < length text) where
@@ -103,20 +105,43 @@ module _ (text : List ℕ) (i : ℕ) (h : i < length text) where
       go false e = plain_passed text i h b (eqb-false _ 13 e)
 
 -- blanks
-pub past_start : {text : List ℕ} {at : ℕ} → at ≤ length text → Past text at at
-past_start h = record { inside = h; same = refl }
+pub blanks_start : {text : List ℕ} {at : ℕ} → Blanks text at at
+blanks_start = record { outside = refl; within = λ h. record { inside = h; same = refl } }
 
-pub past_on : {text : List ℕ} {at i : ℕ} → Past text at i → i < length text → {t : Bool} → t ≡ blank (get_or text i 0) → not t ≡ false
-    → Past text at (i + 1)
-past_on {text} {at} {i} go h {t} e n = record { inside = omega arith; same = go.same ∙ byte_passed text i h (sym e ∙ not-false t n) }
+module _ {text : List ℕ} {at i : ℕ} (go : Blanks text at i) where
+  pub blanks_on : {last : ℕ} → last ≤ length text → i < last → {t : Bool} → t ≡ blank (get_or text i 0) → t ≡ true → Blanks text at (i + 1)
+  blanks_on l h e y =
+      let f : i < length text = omega arith in
+      let b : blank (get_or text i 0) ≡ true = sym e ∙ y in
+      record {
+        outside = go.outside ∙ outside_passed text i f b;
+        within = λ a. record { inside = omega arith; same = (go.within a).same ∙ byte_passed text i f b };
+      }
 
-pub ruleset passing_within = (past_start, past_on, rules)
+  pub blanks_end : {j : ℕ} → i ≡ j → Blanks text at j
+  blanks_end e = rw e at go
+
+  pub blanks_outside : next_number text at ≡ next_number text i
+  blanks_outside = go.outside
+
+  pub blanks_past : at ≤ length text → Past text at i
+  blanks_past h = go.within h
+
+pub ruleset passing_blanks = (blanks_start, blanks_on, blanks_end, rules)
 
 pub none_past : (text : List ℕ) (at : ℕ) → length text ≤ at → false ≡ blank (get_or text at 0)
 unfolding blank
 none_past text at h = rw (get_or-eq_default text 0 h) refl
 
 pub ruleset looking = (none_past, rules)
+
+-- a byte that is a digit
+module _ {b : ℕ} {t : Bool} (e : t ≡ is_ascii_digit b) (yes : t ≡ true) where
+  pub ascii_from : 48 ≤ b
+  ascii_from = leb-true 48 b (and_left (leb 48 b) (leb b 57) (sym e ∙ yes))
+
+  pub ascii_to : b ≤ 57
+  ascii_to = leb-true b 57 (and_right (leb 48 b) (leb b 57) (sym e ∙ yes))
 
 -- digits
 pub record Reading (text : List ℕ) (at stop n i : ℕ) : Type 0 where
@@ -174,7 +199,7 @@ module _ {text : List ℕ} {at stop n i : ℕ} (go : Reading text at stop n i) w
 pub digits_plain : {text : List ℕ} {at stop : ℕ} {run : Run} → Digits text at stop run → Plain text at stop run
 digits_plain d = d.outside
 
-pub ruleset reading = (reading_start, reading_from, reading_done, reading_inside, reading_times, reading_room, reading_on, rules)
+pub ruleset reading = (ascii_from, ascii_to, reading_start, reading_from, reading_done, reading_inside, reading_times, reading_room, reading_on, rules)
 
 pub ruleset starting_on = (digits_plain, starting)
 
@@ -226,7 +251,7 @@ pub within_slow : {text : List ℕ} {at i : ℕ} → Past text at i → {r : Nex
     → r ≡ next_number text (in_data text at)
 within_slow p e = e ∙ sym p.same
 
-pub ruleset taking = (behind_fits, within_number, past_inside, within_slow, rules)
+pub ruleset taking = (blanks_past, behind_fits, within_number, past_inside, within_slow, rules)
 
 -- by the place
 pub late_within : (text : List ℕ) (at : ℕ) → length text < at → {i : ℕ} → i ≡ at - (length text + 1) → {r : Next}

@@ -265,10 +265,10 @@ module _ {text : List ℕ} {at value next : ℕ} (b : DigitsBegun text at value 
       pub slow_end : c ≡ None → End ≡ next_number text at
       slow_end e = sym (next_end text at (nothing_read ∙ char_end Contents text run.next from e))
 
-      pub slow_other : {d j : ℕ} → c ≡ Some (d, j) → Bad ≡ next_number text at
-      slow_other {d} {j} e =
+      pub slow_other : {p : ℕ × ℕ} → c ≡ Some p → Bad ≡ next_number text at
+      slow_other {p} e =
           let s = (char_byte Contents text run.next from e).splits in
-          sym (next_bad text at er s (no_blank d (stream Contents text j) (nothing_read ∙ s)))
+          sym (next_bad text at er s (no_blank p.0 (stream Contents text p.1) (nothing_read ∙ s)))
 
 pub ruleset taking_time = (from_ahead, from_few, slow_number, slow_bad, slow_end, slow_other, rules)
 

@@ -4,7 +4,9 @@ use Rattle.std.proofs.Math.Path.{sym}
 use Rattle.std.proofs.Common.{◌∙◌, rules}
 use Rattle.std.proofs.Math.Bool.{and-false}
 use native.Mathlib.Omega.{arith}
-use borrow.Author.Tests.{le-leb, lt-leb, not-true, not-false}
+use borrow.Author.Tests.{le-leb, lt-leb, leb-true, not-true, not-false}
+use Rattle.std.specs.Char.{is_ascii_digit}
+use Rattle.lists.proofs.Laws.Booleans.{and_left, and_right}
 use Rattle.grammar.specs.Bytes.{blank}
 use Rattle.nodes.specs.Texts.{left, text_step}
 use Rattle.nodes.proofs.Laws.TextSteps.{text_skip}
@@ -81,9 +83,12 @@ running_start {source} {text} {most} {before} {at} h =
     record { few = omega arith; top = h.0; bound = rw e h.1; same = rw f refl }
 
 module _ {source : Source} {text : List ℕ} {most before at n k i : ℕ} (go : Running source text most before at n k i) where
-  pub running_full : most ≤ k → record { value = n; count = k; next = i } ≡ digits_at source text most before 0 at
+  pub running_full : most ≤ k → record { value = n; count = most; next = i } ≡ digits_at source text most before 0 at
   unfolding digits_at
-  running_full h = let e : most - k ≡ 0 = omega arith in sym (go.same ∙ rw e refl)
+  running_full h =
+      let e : most - k ≡ 0 = omega arith in
+      let f : k ≡ most = omega (arith, go.few) in
+      sym (go.same ∙ rw (e, f) refl)
 
   module _ (left : k < most) where
     small : n < 100000000000000
@@ -107,11 +112,10 @@ module _ {source : Source} {text : List ℕ} {most before at n k i : ℕ} (go : 
       unfolding digits_by
       other d = sym (turn ∙ rw (q, d) refl)
 
-      pub running_low : b < 48 → record { value = n; count = k; next = i } ≡ digits_at source text most before 0 at
-      running_low h = other (digit_low b h)
-
-      pub running_high : 57 < b → record { value = n; count = k; next = i } ≡ digits_at source text most before 0 at
-      running_high h = other (digit_high b h)
+      pub running_not : {t : Bool} → t ≡ is_ascii_digit b → t ≡ false
+          → record { value = n; count = k; next = i } ≡ digits_at source text most before 0 at
+      unfolding digit
+      running_not et f = other (sym et ∙ f)
 
       module _ (lo : 48 ≤ b) (hi : b ≤ 57) {d : ℕ} (is : d ≡ b - 48) where
         pub running_room : n * 10 + d < 2 ^ 64
@@ -128,7 +132,20 @@ module _ {source : Source} {text : List ℕ} {most before at n k i : ℕ} (go : 
               same = turn ∙ rw (q, digit_yes b lo hi, is) refl;
             }
 
-pub ruleset running = (running_start, running_full, running_end, running_low, running_high, running_times, running_room, running_on, rules)
+      module _ {t : Bool} (et : t ≡ is_ascii_digit b) (yes : t ≡ true) {d : ℕ} (is : d ≡ b - 48) where
+        low : 48 ≤ b
+        low = leb-true 48 b (and_left (leb 48 b) (leb b 57) (sym et ∙ yes))
+
+        high : b ≤ 57
+        high = leb-true b 57 (and_right (leb 48 b) (leb b 57) (sym et ∙ yes))
+
+        pub running_fits : n * 10 + d < 2 ^ 64
+        running_fits = running_room low high is
+
+        pub running_next : Running source text most before at (n * 10 + d) (k + 1) j
+        running_next = running_on low high is
+
+pub ruleset running = (running_start, running_full, running_end, running_not, running_times, running_fits, running_next, rules)
 
 -- blanks
 pub record Passing (text : List ℕ) (at i : ℕ) : Type 0 where

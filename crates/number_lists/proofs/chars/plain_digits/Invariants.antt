@@ -1,10 +1,6 @@
-use Prim.Native.Nat.{◌-◌}
 use Rattle.numbers.specs.Read.{Running}
 use Rattle.numbers.specs.declared.Source.TheVariants.{Value}
 use Rattle.number_lists.proofs.chars.plain_digits.Given as goal
 
 abbrev pub invariant-loop-k : goal.invariant-loop-k
 invariant-loop-k l = Running (Value l.quote) l.text l.most l.before l.at l.n l.k l.i
-
-abbrev pub decreases-loop-k : goal.decreases-loop-k
-decreases-loop-k l = l.most - l.k

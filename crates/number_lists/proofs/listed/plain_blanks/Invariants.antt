@@ -1,9 +1,6 @@
-use Prim.Native.Nat.{◌-◌}
-use Rattle.numbers.proofs.Laws.Next.{Skipping}
+use Rattle.std.proofs.Common.{◌≤◌, max}
+use Rattle.number_lists.specs.Within.{Blanks}
 use Rattle.number_lists.proofs.listed.plain_blanks.Given as goal
 
 abbrev pub invariant-loop-i : goal.invariant-loop-i
-invariant-loop-i l = Skipping l.text l.at l.last l.i
-
-abbrev pub decreases-loop-i : goal.decreases-loop-i
-decreases-loop-i l = l.last - l.i
+invariant-loop-i l = record { passed : Blanks l.text l.at l.i; near : l.i ≤ max l.at l.last }
