@@ -14,16 +14,11 @@ use numbers::{Decimal, Source};
 pub fn decimal_value(text: &[u8], at: usize) -> Option<Decimal>
     ensures { result ≡ decimal_in (value_there text.now at) }
 {
-    if text.len() <= at {
-        return None;
-    }
-    let source = Source::Value(text[at]);
-    match decimal_at(text, at + 1, source) {
-        Some((d, j)) => match char_at(text, j, source) {
-            Some((_, _)) => None,
-            None => Some(d),
-        },
-        None => None,
+    let source = Source::Value(*text.get(at)?);
+    let (d, j) = decimal_at(text, at + 1, source)?;
+    match char_at(text, j, source) {
+        Some((_, _)) => None,
+        None => Some(d),
     }
 }
 
@@ -31,19 +26,14 @@ pub fn decimal_value(text: &[u8], at: usize) -> Option<Decimal>
 pub fn sixteen_ok(text: &[u8], at: usize) -> bool
     ensures { result ≡ sixteen (says_at text.now at) }
 {
-    let mut left: u64 = 16;
     let mut i = at;
-    while 0 < left {
+    for k in 0..16 {
         let from = blanks(text, i);
         match decimal_at(text, from, Source::Contents) {
-            Some((d, j)) => {
-                left -= 1;
+            Some((d, j)) if right_at(15 - k, d) => {
                 i = j;
-                if !right_at(left, d) {
-                    return false;
-                }
             }
-            None => {
+            _ => {
                 return false;
             }
         }

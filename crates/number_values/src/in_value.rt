@@ -26,7 +26,7 @@ pub fn places_of(power: i64) -> Option<u64>
     if power < -18 {
         return None;
     }
-    Some((0 - power) as u64)
+    Some(power.unsigned_abs())
 }
 
 // 10 to the power of `places`.
@@ -34,13 +34,7 @@ pub fn ten_to(places: u64) -> u64
     requires { places ≤ 18 }
     ensures { result ≡ 10 ^ places }
 {
-    let mut p: u64 = 1;
-    let mut k: u64 = 0;
-    while k < places {
-        p = p * 10;
-        k += 1;
-    }
-    p
+    10u64.pow(places as u32)
 }
 
 // The decimal is equal in value to 1.
@@ -57,11 +51,9 @@ fn is_one(d: Decimal) -> bool
 pub(crate) fn right_at(left: u64, d: Decimal) -> bool
     ensures { result ≡ right_at left d }
 {
-    if 4 <= left {
-        return true;
+    match left {
+        0 => is_one(d),
+        1..=3 => amount_is(d.amount, 0),
+        _ => true,
     }
-    if left == 0 {
-        return is_one(d);
-    }
-    amount_is(d.amount, 0)
 }

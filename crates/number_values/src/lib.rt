@@ -15,12 +15,12 @@ ghost use Rattle.nodes.specs.Values.{value_there};
 ghost use Rattle.numbers.specs.Numbers.{with_sign};
 ghost use Rattle.numbers.specs.Stream.{stream};
 ghost use Rattle.grammar.specs.Bytes.{between};
-ghost use Rattle.numbers.specs.Answers.{whole_in, listed_in, between_in, three_in, exponent_in, exponent_from, sign_if};
-ghost use Rattle.numbers.specs.Parted.{Parted};
+ghost use Rattle.numbers.specs.Answers.{whole_in, listed_in, between_in, three_in, exponent_in, sign_if};
+ghost use Rattle.numbers.specs.Parted.{Parted, alone_in, signed_in};
 ghost use Rattle.numbers.specs.declared.Source.TheVariants.{Value};
 
 pub use decimals::{decimal_value, sixteen_ok};
-use number_lists::chars::{char_at, digits, wide};
+use number_lists::chars::{char_at, digits};
 use numbers::{Lengths, Part, Source};
 
 // The number at `at` up to a comma or the end.
@@ -29,23 +29,26 @@ pub fn part_at(text: &[u8], at: usize, source: Source, most: u64, lo: u64, hi: u
     ensures { Parted source text.now most lo hi at result }
 {
     let run = digits(text, at, source, most, 0);
-    if run.count == 0 {
-        return Part::No;
-    }
-    if run.value < lo {
-        return Part::No;
-    }
-    if hi < run.value {
+    if run.count == 0 || run.value < lo || hi < run.value {
         return Part::No;
     }
     match char_at(text, run.next, source) {
-        Some((b, j)) => {
-            if b == b',' {
-                return Part::Comma(run.value, j);
-            }
-            Part::No
-        }
+        Some((b, j)) if b == b',' => Part::Comma(run.value, j),
+        Some((_, _)) => Part::No,
         None => Part::Last(run.value),
+    }
+}
+
+// The number at `at` up to the end.
+#[tactic(auto, using(numbers::proofs::Laws::Alone::standing_alone))]
+fn alone(text: &[u8], at: usize, source: Source, most: u64, lo: u64, hi: u64) -> Option<u64>
+    requires { most ≤ 15 }
+    ensures { result ≡ alone_in most lo hi (stream source text.now at) }
+{
+    match part_at(text, at, source, most, lo, hi) {
+        Part::Last(n) => Some(n),
+        Part::Comma(_, _) => None,
+        Part::No => None,
     }
 }
 
@@ -53,64 +56,43 @@ pub fn part_at(text: &[u8], at: usize, source: Source, most: u64, lo: u64, hi: u
 pub fn whole_value(text: &[u8], at: usize, lo: u64, hi: u64) -> Option<u64>
     ensures { result ≡ whole_in lo hi (value_there text.now at) }
 {
-    if text.len() <= at {
-        return None;
-    }
-    match part_at(text, at + 1, Source::Value(text[at]), 7, lo, hi) {
-        Part::Last(n) => Some(n),
-        Part::Comma(_, _) => None,
-        Part::No => None,
-    }
+    let quote = *text.get(at)?;
+    alone(text, at + 1, Source::Value(quote), 7, lo, hi)
 }
 
 // The three lengths that the value at `at` writes.
 pub fn three_lengths(text: &[u8], at: usize, width: u64, depth: u64, height: u64) -> Option<Lengths>
     ensures { result ≡ three_in width depth height (value_there text.now at) }
 {
-    if text.len() <= at {
+    let source = Source::Value(*text.get(at)?);
+    let Part::Comma(i, second) = part_at(text, at + 1, source, 7, 1, width) else {
         return None;
-    }
-    let source = Source::Value(text[at]);
-    match part_at(text, at + 1, source, 7, 1, width) {
-        Part::Comma(i, second) => match part_at(text, second, source, 7, 1, depth) {
-            Part::Comma(j, third) => match part_at(text, third, source, 7, 1, height) {
-                Part::Last(k) => Some(Lengths { i: i, j: j, k: k }),
-                Part::Comma(_, _) => None,
-                Part::No => None,
-            },
-            Part::Last(_) => None,
-            Part::No => None,
-        },
-        Part::Last(_) => None,
-        Part::No => None,
-    }
+    };
+    let Part::Comma(j, third) = part_at(text, second, source, 7, 1, depth) else {
+        return None;
+    };
+    let Part::Last(k) = part_at(text, third, source, 7, 1, height) else {
+        return None;
+    };
+    Some(Lengths { i: i, j: j, k: k })
 }
 
+// 1 for a dimension from `lo` to `hi`, else 0.
 fn is_within(d: u64, lo: u64, hi: u64) -> u64
     ensures { result ≡ cond (between lo hi d) 1 0 }
 {
-    if d < lo {
-        return 0;
-    }
-    if hi < d {
-        return 0;
-    }
-    1
+    u64::from(lo <= d && d <= hi)
 }
 
 // One digit up to a comma or the end of a value; quick where a digit and a comma stand plain.
 fn dimension_at(text: &[u8], at: usize, quote: u8) -> Part
     ensures { Parted (Value quote) text.now 1 0 9 at result }
 {
-    if text.len() <= at {
-        return part_at(text, at, Source::Value(quote), 1, 0, 9);
-    }
-    if text.len() - at < 2 {
-        return part_at(text, at, Source::Value(quote), 1, 0, 9);
-    }
-    let d = text[at];
-    if (quote < b',') & ((text[at + 1] == b',') & ((b'0' <= d) & (d <= b'9'))) {
-        return Part::Comma(wide(d - b'0'), at + 2);
+    if 2 <= text.len().saturating_sub(at) && quote < b',' {
+        let d = text[at];
+        if text[at + 1] == b',' && d.is_ascii_digit() {
+            return Part::Comma(u64::from(d - b'0'), at + 2);
+        }
     }
     part_at(text, at, Source::Value(quote), 1, 0, 9)
 }
@@ -119,10 +101,7 @@ fn dimension_at(text: &[u8], at: usize, quote: u8) -> Part
 pub fn dimensions_between(text: &[u8], at: usize, lo: u64, hi: u64) -> Option<u64>
     ensures { result ≡ between_in lo hi (value_there text.now at) }
 {
-    if text.len() <= at {
-        return None;
-    }
-    let quote = text[at];
+    let quote = *text.get(at)?;
     let mut n: u64 = 0;
     let mut i = at + 1;
     loop {
@@ -148,32 +127,22 @@ pub fn dimension_list(text: &[u8], at: usize) -> Option<u64>
     dimensions_between(text, at, 0, 9)
 }
 
-fn exponent_from(text: &[u8], at: usize, source: Source, most: u64, negative: bool) -> Option<i64>
-    ensures { result ≡ exponent_from most (sign_if negative) (stream source text.now at) }
-{
-    match part_at(text, at, source, 2, 0, most) {
-        Part::Last(n) => Some(signed(negative, n)),
-        Part::Comma(_, _) => None,
-        Part::No => None,
-    }
-}
-
 // The exponent that the value at `at` writes.
 pub fn exponent_value(text: &[u8], at: usize, most: u64) -> Option<i64>
     ensures { result ≡ exponent_in most (value_there text.now at) }
 {
-    if text.len() <= at {
-        return None;
-    }
-    let source = Source::Value(text[at]);
-    match char_at(text, at + 1, source) {
-        Some((b, j)) => {
-            if b == b'-' {
-                return exponent_from(text, j, source, most, true);
-            }
-            exponent_from(text, at + 1, source, most, false)
-        }
-        None => None,
+    signed_value(text, at, 2, most, most)
+}
+
+// The number that the value at `at` writes: at most so many digits, up to `plus`, or behind a `-` up to `minus`.
+pub fn signed_value(text: &[u8], at: usize, most: u64, plus: u64, minus: u64) -> Option<i64>
+    requires { most ≤ 15 }
+    ensures { result ≡ signed_in most plus minus (value_there text.now at) }
+{
+    let source = Source::Value(*text.get(at)?);
+    match char_at(text, at + 1, source)? {
+        (b, j) if b == b'-' => Some(signed(true, alone(text, j, source, most, 0, minus)?)),
+        _ => Some(signed(false, alone(text, at + 1, source, most, 0, plus)?)),
     }
 }
 
@@ -183,8 +152,5 @@ pub fn signed(negative: bool, n: u64) -> i64
     ensures { result ≡ with_sign (sign_if negative) n }
 {
     let a = n as i64;
-    if negative {
-        return 0 - a;
-    }
-    a
+    if negative { -a } else { a }
 }

@@ -10,29 +10,20 @@ use number_lists::chars::{char_at, digits, word_ends};
 use numbers::{Decimal, Lead, Source};
 
 // The sign at `at`, if there is one.
+#[tactic(auto, using(numbers::proofs::Laws::Signs::signs_of))]
 pub(crate) fn sign_at(text: &[u8], at: usize, source: Source) -> Lead
     ensures { SignLeads source text.now at result }
 {
     match char_at(text, at, source) {
-        Some((b, j)) => {
-            if b == b'-' {
-                return Lead {
-                    negative: true,
-                    next: j,
-                };
-            }
-            if b == b'+' {
-                return Lead {
-                    negative: false,
-                    next: j,
-                };
-            }
-            Lead {
-                negative: false,
-                next: at,
-            }
-        }
-        None => Lead {
+        Some((b, j)) if b == b'-' => Lead {
+            negative: true,
+            next: j,
+        },
+        Some((b, j)) if b == b'+' => Lead {
+            negative: false,
+            next: j,
+        },
+        _ => Lead {
             negative: false,
             next: at,
         },
@@ -76,28 +67,18 @@ fn power_digits(
     ensures { Raised source text.now at (sign_if negative) amount places result }
 {
     let run = digits(text, at, source, 2, 0);
-    if run.count == 0 {
+    if run.count == 0 || !word_ends(text, run.next, source) {
         return None;
     }
-    if !word_ends(text, run.next, source) {
-        return None;
-    }
-    match less_places(negative, run.value, places) {
-        Some(p) => Some((
-            Decimal {
-                amount: amount,
-                power: p,
-            },
-            run.next,
-        )),
-        None => None,
-    }
+    let power = less_places(negative, run.value, places)?;
+    Some((Decimal { amount, power }, run.next))
 }
 
+#[tactic(auto, unfolding(numbers::specs::Numbers::power_mark))]
 fn is_mark(b: u8) -> bool
     ensures { result ≡ power_mark b }
 {
-    (b == b'E') | (b == b'e')
+    matches!(b, b'E' | b'e')
 }
 
 // What stands at `at`, behind a mantissa with so many places, `c` being read there.
@@ -115,26 +96,18 @@ pub(crate) fn power_at(
     match c {
         Some((b, j)) => {
             if letters::classes::is_blank(b) {
-                return Some((
-                    Decimal {
-                        amount: amount,
-                        power: signed(true, places),
-                    },
-                    at,
-                ));
+                let power = signed(true, places);
+                return Some((Decimal { amount, power }, at));
             }
-            if is_mark(b) {
-                let lead = sign_at(text, j, source);
-                return power_digits(text, lead.next, source, lead.negative, amount, places);
+            if !is_mark(b) {
+                return None;
             }
-            None
+            let lead = sign_at(text, j, source);
+            power_digits(text, lead.next, source, lead.negative, amount, places)
         }
-        None => Some((
-            Decimal {
-                amount: amount,
-                power: signed(true, places),
-            },
-            at,
-        )),
+        None => {
+            let power = signed(true, places);
+            Some((Decimal { amount, power }, at))
+        }
     }
 }

@@ -50,13 +50,8 @@ pub fn pure_decimal(
     }
     let c = char_at(text, run.next, source);
     match c {
-        Some((b, j)) => {
-            if b == b'.' {
-                return places_at(text, j, source, negative, run.value, run.count);
-            }
-            power_at(text, c, run.next, source, signed(negative, run.value), 0)
-        }
-        None => power_at(text, c, run.next, source, signed(negative, run.value), 0),
+        Some((b, j)) if b == b'.' => places_at(text, j, source, negative, run.value, run.count),
+        _ => power_at(text, c, run.next, source, signed(negative, run.value), 0),
     }
 }
 

@@ -1,5 +1,6 @@
 -- A digit and a comma that stand plain in a value are one part of its list.
-use Rattle.std.specs.Prelude.{◌≡◌, List, [], ◌∷◌, true, ◌&&◌, ℕ, ◌+◌, ◌-◌, ◌≤◌, ◌<◌, eqb, leb, ltb, length, get_or}
+use Rattle.std.specs.Char.{is_ascii_digit}
+use Rattle.std.specs.Prelude.{◌≡◌, List, [], ◌∷◌, Bool, true, ℕ, ◌+◌, ◌-◌, ◌≤◌, ◌<◌, eqb, leb, ltb, length, get_or}
 use Rattle.std.proofs.Math.Path.{refl}
 use Rattle.std.proofs.Common.{sym, ap, ◌∙◌, arith, rules}
 use borrow.Author.Tests.{eqb-true, ne_eqb, leb-true, ltb-true, le-leb}
@@ -24,21 +25,12 @@ one_digit : (d : ℕ) → value (d ∷ []) ≡ d - 48
 unfolding value number
 one_digit d = omega arith
 
-module _ (q d c : ℕ) (h : (ltb q 44 && (eqb c 44 && (leb 48 d && leb d 57))) ≡ true) where
-  rest : (eqb c 44 && (leb 48 d && leb d 57)) ≡ true
-  rest = and_right (ltb q 44) _ h
-
-  low_quote : q < 44
-  low_quote = ltb-true q 44 (and_left (ltb q 44) _ h)
-
-  is_comma : c ≡ 44
-  is_comma = eqb-true c 44 (and_left (eqb c 44) _ rest)
-
+module _ (q d c : ℕ) (is_comma : c ≡ 44) (h : is_ascii_digit d ≡ true) where
   from_zero : leb 48 d ≡ true
-  from_zero = and_left (leb 48 d) _ (and_right (eqb c 44) _ rest)
+  from_zero = and_left (leb 48 d) _ h
 
   to_nine : leb d 57 ≡ true
-  to_nine = and_right (leb 48 d) _ (and_right (eqb c 44) _ rest)
+  to_nine = and_right (leb 48 d) _ h
 
   pub digit_from : 48 ≤ d
   digit_from = leb-true 48 d from_zero
@@ -58,20 +50,19 @@ module _ (q d c : ℕ) (h : (ltb q 44 && (eqb c 44 && (leb 48 d && leb d 57))) �
       rw (from_zero, to_nine, le-leb 0 (value (d ∷ [])) (omega arith), le-leb (value (d ∷ [])) 9 (omega arith)) refl
 
 pub digit_comma : (q : ℕ) (text : List ℕ) (at : ℕ) → 2 ≤ length text - at
-    → (ltb q 44 && (eqb (get_or text (at + 1) 0) 44 && (leb 48 (get_or text at 0) && leb (get_or text at 0) 57))) ≡ true
+    → q < 44 → get_or text (at + 1) 0 ≡ 44 → {t : Bool} → t ≡ is_ascii_digit (get_or text at 0) → t ≡ true
     → {v : ℕ} → v ≡ get_or text at 0 - 48 → Parted (Value q) text 1 0 9 at (Comma v (at + 2))
-digit_comma q text at l h {v} e =
+digit_comma q text at l a z {t} et y {v} e =
     let d = get_or text at 0 in
     let c = get_or text (at + 1) 0 in
-    let a = low_quote q d c h in
-    let f = digit_from q d c h in
-    let z = is_comma q d c h in
+    let h : is_ascii_digit d ≡ true = sym et ∙ y in
+    let f = digit_from q d c z h in
     let first = plain q text at (omega arith) (omega arith) (λ i. omega arith) in
     let second = plain q text (at + 1) (omega arith) (omega arith) (λ i. omega arith) in
     let j : at + 2 ≡ at + 1 + 1 = omega arith in
     let v₁ : v ≡ value (d ∷ []) = e ∙ sym (one_digit d) in
-    rw (v₁, j) (part_comma (d ∷ []) (in_form_lem q d c h)
-    (ap (parts comma) (first.splits ∙ ap (λ w. d ∷ w) second.splits) ∙ one_part q d c h (stream (Value q) text (at + 1 + 1)))
+    rw (v₁, j) (part_comma (d ∷ []) (in_form_lem q d c z h)
+    (ap (parts comma) (first.splits ∙ ap (λ w. d ∷ w) second.splits) ∙ one_part q d c z h (stream (Value q) text (at + 1 + 1)))
     (omega (arith, first.ahead, second.ahead)))
 
 pub ruleset dimension = (digit_from, digit_comma, rules)

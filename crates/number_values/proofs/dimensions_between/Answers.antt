@@ -1,12 +1,11 @@
-use Rattle.numbers.proofs.Laws.Lists.{listing, list_room}
+use Rattle.numbers.proofs.Laws.Lists.{listing, list_past, list_room, list_start_lem}
 use native.Mathlib.Omega.{arith}
 use Rattle.number_values.proofs.dimensions_between.Goals as goal
 
-pub returns-then-text-at : goal.returns-then-text-at
-returns-then-text-at c = search listing
-
 pub loop-d-init : goal.loop-d-init
-loop-d-init c = search listing
+loop-d-init c =
+    let got = c.in_ok-quote.ensures.lookup in
+    rw (got.3.1 0) (list_start_lem c.args.text.now c.args.at c.args.lo c.args.hi got.3.0)
 
 pub loop-d-preserved : goal.loop-d-preserved
 loop-d-preserved c = search listing
@@ -17,9 +16,6 @@ returns-in-Last c = search listing
 pub returns-in-No : goal.returns-in-No
 returns-in-No c = search listing
 
-pub bounds-text-at : goal.bounds-text-at
-bounds-text-at c = search listing
-
 pub overflow_add-i : goal.overflow_add-i
 overflow_add-i c = search listing
 
@@ -29,14 +25,11 @@ dimension_at-requires c = search listing
 pub enum_known-d : goal.enum_known-d
 enum_known-d c = search listing
 
-pub is_within-n-requires : goal.is_within-n-requires
-is_within-n-requires c = search listing
-
 pub overflow_add-n : goal.overflow_add-n
 overflow_add-n c = omega (
   arith,
   list_room c.loop-d.invariant
-      c.dimension_at.ensures _ c.is_within-n.ensures,
+      c.dimension_at.ensures _ c.is_within.ensures,
 )
 
 pub loop-d-smaller : goal.loop-d-smaller
@@ -52,8 +45,12 @@ pub overflow_add-result : goal.overflow_add-result
 overflow_add-result c = omega (
   arith,
   list_room c.loop-d.invariant
-      c.dimension_at.ensures _ c.is_within.ensures,
+      c.dimension_at.ensures _ c.is_within-in-Last.ensures,
 )
 
 pub enum_told-1 : goal.enum_told-1
 enum_told-1 c = search listing
+
+pub returns-in_err-quote : goal.returns-in_err-quote
+returns-in_err-quote c =
+    rw c.from_residual.ensures (list_past c.args.text.now c.args.at c.args.lo c.args.hi c.in_err-quote.ensures.lookup.3)

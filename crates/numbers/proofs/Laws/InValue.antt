@@ -222,5 +222,14 @@ module _ (x : ℤ) (f : SFits w64 x) where
         × Fits w64 (nat_abs (to_z w64 (of_z w64 (pos 0 -ℤ to_z w64 (of_z w64 x)))))
     opposite_cast = let g = small.few in rw back (tt, record { fits = omega arith })
 
+    pub absolute_places : {r : ℕ} → r ≡ nat_abs (to_z w64 (of_z w64 x)) → Some r ≡ places_in x
+    unfolding small_zero
+    absolute_places e =
+        ap Some e ∙ ap (λ z. Some (nat_abs z)) (to_z-of_z w64 x f) ∙ go x (rw (to_z-of_z w64 x f) at h) (rw (to_z-of_z w64 x f) at l)
+      where
+        go : (z : ℤ) → lt_z (pos 0) z ≡ false → lt_z z (negsuc 17) ≡ false → Some (nat_abs z) ≡ places_in z
+        go (pos m) k i = let e : m ≡ 0 = (let j = ltb-false 0 m k in omega arith) in rw e small_zero.is
+        go (negsuc m) k i = let j = ltb-false 17 m i in small_below m (omega arith)
+
     pub opposite_places : Some (nat_abs (to_z w64 (of_z w64 (pos 0 -ℤ to_z w64 (of_z w64 x))))) ≡ places_in x
     opposite_places = ap (λ z. Some (nat_abs z)) back ∙ small.is

@@ -1,29 +1,17 @@
-use Rattle.numbers.proofs.Laws.Signs.{decimals_of}
+use Rattle.numbers.proofs.Laws.Signs.{decimal_past, decimal_fails, decimal_more, decimal_is}
 use Rattle.number_values.proofs.decimals.decimal_value.Goals as goal
 
-pub returns-then-text-at : goal.returns-then-text-at
-returns-then-text-at c = search decimals_of
+pub returns-in_err-get : goal.returns-in_err-get
+returns-in_err-get c = rw c.from_residual.ensures (decimal_past c.args.text.now c.args.at c.in_err-get.ensures.lookup.3)
 
-pub bounds-text-at : goal.bounds-text-at
-bounds-text-at c = search decimals_of
+pub returns-in_err-d : goal.returns-in_err-d
+returns-in_err-d c =
+    rw c.from_residual-in_err-d.ensures (decimal_fails _ _ (rw (c.in_ok-get.ensures.lookup.3.1 0) at c.decimal_at.ensures) c.in_err-d.was)
 
-pub overflow_add-at : goal.overflow_add-at
-overflow_add-at c = search decimals_of
-
-pub decimal_at-requires : goal.decimal_at-requires
-decimal_at-requires c = search decimals_of
-
-pub char_at-requires : goal.char_at-requires
-char_at-requires c = search decimals_of
-
-pub enum_told-1 : goal.enum_told-1
-enum_told-1 c = search decimals_of
+pub returns-in-Some : goal.returns-in-Some
+returns-in-Some c =
+    decimal_more _ _ (rw (c.in_ok-get.ensures.lookup.3.1 0) at c.decimal_at.ensures) c.in_ok-d.was (rw (c.in_ok-get.ensures.lookup.3.1 0) at c.char_at.ensures) c.in-Some.is
 
 pub returns-in-None : goal.returns-in-None
-returns-in-None c = search decimals_of
-
-pub returns-in-Some-char_at : goal.returns-in-Some-char_at
-returns-in-Some-char_at c = search decimals_of
-
-pub returns-in-None-char_at : goal.returns-in-None-char_at
-returns-in-None-char_at c = search decimals_of
+returns-in-None c =
+    decimal_is _ _ (rw (c.in_ok-get.ensures.lookup.3.1 0) at c.decimal_at.ensures) c.in_ok-d.was (rw (c.in_ok-get.ensures.lookup.3.1 0) at c.char_at.ensures) c.in-None.is

@@ -1,8 +1,6 @@
+use Rattle.std.proofs.Common.{◌-◌}
 use Rattle.numbers.proofs.Laws.Sixteen.{Checking}
 use Rattle.number_values.proofs.decimals.sixteen_ok.Given as goal
 
-abbrev pub invariant-loop-left : goal.invariant-loop-left
-invariant-loop-left l = Checking l.text l.at l.left l.i
-
-abbrev pub decreases-loop-left : goal.decreases-loop-left
-decreases-loop-left l = l.left
+abbrev pub invariant-loop-k : goal.invariant-loop-k
+invariant-loop-k l = Checking l.text l.at (16 - l.k) l.i

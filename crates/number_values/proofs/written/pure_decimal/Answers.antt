@@ -15,9 +15,6 @@ char_at-c-requires c = search purely
 pub places_at-requires : goal.places_at-requires
 places_at-requires c = search purely
 
-pub returns-then-b-eq46 : goal.returns-then-b-eq46
-returns-then-b-eq46 c = search purely
-
 pub signed-requires : goal.signed-requires
 signed-requires c = search purely
 
@@ -25,14 +22,8 @@ pub power_at-requires : goal.power_at-requires
 power_at-requires c =
     (c.char_at-c.ensures, omega arith)
 
-pub signed-requires-in-None : goal.signed-requires-in-None
-signed-requires-in-None c = search purely
+pub returns-in-Some : goal.returns-in-Some
+returns-in-Some c = search purely
 
-pub power_at-requires-in-None : goal.power_at-requires-in-None
-power_at-requires-in-None c = search purely
-
-pub returns-else-b-eq46 : goal.returns-else-b-eq46
-returns-else-b-eq46 c = search (pure_other, rules) fits 20000
-
-pub returns-in-None : goal.returns-in-None
-returns-in-None c = search purely
+pub returns-in_default : goal.returns-in_default
+returns-in_default c = search purely
