@@ -12,46 +12,31 @@ use numbers::Next;
 pub fn is_whole(text: &[u8], v: usize, least: u64, most: u64) -> bool
     ensures { result ≡ whole least most (value_there text.now v) }
 {
-    match number_values::whole_value(text, v, least, most) {
-        Some(_) => true,
-        None => false,
-    }
+    number_values::whole_value(text, v, least, most).is_some()
 }
 
 pub fn is_dimension_list(text: &[u8], v: usize) -> bool
     ensures { result ≡ dimension_list (value_there text.now v) }
 {
-    match number_values::dimension_list(text, v) {
-        Some(_) => true,
-        None => false,
-    }
+    number_values::dimension_list(text, v).is_some()
 }
 
 pub fn is_exponent(text: &[u8], v: usize, most: u64) -> bool
     ensures { result ≡ exponent most (value_there text.now v) }
 {
-    match number_values::exponent_value(text, v, most) {
-        Some(_) => true,
-        None => false,
-    }
+    number_values::exponent_value(text, v, most).is_some()
 }
 
 pub fn is_decimal(text: &[u8], v: usize) -> bool
     ensures { result ≡ decimal (value_there text.now v) }
 {
-    match number_values::decimal_value(text, v) {
-        Some(_) => true,
-        None => false,
-    }
+    number_values::decimal_value(text, v).is_some()
 }
 
 pub fn are_lengths(text: &[u8], v: usize, width: u64, depth: u64, height: u64) -> bool
     ensures { result ≡ volume_dimensions width depth height (value_there text.now v) }
 {
-    match number_values::three_lengths(text, v, width, depth, height) {
-        Some(_) => true,
-        None => false,
-    }
+    number_values::three_lengths(text, v, width, depth, height).is_some()
 }
 
 // The place behind the plain numbers up to `most` that are next.
@@ -61,13 +46,10 @@ fn plain_wholes(text: &[u8], at: usize, most: u64) -> usize
     let mut i = at;
     loop {
         let quick = number_lists::quick_number(text, i);
-        if quick == 0 {
+        if quick == 0 || most < quick / 16 {
             return i;
         }
-        if most < quick / 16 {
-            return i;
-        }
-        i = i + (quick % 16) as usize;
+        i += (quick % 16) as usize;
     }
 }
 

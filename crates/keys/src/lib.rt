@@ -9,74 +9,40 @@ mod key_lists;
 ghost use Rattle.std.specs.Prelude.{◌≡◌};
 ghost use Rattle.nodes.specs.Values.{value_there};
 ghost use Rattle.numbers.specs.Numbers.{key, colour};
-ghost use Rattle.numbers.specs.Answers.{key_in, key_from, key_limit, sign_if};
-ghost use Rattle.numbers.specs.Stream.{stream};
+ghost use Rattle.numbers.specs.Answers.{key_in, key_limit, sign_if};
 ghost use Rattle.keys.specs.Colours.{AtSight};
 
 pub use key_lists::{ListedKey, are_keys, next_key};
-use number_lists::chars::char_at;
-use number_values::{part_at, signed};
-use numbers::{Part, Source};
+use number_values::signed_value;
 use shade::in_shade;
 
 // The greatest number behind a sign.
 pub fn key_limit(negative: bool) -> u64
     ensures { result ≡ key_limit (sign_if negative) }
 {
-    if negative {
-        return 2147483648;
-    }
-    2147483647
-}
-
-// The key whose digits begin at `at`, its sign being read.
-fn key_from(text: &[u8], at: usize, source: Source, negative: bool) -> Option<i32>
-    ensures { result ≡ key_from (sign_if negative) (stream source text.now at) }
-{
-    match part_at(text, at, source, 10, 0, key_limit(negative)) {
-        Part::Last(n) => Some(signed(negative, n) as i32),
-        Part::Comma(_, _) => None,
-        Part::No => None,
-    }
+    if negative { 2147483648 } else { 2147483647 }
 }
 
 // The key that the value at `at` writes.
 pub fn key_value(text: &[u8], at: usize) -> Option<i32>
     ensures { result ≡ key_in (value_there text.now at) }
 {
-    if text.len() <= at {
-        return None;
-    }
-    let source = Source::Value(text[at]);
-    match char_at(text, at + 1, source) {
-        Some((b, j)) => {
-            if b == b'-' {
-                return key_from(text, j, source, true);
-            }
-            key_from(text, at + 1, source, false)
-        }
-        None => None,
-    }
+    let n = signed_value(text, at, 10, key_limit(false), key_limit(true))?;
+    Some(n as i32)
 }
 
 // The value at `at` is a key.
 pub fn is_key(text: &[u8], at: usize) -> bool
     ensures { result ≡ key (value_there text.now at) }
 {
-    match key_value(text, at) {
-        Some(_) => true,
-        None => false,
-    }
+    key_value(text, at).is_some()
 }
 
 // Whether the value at `at` is 0 or 1 and nothing else; no says nothing.
 fn is_zero_or_one(text: &[u8], at: usize) -> bool
     ensures { AtSight text.now at result }
 {
-    if text.len() <= at {
-        return false;
-    }
-    if text.len() - at < 3 {
+    if text.len().saturating_sub(at) < 3 {
         return false;
     }
     let q = text[at];

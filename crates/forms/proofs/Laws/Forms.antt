@@ -1,4 +1,5 @@
 -- The turns of the tests of form.
+use Rattle.std.specs.Option.{is_some}
 use Rattle.std.specs.Prelude.{◌≡◌, refl, List, [], Bool, true, false, ◌&&◌, cond, ℕ, ◌<◌, ◌≤◌, leb, ℤ, Option, Some, None}
 use Rattle.std.proofs.Math.Path.{ap, sym}
 use Rattle.std.proofs.Common.{◌∙◌, arith, rules}
@@ -15,83 +16,31 @@ use Rattle.numbers.specs.declared.Decimal.{Decimal}
 use Rattle.numbers.specs.declared.Next.{Next}
 use Rattle.numbers.specs.declared.Next.TheVariants.{Number, End, Bad}
 
--- an answer, told from the other
-module _ {A : Type 0} {yes no : A} (apart : yes ≡ no → ⊥) {r : A} where
-  told_yes : (b : Bool) → r ≡ cond b yes no → r ≡ no → false ≡ b
-  told_yes true e f = absurd (apart (sym e ∙ f))
-  told_yes false e f = refl
-
-  told_no : (b : Bool) {x : A} → (x ≡ no → ⊥) → r ≡ cond b yes no → r ≡ x → true ≡ b
-  told_no true d e f = refl
-  told_no false d e f = absurd (d (sym f ∙ e))
-
-is_no : {n : ℕ} → Some n ≡ None → ⊥
-is_no e = let z : ◌≡◌ {A = ℕ} 0 1 = cc in omega arith
-
-exponent_no : {n : ℤ} → Some n ≡ None → ⊥
-exponent_no e = let z : ◌≡◌ {A = ℕ} 0 1 = cc in omega arith
-
-decimal_no : {n : Decimal} → Some n ≡ None → ⊥
-decimal_no e = let z : ◌≡◌ {A = ℕ} 0 1 = cc in omega arith
-
-three_no : {n : Lengths} → Some n ≡ None → ⊥
-three_no e = let z : ◌≡◌ {A = ℕ} 0 1 = cc in omega arith
-
-module _ (w : Word) {r : Option ℕ} where
-  pub whole_yes : (lo hi : ℕ) → r ≡ whole_in lo hi w → {n : ℕ} → r ≡ Some n → true ≡ whole lo hi w
-  unfolding whole_in
-  whole_yes lo hi e f = told_no is_no (whole lo hi w) is_no e f
-
-  pub whole_no : (lo hi : ℕ) → r ≡ whole_in lo hi w → r ≡ None → false ≡ whole lo hi w
-  unfolding whole_in
-  whole_no lo hi e f = told_yes is_no (whole lo hi w) e f
-
-  pub listed_yes : r ≡ listed_in w → {n : ℕ} → r ≡ Some n → true ≡ dimension_list w
-  unfolding listed_in
-  listed_yes e f = told_no is_no (dimension_list w) is_no e f
-
-  pub listed_no : r ≡ listed_in w → r ≡ None → false ≡ dimension_list w
-  unfolding listed_in
-  listed_no e f = told_yes is_no (dimension_list w) e f
+-- a form, told by whether there is a value of it
+some_of : {A : Type 0} (b : Bool) (x : A) → is_some (cond b (Some x) None) ≡ b
+some_of true x = refl
+some_of false x = refl
 
 module _ (w : Word) where
-  pub exponent_yes : {r : Option ℤ} (most : ℕ) → r ≡ exponent_in most w → {n : ℤ} → r ≡ Some n → true ≡ exponent most w
+  pub whole_told : (lo hi : ℕ) → is_some (whole_in lo hi w) ≡ whole lo hi w
+  unfolding whole_in
+  whole_told lo hi = some_of (whole lo hi w) _
+
+  pub listed_told : is_some (listed_in w) ≡ dimension_list w
+  unfolding listed_in
+  listed_told = some_of (dimension_list w) _
+
+  pub exponent_told : (most : ℕ) → is_some (exponent_in most w) ≡ exponent most w
   unfolding exponent_in
-  exponent_yes most e f = told_no exponent_no (exponent most w) exponent_no e f
+  exponent_told most = some_of (exponent most w) _
 
-  pub exponent_none : {r : Option ℤ} (most : ℕ) → r ≡ exponent_in most w → r ≡ None → false ≡ exponent most w
-  unfolding exponent_in
-  exponent_none most e f = told_yes exponent_no (exponent most w) e f
-
-  pub decimal_yes : {r : Option Decimal} → r ≡ decimal_in w → {n : Decimal} → r ≡ Some n → true ≡ decimal w
+  pub decimal_told : is_some (decimal_in w) ≡ decimal w
   unfolding decimal_in
-  decimal_yes e f = told_no decimal_no (decimal w) decimal_no e f
+  decimal_told = some_of (decimal w) _
 
-  pub decimal_none : {r : Option Decimal} → r ≡ decimal_in w → r ≡ None → false ≡ decimal w
-  unfolding decimal_in
-  decimal_none e f = told_yes decimal_no (decimal w) e f
-
-  pub three_yes : {r : Option Lengths} (a b c : ℕ) → r ≡ three_in a b c w → {n : Lengths} → r ≡ Some n → true ≡ volume_dimensions a b c w
+  pub three_told : (a b c : ℕ) → is_some (three_in a b c w) ≡ volume_dimensions a b c w
   unfolding three_in
-  three_yes a b c e f = told_no three_no (volume_dimensions a b c w) three_no e f
-
-  pub three_none : {r : Option Lengths} (a b c : ℕ) → r ≡ three_in a b c w → r ≡ None → false ≡ volume_dimensions a b c w
-  unfolding three_in
-  three_none a b c e f = told_yes three_no (volume_dimensions a b c w) e f
-
-pub ruleset telling = (
-  whole_yes,
-  whole_no,
-  listed_yes,
-  listed_no,
-  exponent_yes,
-  exponent_none,
-  decimal_yes,
-  decimal_none,
-  three_yes,
-  three_none,
-  rules,
-)
+  three_told a b c = some_of (volume_dimensions a b c w) _
 
 -- A LIST OF WHOLE NUMBERS
 pub record Listing (text : List ℕ) (at most i : ℕ) : Type 0 where

@@ -1,8 +1,7 @@
-use Rattle.forms.proofs.Laws.Forms.{telling}
+use Rattle.std.proofs.Common.{ap, ◌∙◌}
+use Rattle.std.specs.Option.{is_some}
+use Rattle.forms.proofs.Laws.Forms.{three_told}
 use Rattle.forms.proofs.are_lengths.Goals as goal
 
-pub returns-in-Some : goal.returns-in-Some
-returns-in-Some c = search telling
-
-pub returns-in-None : goal.returns-in-None
-returns-in-None c = search telling
+pub returns : goal.returns
+returns c = c.is_some.ensures ∙ ap is_some c.three_lengths.ensures ∙ three_told _ _ _ _

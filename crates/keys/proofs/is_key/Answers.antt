@@ -1,17 +1,7 @@
-use Rattle.keys.proofs.Laws.Keys.{key_telling}
+use Rattle.std.proofs.Common.{ap, ◌∙◌}
+use Rattle.std.specs.Option.{is_some}
+use Rattle.keys.proofs.Laws.Keys.{key_is_some}
 use Rattle.keys.proofs.is_key.Goals as goal
 
-pub returns-in-Some : goal.returns-in-Some
-returns-in-Some c = search key_telling
-
-pub returns-in-None : goal.returns-in-None
-returns-in-None c = search key_telling
-
-pub key_value-requires : goal.key_value-requires
-key_value-requires c = search key_telling
-
-pub enum_told-1 : goal.enum_told-1
-enum_told-1 c = search key_telling
-
-pub enum_told-in-None : goal.enum_told-in-None
-enum_told-in-None c = search key_telling
+pub returns : goal.returns
+returns c = c.is_some.ensures ∙ ap is_some c.key_value.ensures ∙ key_is_some _

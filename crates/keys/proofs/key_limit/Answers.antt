@@ -5,6 +5,6 @@ pub returns-then-negative : goal.returns-then-negative
 unfolding key_limit sign_if
 returns-then-negative c = rw c.if-negative.true
 
-pub returns : goal.returns
+pub returns-else-negative : goal.returns-else-negative
 unfolding key_limit sign_if
-returns c = rw c.if-negative.false
+returns-else-negative c = rw c.if-negative.false

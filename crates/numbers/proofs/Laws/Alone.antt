@@ -1,8 +1,9 @@
 -- A number that stands alone, and one with a sign: of digits and limits that the caller says. Exponents and keys are such numbers.
 use Rattle.std.specs.Prelude.{◌≡◌, refl, List, [], ◌∷◌, Bool, true, false, cond, ℕ, zero, suc, ◌+◌, ◌^◌, ◌≤◌, ◌<◌, eqb, leb, ℤ, length, get_or, Option, Some, None}
-use Rattle.std.proofs.Common.{sym, ap, ◌∙◌, arith, SFits, rules, ne_eqb, le-leb, leb-true}
+use Rattle.std.proofs.Common.{sym, ap, ◌∙◌, arith, SFits, to_z, of_z, rules, ne_eqb, le-leb, leb-true}
 use Rattle.std.proofs.lemmas.Option.{same_Some}
-use Rattle.std.specs.Int.{w32}
+use Rattle.std.specs.Int.{w32, w64}
+use Rattle.std.proofs.lemmas.Int.{to_z-of_z}
 use Rattle.lists.proofs.Laws.Booleans.{and_right, clash}
 use Rattle.grammar.specs.Look.{Word}
 use Rattle.lists.specs.Lists.{all}
@@ -146,26 +147,48 @@ unfolding limit_of key_limit
 key_limits plus = refl
 key_limits minus = refl
 
-pub key_signed : (w : Word) → signed_in 10 2147483647 2147483648 w ≡ key_in w
+key_told : (w : Word) → signed_in 10 2147483647 2147483648 w ≡ key_in w
 unfolding key_in key key_value signed_in signed_from numeral
-key_signed w =
+key_told w =
     let u = unsigned false w in
     rw (key_limits u.sign, within u.sign (value u.rest)) refl
 
 -- a number of a limit, told of a word, fits a key
+wide_fits : (s : Sign) (n : ℕ) → n ≤ key_limit s → SFits w64 (with_sign s n)
+unfolding with_sign key_limit
+wide_fits plus n h = record { sfits = omega arith }
+wide_fits minus zero h = record { sfits = omega arith }
+wide_fits minus (suc n) h = record { sfits = omega arith }
+
 limited_fits : (hi : ℕ) (s : Sign) (w : Word) → hi ≡ key_limit s → {r : Option ℤ} → r ≡ signed_from 10 hi s w → {z : ℤ} → r ≡ Some z
-    → SFits w32 z
+    → SFits w32 z × SFits w64 z
 unfolding signed_from numeral
 limited_fits hi s w l {r} e {z} f = go (numeral 10 0 hi w) refl
   where
-    go : (b : Bool) → numeral 10 0 hi w ≡ b → SFits w32 z
+    go : (b : Bool) → numeral 10 0 hi w ≡ b → SFits w32 z × SFits w64 z
     go true h =
         let q : Some (with_sign s (value w)) ≡ Some z = sym (rw h refl) ∙ sym e ∙ f in
         let z₁ : with_sign s (value w) ≡ z = same_Some _ _ q in
         let k = leb-true (value w) hi (and_right (leb 0 (value w)) _ (and_right (digits 1 10 w) _ h)) in
-        rw (sym z₁) (key_fits s (value w) (rw l at k))
+        rw (sym z₁) (key_fits s (value w) (rw l at k), wide_fits s (value w) (rw l at k))
     go false h = let q : None ≡ Some z = sym (rw h refl) ∙ sym e ∙ f in clash (cc)
 
-pub signed_key_fits : (w : Word) {r : Option ℤ} → r ≡ signed_in 10 2147483647 2147483648 w → {z : ℤ} → r ≡ Some z → SFits w32 z
-unfolding signed_in
-signed_key_fits w e f = let u = unsigned false w in limited_fits (limit_of 2147483647 2147483648 u.sign) u.sign u.rest (key_limits u.sign) e f
+module _ (w : Word) {p m : ℕ} (ep : p ≡ key_limit (sign_if false)) (em : m ≡ key_limit (sign_if true)) {r : Option ℤ}
+    (e : r ≡ signed_in 10 p m w) where
+  limits : r ≡ signed_in 10 2147483647 2147483648 w
+  unfolding key_limit sign_if
+  limits = rw (ep, em) at e
+
+  pub key_signed : r ≡ key_in w
+  key_signed = limits ∙ key_told w
+
+  module _ {z : ℤ} (f : r ≡ Some z) where
+    both : SFits w32 z × SFits w64 z
+    unfolding signed_in
+    both = let u = unsigned false w in limited_fits (limit_of 2147483647 2147483648 u.sign) u.sign u.rest (key_limits u.sign) limits f
+
+    pub signed_key_fits : SFits w32 (to_z w64 (of_z w64 z))
+    signed_key_fits = rw (to_z-of_z w64 z both.1) both.0
+
+    pub signed_key : Some (to_z w32 (of_z w32 (to_z w64 (of_z w64 z)))) ≡ key_in w
+    signed_key = ap Some (to_z-of_z w32 (to_z w64 (of_z w64 z)) signed_key_fits ∙ to_z-of_z w64 z both.1) ∙ sym f ∙ key_signed
