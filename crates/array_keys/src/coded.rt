@@ -1,21 +1,17 @@
 // The next key of four bytes in Base64.
 ghost use Rattle.std.specs.Prelude.{◌≡◌, ◌+◌, ◌*◌, ◌%◌, ◌^◌, ◌<◌, ◌≤◌};
-ghost use Rattle.base64_reader.specs.Groups.{values_lent};
 ghost use Rattle.array_keys.specs.Ahead.{KeyTold, encoding_if};
 ghost use Rattle.array_keys.specs.Gathered.{kept_bytes, BytesRead, BytesGathered};
 
 use super::fours::{key_of, top_of};
 use super::{KeyPlace, NextKey, place};
-use base64_reader::{Group, any_group, quick_bits};
+use base64_reader::{Group, LetterValues, any_group, quick_bits};
 
 // How many bytes are held: three at most.
 fn kept_bytes(bytes: usize) -> usize
     ensures { result ≡ kept_bytes bytes }
 {
-    if bytes < 4 {
-        return bytes;
-    }
-    0
+    if bytes < 4 { bytes } else { 0 }
 }
 
 // The last three bytes held, and `count` bytes more behind them.
@@ -24,18 +20,15 @@ fn more_held(held: u64, more: u64, count: usize) -> u64
     ensures { result ≡ held % 16777216 * 256 ^ count + more }
 {
     let last = held % 16777216;
-    if count == 3 {
-        return last * 16777216 + more;
+    match count {
+        3 => last * 16777216 + more,
+        2 => last * 65536 + more,
+        _ => last * 256 + more,
     }
-    if count == 2 {
-        return last * 65536 + more;
-    }
-    last * 256 + more
 }
 
 // Reads on until four bytes and more are held, or there are no more.
-fn gathered(text: &[u8], from: KeyPlace, values: &[u8]) -> KeyPlace
-    requires { values.now ≡ values_lent }
+fn gathered(text: &[u8], from: KeyPlace, values: &LetterValues) -> KeyPlace
     ensures { BytesGathered text.now from result }
 {
     let mut at = from.at;
@@ -48,27 +41,19 @@ fn gathered(text: &[u8], from: KeyPlace, values: &[u8]) -> KeyPlace
             bytes += 3;
             at += 4;
         } else {
-            match any_group(text, at, values) {
-                Group::Bytes(v, n, j) => {
-                    held = more_held(held, v, n);
-                    bytes += n;
-                    at = j;
-                }
-                Group::End => {
-                    return place(at, held, bytes);
-                }
-                Group::Bad => {
-                    return place(at, held, bytes);
-                }
-            }
+            let Group::Bytes(v, n, j) = any_group(text, at, values) else {
+                return place(at, held, bytes);
+            };
+            held = more_held(held, v, n);
+            bytes += n;
+            at = j;
         }
     }
     place(at, held, bytes)
 }
 
 // The next key, its four bytes in either order.
-pub(crate) fn coded_next(text: &[u8], from: KeyPlace, values: &[u8], little: bool) -> NextKey
-    requires { values.now ≡ values_lent }
+pub(crate) fn coded_next(text: &[u8], from: KeyPlace, values: &LetterValues, little: bool) -> NextKey
     ensures { KeyTold (encoding_if little) text.now from result }
 {
     let found = gathered(text, from, values);

@@ -8,13 +8,11 @@ pub(crate) fn top_of(held: u64, rest: usize) -> u64
     requires { rest ≤ 2 }
     ensures { result ≡ held / 256 ^ rest % 4294967296 }
 {
-    if rest == 2 {
-        return held / 65536 % 4294967296;
+    match rest {
+        2 => held / 65536 % 4294967296,
+        1 => held / 256 % 4294967296,
+        _ => held % 4294967296,
     }
-    if rest == 1 {
-        return held / 256 % 4294967296;
-    }
-    held % 4294967296
 }
 
 // The bytes in the other order.
@@ -37,12 +35,9 @@ fn twos_of(n: u64) -> i32
 }
 
 // The key of four bytes, as one number with the first the greatest.
-pub fn key_of(n: u64, little: bool) -> i32
+pub(crate) fn key_of(n: u64, little: bool) -> i32
     requires { n < 4294967296 }
     ensures { result ≡ key_by little n }
 {
-    if little {
-        return twos_of(turned(n));
-    }
-    twos_of(n)
+    twos_of(if little { turned(n) } else { n })
 }

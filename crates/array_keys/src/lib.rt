@@ -9,13 +9,11 @@ mod coded;
 mod rows;
 
 ghost use Rattle.std.specs.Prelude.{◌≡◌};
-ghost use Rattle.base64_reader.specs.Groups.{values_lent};
 ghost use Rattle.array_keys.specs.Ahead.{keys_start, KeyTold};
 ghost use Rattle.array_keys.specs.declared.Encoding.TheVariants as encodings;
 
-pub use base64_reader::letter_values;
+pub use base64_reader::{LetterValues, letter_values};
 use coded::coded_next;
-pub use fours::key_of;
 use keys::ListedKey;
 pub use rows::{KeyRow, fill_from};
 
@@ -35,7 +33,7 @@ pub struct KeyPlace {
     pub bytes: usize,
 }
 
-// The next key, and the place behind it; or how many bytes are left over.
+// The next key, and the place behind it; or how many bytes are left over at the end, which is no fault: neither Option nor Result says it.
 #[derive(Clone, Copy)]
 pub enum NextKey {
     Key(i32, KeyPlace),
@@ -45,11 +43,7 @@ pub enum NextKey {
 pub fn place(at: usize, held: u64, bytes: usize) -> KeyPlace
     ensures { result ≡ record { at = at; held = held; bytes = bytes } }
 {
-    KeyPlace {
-        at: at,
-        held: held,
-        bytes: bytes,
-    }
+    KeyPlace { at, held, bytes }
 }
 
 // Where the keys of the element at `at` begin.
@@ -74,8 +68,7 @@ fn plain_next(text: &[u8], from: KeyPlace) -> NextKey
 }
 
 // The next key from a place on. The values of letters are lent, so that they are laid out once for all keys.
-pub fn key_next(text: &[u8], encoding: Encoding, from: KeyPlace, values: &[u8]) -> NextKey
-    requires { values.now ≡ values_lent }
+pub(crate) fn key_next(text: &[u8], encoding: Encoding, from: KeyPlace, values: &LetterValues) -> NextKey
     ensures { KeyTold encoding text.now from result }
 {
     match encoding {

@@ -1,12 +1,11 @@
 // Keys many at a time, into a lent slice: in Base64 three at a time, as long as there are plain letters.
 ghost use Rattle.std.specs.Prelude.{◌≡◌, ◌+◌, ◌≤◌, leb, length};
-ghost use Rattle.base64_reader.specs.Groups.{values_lent};
 ghost use Rattle.array_keys.specs.Ahead.{encoding_if};
 ghost use Rattle.array_keys.specs.Rows.{RowTold, Run, bare_at, FourBits, with_three, ThreeTold};
 
 use super::fours::key_of;
 use super::{Encoding, KeyPlace, NextKey, key_next, place};
-use base64_reader::quick_bits;
+use base64_reader::{LetterValues, quick_bits};
 
 // How many keys stand at the front of the slice, and the place behind them; where there is room for more, how many bytes are left over.
 #[derive(Clone, Copy)]
@@ -20,10 +19,7 @@ pub struct KeyRow {
 fn fits_in(at: usize, more: usize, length: usize) -> bool
     ensures { result ≡ leb (at + more) length }
 {
-    if length < more {
-        return false;
-    }
-    at <= length - more
+    more <= length && at <= length - more
 }
 
 // The three keys of four times 24 bits.
@@ -40,12 +36,12 @@ fn write_three(a: u64, b: u64, c: u64, d: u64, little: bool, n: usize, keys: &mu
 fn three_keys(
     text: &[u8],
     at: usize,
-    values: &[u8],
+    values: &LetterValues,
     little: bool,
     n: usize,
     keys: &mut [i32],
 ) -> bool
-    requires { (values.now ≡ values_lent) × (n + 3 ≤ length keys.old) }
+    requires { n + 3 ≤ length keys.old }
     ensures { ThreeTold little text.now at n keys.old result keys.new }
 {
     if !fits_in(at, 16, text.len()) {
@@ -66,25 +62,17 @@ fn three_keys(
 fn quick_keys(
     text: &[u8],
     from: usize,
-    values: &[u8],
+    values: &LetterValues,
     little: bool,
     first: usize,
     keys: &mut [i32],
 ) -> KeyRow
-    requires { values.now ≡ values_lent }
     ensures { Run (encoding_if little) text.now (bare_at from) first keys.old result.next result.count
         keys.new }
 {
     let mut at = from;
     let mut n = first;
-    while fits_in(n, 3, keys.len()) {
-        if !three_keys(text, at, values, little, n, keys) {
-            return KeyRow {
-                count: n,
-                next: place(at, 0, 0),
-                spare: 0,
-            };
-        }
+    while fits_in(n, 3, keys.len()) && three_keys(text, at, values, little, n, keys) {
         n += 3;
         at += 16;
     }
@@ -100,28 +88,20 @@ fn quick_run(
     text: &[u8],
     encoding: Encoding,
     from: KeyPlace,
-    values: &[u8],
+    values: &LetterValues,
     first: usize,
     keys: &mut [i32],
 ) -> KeyRow
-    requires { values.now ≡ values_lent }
     ensures { Run encoding text.now from first keys.old result.next result.count keys.new }
 {
-    if from.bytes != 0 {
-        return KeyRow {
-            count: first,
-            next: from,
-            spare: 0,
-        };
-    }
     match encoding {
-        Encoding::Plain => KeyRow {
+        Encoding::Big if from.bytes == 0 => quick_keys(text, from.at, values, false, first, keys),
+        Encoding::Little if from.bytes == 0 => quick_keys(text, from.at, values, true, first, keys),
+        _ => KeyRow {
             count: first,
             next: from,
             spare: 0,
         },
-        Encoding::Big => quick_keys(text, from.at, values, false, first, keys),
-        Encoding::Little => quick_keys(text, from.at, values, true, first, keys),
     }
 }
 
@@ -131,10 +111,9 @@ pub fn fill_from(
     text: &[u8],
     encoding: Encoding,
     from: KeyPlace,
-    values: &[u8],
+    values: &LetterValues,
     keys: &mut [i32],
 ) -> KeyRow
-    requires { values.now ≡ values_lent }
     ensures { RowTold encoding text.now from keys.old result keys.new }
 {
     let mut n = 0;

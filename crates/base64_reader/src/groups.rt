@@ -2,10 +2,10 @@
 ghost use Rattle.std.specs.Prelude.{◌≡◌, [], suc, ◌<◌, ◌≤◌};
 ghost use Rattle.nodes.specs.Texts.{says_at, left};
 ghost use Rattle.base64_text.specs.Base64.{unblanked, one_byte, two_bytes, four_ending};
-ghost use Rattle.base64_reader.specs.Groups.{bits_of, LastTold, FourTold, GroupTold, QuickGroup, values_lent};
+ghost use Rattle.base64_reader.specs.Groups.{bits_of, LastTold, FourTold, GroupTold, QuickGroup};
 
 use super::Group;
-use super::values::{next_letter, value_of};
+use super::values::{LetterValues, next_letter, value_of};
 
 // One byte in 24 bits, the others being 0.
 fn one_byte(bits: u64, at: usize) -> Group
@@ -30,13 +30,11 @@ fn two_bytes(bits: u64, at: usize) -> Group
 }
 
 // Three letters before the last `=`, with nothing behind it.
+#[tactic(auto, using(crate::proofs::Laws::Groups::lasting))]
 fn last_of(p: u64, q: u64, r: u64, at: usize) -> Group
     ensures { LastTold (four_ending p q r []) at result }
 {
-    if 64 <= p {
-        return Group::Bad;
-    }
-    if 64 <= q {
+    if 64 <= p || 64 <= q {
         return Group::Bad;
     }
     if r == 65 {
@@ -59,18 +57,15 @@ fn bits_of(p: u64, q: u64, r: u64, s: u64) -> u64
 }
 
 // Four letters by their values, `at` behind them.
+#[tactic(auto, using(crate::proofs::Laws::Groups::fours))]
 fn group_of(text: &[u8], p: u64, q: u64, r: u64, s: u64, at: usize) -> Group
     ensures { FourTold text.now p q r s at result }
 {
     if s == 65 {
-        match next_letter(text, at) {
-            Some((_, _)) => {
-                return Group::Bad;
-            }
-            None => {
-                return last_of(p, q, r, at);
-            }
-        }
+        return match next_letter(text, at) {
+            Some((_, _)) => Group::Bad,
+            None => last_of(p, q, r, at),
+        };
     }
     let bits = bits_of(p, q, r, s);
     if bits < 16777216 {
@@ -80,41 +75,39 @@ fn group_of(text: &[u8], p: u64, q: u64, r: u64, s: u64, at: usize) -> Group
 }
 
 // The next four letters, whatever stands between them.
-pub fn any_group(text: &[u8], at: usize, values: &[u8]) -> Group
-    requires { values.now ≡ values_lent }
+#[tactic(auto, using(crate::proofs::Laws::Groups::grouping))]
+pub fn any_group(text: &[u8], at: usize, values: &LetterValues) -> Group
     ensures { GroupTold text.now at result }
 {
-    match next_letter(text, at) {
-        Some((a, i)) => match next_letter(text, i) {
-            Some((b, j)) => match next_letter(text, j) {
-                Some((c, k)) => match next_letter(text, k) {
-                    Some((d, l)) => group_of(
-                        text,
-                        value_of(a, values),
-                        value_of(b, values),
-                        value_of(c, values),
-                        value_of(d, values),
-                        l,
-                    ),
-                    None => Group::Bad,
-                },
-                None => Group::Bad,
-            },
-            None => Group::Bad,
-        },
-        None => Group::End,
-    }
+    let Some((a, i)) = next_letter(text, at) else {
+        return Group::End;
+    };
+    let Some((b, j)) = next_letter(text, i) else {
+        return Group::Bad;
+    };
+    let Some((c, k)) = next_letter(text, j) else {
+        return Group::Bad;
+    };
+    let Some((d, l)) = next_letter(text, k) else {
+        return Group::Bad;
+    };
+    group_of(
+        text,
+        value_of(a, values),
+        value_of(b, values),
+        value_of(c, values),
+        value_of(d, values),
+        l,
+    )
 }
 
-// The 24 bits of four plain letters at `at`, those that stand in the text as they are; 16777216 where there are none.
-pub fn quick_bits(text: &[u8], at: usize, values: &[u8]) -> u64
-    requires { values.now ≡ values_lent }
+// The 24 bits of four plain letters at `at`, those that stand in the text as they are; 16777216 where there are none. A number, and no
+// Option: it is asked of every four letters of an array, and tests of a number are what LLVM joins.
+#[tactic(auto, using(crate::proofs::Laws::Quick::quickly))]
+pub fn quick_bits(text: &[u8], at: usize, values: &LetterValues) -> u64
     ensures { QuickGroup text.now at result }
 {
-    if text.len() < 4 {
-        return 16777216;
-    }
-    if text.len() - 4 < at {
+    if text.len() < 4 || text.len() - 4 < at {
         return 16777216;
     }
     bits_of(

@@ -14,9 +14,10 @@ ghost use Rattle.base64_text.specs.Base64.{coded};
 
 pub use groups::{any_group, quick_bits};
 use sixteen::sixteen_letters;
-pub use values::letter_values;
+pub use values::{LetterValues, letter_values};
 
-// One to three bytes as one number, how many they are, and the place behind their letters.
+// One to three bytes as one number, how many they are, and the place behind their letters. The end is no fault, so that there are three
+// answers, which neither Option nor Result says.
 #[derive(Clone, Copy)]
 pub enum Group {
     Bytes(u64, usize, usize),

@@ -12,6 +12,7 @@ fn is_letter(b: u8) -> bool
 }
 
 // Whether sixteen letters stand at `at`. All sixteen are looked at, so that a few instructions can do it.
+#[tactic(auto, using(crate::proofs::Laws::Sixteen::looking))]
 pub(crate) fn sixteen_letters(text: &[u8], at: usize) -> bool
     ensures { result ≡ sixteen_at text.now at }
 {
@@ -22,10 +23,8 @@ pub(crate) fn sixteen_letters(text: &[u8], at: usize) -> bool
         return false;
     }
     let mut good = true;
-    let mut k = 0;
-    while k < 16 {
+    for k in 0..16 {
         good = is_letter(text[at + k]) & good;
-        k += 1;
     }
     good
 }

@@ -7,39 +7,39 @@ use letters::classes::is_blank;
 use number_lists::chars::letter;
 
 // The next letter: blanks are passed over.
+#[tactic(auto, using(crate::proofs::Laws::Letters::passing))]
 pub(crate) fn next_letter(text: &[u8], at: usize) -> Option<(u8, usize)>
     ensures { LetterTold text.now at result }
 {
     let mut i = at;
     loop {
-        match letter(text, i) {
-            Some((b, j)) => {
-                i = j;
-                if !is_blank(b) {
-                    return Some((b, j));
-                }
-            }
-            None => {
-                return None;
-            }
+        let (b, j) = letter(text, i)?;
+        i = j;
+        if !is_blank(b) {
+            return Some((b, j));
         }
     }
 }
 
 // The value of each byte as a letter, 64 being `@` and 65 `A`: lent to whoever reads letters, since a table is laid out at each use.
-pub fn letter_values() -> [u8; 256]
-    ensures { result ≡ values_lent }
-{
-    *b"@@@@@@@@@@@@@@@@@@@@@@@@@@@@@@@@@@@@@@@@@@@>@@@?456789:;<=@@@A@@@\
+#[derive(Drop)]
+pub struct LetterValues {
+    table: [u8; 256],
+    ghost are_values: { table ≡ values_lent },
+}
+
+pub fn letter_values() -> LetterValues {
+    LetterValues {
+        table: *b"@@@@@@@@@@@@@@@@@@@@@@@@@@@@@@@@@@@@@@@@@@@>@@@?456789:;<=@@@A@@@\
       \x00\x01\x02\x03\x04\x05\x06\x07\x08\x09\x0a\x0b\x0c\x0d\x0e\x0f\x10\x11\x12\x13\x14\x15\x16\x17\x18\x19\
       @@@@@@\x1a\x1b\x1c\x1d\x1e\x1f !\"#$%&'()*+,-./0123@@@@@\
-      @@@@@@@@@@@@@@@@@@@@@@@@@@@@@@@@@@@@@@@@@@@@@@@@@@@@@@@@@@@@@@@@@@@@@@@@@@@@@@@@@@@@@@@@@@@@@@@@@@@@@@@@@@@@@@@@@@@@@@@@@@@@@@@@"
+      @@@@@@@@@@@@@@@@@@@@@@@@@@@@@@@@@@@@@@@@@@@@@@@@@@@@@@@@@@@@@@@@@@@@@@@@@@@@@@@@@@@@@@@@@@@@@@@@@@@@@@@@@@@@@@@@@@@@@@@@@@@@@@@@",
+    }
 }
 
 // The value of a letter; 65 for `=`, 64 for what is no letter.
-pub(crate) fn value_of(b: u8, values: &[u8]) -> u64
-    requires { values.now ≡ values_lent }
+pub(crate) fn value_of(b: u8, values: &LetterValues) -> u64
     ensures { result ≡ worth b }
 {
-    values[b as usize] as u64
+    values.table[b as usize] as u64
 }

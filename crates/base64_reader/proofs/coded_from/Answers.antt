@@ -22,9 +22,6 @@ loop-i-smaller-then-sixteen_letters c = coding_sixteen_less c.loop-i.invariant c
 pub loop-i-preserved-then-sixteen_letters : goal.loop-i-preserved-then-sixteen_letters
 loop-i-preserved-then-sixteen_letters c = search coding
 
-pub slice_bounds-quick_bits-end : goal.slice_bounds-quick_bits-end
-slice_bounds-quick_bits-end c = search coding
-
 pub quick_bits-requires : goal.quick_bits-requires
 quick_bits-requires c = search coding
 
@@ -36,9 +33,6 @@ loop-i-smaller-then-quick_bits-lt16777216 c = search coding
 
 pub loop-i-preserved-then-quick_bits-lt16777216 : goal.loop-i-preserved-then-quick_bits-lt16777216
 loop-i-preserved-then-quick_bits-lt16777216 c = search coding
-
-pub slice_bounds-any_group-end : goal.slice_bounds-any_group-end
-slice_bounds-any_group-end c = search coding
 
 pub any_group-requires : goal.any_group-requires
 any_group-requires c = search coding

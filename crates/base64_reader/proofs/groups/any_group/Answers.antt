@@ -1,44 +1,21 @@
-use Rattle.base64_reader.proofs.Laws.Groups.{grouping}
+use Rattle.base64_reader.proofs.Laws.Groups.{group_one, group_two, group_three, group_four}
 use Rattle.base64_reader.proofs.groups.any_group.Goals as goal
 
-pub next_letter-requires : goal.next_letter-requires
-next_letter-requires c = search grouping
+pub returns-in_default-next_letter : goal.returns-in_default-next_letter
+returns-in_default-next_letter c = group_one c.next_letter.ensures c.in-Some.is c.next_letter-2.ensures
+    c.in_default-next_letter.is
 
-pub next_letter-requires-in-Some : goal.next_letter-requires-in-Some
-next_letter-requires-in-Some c = search grouping
+pub returns-in_default-next_letter-2 : goal.returns-in_default-next_letter-2
+returns-in_default-next_letter-2 c = group_two c.next_letter.ensures c.in-Some.is c.next_letter-2.ensures
+    c.in-Some-next_letter.is c.next_letter-3.ensures c.in_default-next_letter-2.is
 
-pub next_letter-requires-in-Some-next_letter : goal.next_letter-requires-in-Some-next_letter
-next_letter-requires-in-Some-next_letter c = search grouping
+pub returns-in_default-next_letter-3 : goal.returns-in_default-next_letter-3
+returns-in_default-next_letter-3 c = group_three c.next_letter.ensures c.in-Some.is c.next_letter-2.ensures
+    c.in-Some-next_letter.is c.next_letter-3.ensures c.in-Some-next_letter-2.is c.next_letter-4.ensures
+    c.in_default-next_letter-3.is
 
-pub next_letter-requires-in-Some-next_letter-2 : goal.next_letter-requires-in-Some-next_letter-2
-next_letter-requires-in-Some-next_letter-2 c = search grouping
-
-pub value_of-requires : goal.value_of-requires
-value_of-requires c = search grouping
-
-pub value_of-requires-in-Some-next_letter-3 : goal.value_of-requires-in-Some-next_letter-3
-value_of-requires-in-Some-next_letter-3 c = search grouping
-
-pub value_of-requires-in-Some-next_letter-3-2 : goal.value_of-requires-in-Some-next_letter-3-2
-value_of-requires-in-Some-next_letter-3-2 c = search grouping
-
-pub value_of-requires-in-Some-next_letter-3-3 : goal.value_of-requires-in-Some-next_letter-3-3
-value_of-requires-in-Some-next_letter-3-3 c = search grouping
-
-pub group_of-requires : goal.group_of-requires
-group_of-requires c = search grouping
-
-pub returns-in-Some-next_letter-3 : goal.returns-in-Some-next_letter-3
-returns-in-Some-next_letter-3 c = search grouping
-
-pub returns-in-None-next_letter-3 : goal.returns-in-None-next_letter-3
-returns-in-None-next_letter-3 c = search grouping
-
-pub returns-in-None-next_letter-2 : goal.returns-in-None-next_letter-2
-returns-in-None-next_letter-2 c = search grouping
-
-pub returns-in-None-next_letter : goal.returns-in-None-next_letter
-returns-in-None-next_letter c = search grouping
-
-pub returns-in-None : goal.returns-in-None
-returns-in-None c = search grouping
+pub returns : goal.returns
+returns c = group_four c.next_letter.ensures c.in-Some.is c.next_letter-2.ensures
+    c.in-Some-next_letter.is c.next_letter-3.ensures c.in-Some-next_letter-2.is c.next_letter-4.ensures
+    c.in-Some-next_letter-3.is c.value_of.ensures c.value_of-2.ensures c.value_of-3.ensures c.value_of-4.ensures
+    c.group_of.ensures
