@@ -53,7 +53,12 @@ fn gathered(text: &[u8], from: KeyPlace, values: &LetterValues) -> KeyPlace
 }
 
 // The next key, its four bytes in either order.
-pub(crate) fn coded_next(text: &[u8], from: KeyPlace, values: &LetterValues, little: bool) -> NextKey
+pub(crate) fn coded_next(
+    text: &[u8],
+    from: KeyPlace,
+    values: &LetterValues,
+    little: bool,
+) -> NextKey
     ensures { KeyTold (encoding_if little) text.now from result }
 {
     let found = gathered(text, from, values);

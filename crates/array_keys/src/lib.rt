@@ -68,7 +68,12 @@ fn plain_next(text: &[u8], from: KeyPlace) -> NextKey
 }
 
 // The next key from a place on. The values of letters are lent, so that they are laid out once for all keys.
-pub(crate) fn key_next(text: &[u8], encoding: Encoding, from: KeyPlace, values: &LetterValues) -> NextKey
+pub(crate) fn key_next(
+    text: &[u8],
+    encoding: Encoding,
+    from: KeyPlace,
+    values: &LetterValues,
+) -> NextKey
     ensures { KeyTold encoding text.now from result }
 {
     match encoding {

@@ -59,6 +59,7 @@ fn three_keys(
 }
 
 // Three keys at a time from the letters at `from` on, behind the first keys of the slice, while there are plain letters and room.
+#[tactic(auto, using(crate::proofs::Laws::Rows::quickening))]
 fn quick_keys(
     text: &[u8],
     from: usize,

@@ -279,20 +279,20 @@ module _ (t : Bool) {text : List ℕ} {from first : ℕ} {s₀ : List ℤ} where
     quick_full e = rw e go
 
     module _ {r : Bool} {s₁ : List ℤ} (k : ThreeTold t text at n s r s₁) where
-      pub quick_stop : not r ≡ true → {p : KeyPlace} → p ≡ record { at = at; held = 0; bytes = 0 }
+      pub quick_stop : r ≡ false → {p : KeyPlace} → p ≡ record { at = at; held = 0; bytes = 0 }
           → Run (encoding_if t) text (bare_at from) first s₀ p n s₁
-      quick_stop h e = rw (e, k.none (not-true r h)) go
+      quick_stop h e = rw (e, k.none h) go
 
-      pub quick_more : not r ≡ false → Run (encoding_if t) text (bare_at from) first s₀ (bare_at (at + 16)) (n + 3) s₁
-      quick_more h = run_on go (k.run (not-false r h))
+      pub quick_more : r ≡ true → Run (encoding_if t) text (bare_at from) first s₀ (bare_at (at + 16)) (n + 3) s₁
+      quick_more h = run_on go (k.run h)
 
-module _ {t : Bool} {text : List ℕ} {at n : ℕ} {s s₁ : List ℤ} {r : Bool} (k : ThreeTold t text at n s r s₁) (h : not r ≡ false) where
+module _ {t : Bool} {text : List ℕ} {at n : ℕ} {s s₁ : List ℤ} {r : Bool} (k : ThreeTold t text at n s r s₁) (h : r ≡ true) where
   pub quick_inside : at + 16 ≤ length text
-  quick_inside = k.inside (not-false r h)
+  quick_inside = k.inside h
 
   pub quick_less : left text (at + 16) < left text at
   unfolding keys_left
-  quick_less = omega (arith, (k.run (not-false r h)).fewer)
+  quick_less = omega (arith, (k.run h).fewer)
 
 pub ruleset quickening = (room_there, quick_start, quick_full, quick_stop, quick_more, quick_less, rules)
 

@@ -16,20 +16,11 @@ loop-bytes-preserved-then-bits-lt16777216 c = gather_quick c.loop-bytes.invarian
 pub more_held-held-requires : goal.more_held-held-requires
 more_held-held-requires c = search gathering
 
-pub overflow_add-bytes-in-Bytes : goal.overflow_add-bytes-in-Bytes
-overflow_add-bytes-in-Bytes c = search gathering
-
 pub loop-bytes-smaller : goal.loop-bytes-smaller
 loop-bytes-smaller c = search gathering
 
 pub loop-bytes-preserved : goal.loop-bytes-preserved
 loop-bytes-preserved c = search gathering
-
-pub returns-in-End : goal.returns-in-End
-returns-in-End c = search gathering
-
-pub returns-in-Bad : goal.returns-in-Bad
-returns-in-Bad c = search gathering
 
 pub returns : goal.returns
 returns c = search gathering
@@ -58,17 +49,14 @@ any_group-requires c = search gathering
 pub enum_known-v : goal.enum_known-v
 enum_known-v c = search gathering
 
-pub enum_told-1 : goal.enum_told-1
-enum_told-1 c = search gathering
-
 pub place-requires : goal.place-requires
 place-requires c = search gathering
 
-pub enum_told-in-Bad : goal.enum_told-in-Bad
-enum_told-in-Bad c = search gathering
-
-pub place-requires-in-Bad : goal.place-requires-in-Bad
-place-requires-in-Bad c = search gathering
-
 pub place-requires-2 : goal.place-requires-2
 place-requires-2 c = search gathering
+
+pub returns-in_default : goal.returns-in_default
+returns-in_default c = search gathering
+
+pub overflow_add-bytes-else-bits-lt16777216 : goal.overflow_add-bytes-else-bits-lt16777216
+overflow_add-bytes-else-bits-lt16777216 c = search gathering

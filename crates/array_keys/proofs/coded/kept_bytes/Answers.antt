@@ -4,5 +4,5 @@ use Rattle.array_keys.proofs.coded.kept_bytes.Goals as goal
 pub returns-then-bytes-lt4 : goal.returns-then-bytes-lt4
 returns-then-bytes-lt4 c = search keeping
 
-pub returns : goal.returns
-returns c = search keeping
+pub returns-else-bytes-lt4 : goal.returns-else-bytes-lt4
+returns-else-bytes-lt4 c = search keeping

@@ -4,14 +4,8 @@ use Rattle.array_keys.proofs.fours.key_of.Goals as goal
 pub twos_of-requires : goal.twos_of-requires
 twos_of-requires c = search keying
 
-pub returns-then-little : goal.returns-then-little
-returns-then-little c = search keying
-
 pub returns : goal.returns
 returns c = search keying
 
 pub turned-requires : goal.turned-requires
 turned-requires c = search keying
-
-pub twos_of-requires-2 : goal.twos_of-requires-2
-twos_of-requires-2 c = search keying

@@ -1,26 +1,14 @@
 use Rattle.array_keys.proofs.Laws.Rows.{running}
 use Rattle.array_keys.proofs.rows.quick_run.Goals as goal
 
-pub returns-then-from-ne0 : goal.returns-then-from-ne0
-returns-then-from-ne0 c = search running
-
 pub enum_told-1 : goal.enum_told-1
 enum_told-1 c = search running
-
-pub enum_told-in-Big : goal.enum_told-in-Big
-enum_told-in-Big c = search running
 
 pub quick_keys-requires : goal.quick_keys-requires
 quick_keys-requires c = search running
 
-pub enum_told-in-Little : goal.enum_told-in-Little
-enum_told-in-Little c = search running
-
 pub quick_keys-requires-in-Little : goal.quick_keys-requires-in-Little
 quick_keys-requires-in-Little c = search running
-
-pub returns-in-Plain : goal.returns-in-Plain
-returns-in-Plain c = search running
 
 pub shape_of-keys-in-Big : goal.shape_of-keys-in-Big
 shape_of-keys-in-Big c = search running
