@@ -3,7 +3,6 @@ ghost use Rattle.std.specs.Prelude.{◌≡◌, ◌+◌, ◌<◌, drop};
 ghost use Rattle.nodes.specs.Values.{value_there, tells};
 ghost use Rattle.schema.specs.Words.{number_in};
 ghost use Rattle.schema.specs.Table.{words_from, rests_from, words_at};
-ghost use Rattle.schema.specs.Asked.{WordsNamed};
 
 use crate::table;
 use inside::values::{begins, quote_at, rest_is};
@@ -18,18 +17,15 @@ fn rest_place(
     from: usize,
     to: usize,
 ) -> usize
-    requires { to < 4294967296 }
     ensures { result ≡ from + number_in (rests_from table.now letters.now from to)
         (tells quote (drop at text.now)) }
 {
-    let mut i = from;
-    while i < to {
+    for i in from..to {
         if rest_is(text, at, quote, table::word(table, letters, i)) {
             return i;
         }
-        i += 1;
     }
-    i
+    from.max(to)
 }
 
 // The first of the words from `from` up to `to`, behind their front part, that is the value at `v`, or `to`.
@@ -42,20 +38,12 @@ pub fn word_place(
     from: usize,
     to: usize,
 ) -> usize
-    requires { WordsNamed to front }
     ensures { result ≡ from + number_in (words_from table.now letters.now front from to)
         (value_there text.now v) }
 {
     match begins(text, v, table::front(table, letters, front)) {
-        Some(i) => {
-            return rest_place(text, i, quote_at(text, v), table, letters, from, to);
-        }
-        None => {
-            if from < to {
-                return to;
-            }
-            return from;
-        }
+        Some(i) => rest_place(text, i, quote_at(text, v), table, letters, from, to),
+        None => from.max(to),
     }
 }
 

@@ -16,9 +16,6 @@ equal-requires c = search searching_entries
 pub returns-then-equal : goal.returns-then-equal
 returns-then-equal c = search searching_entries
 
-pub overflow_add-i : goal.overflow_add-i
-overflow_add-i c = search searching_entries
-
 pub loop-i-smaller : goal.loop-i-smaller
 loop-i-smaller c = search searching_entries
 

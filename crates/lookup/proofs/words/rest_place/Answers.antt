@@ -13,12 +13,6 @@ rest_is-requires c = search searching_words
 pub returns-then-rest_is : goal.returns-then-rest_is
 returns-then-rest_is c = search searching_words
 
-pub overflow_add-i : goal.overflow_add-i
-overflow_add-i c = search searching_words
-
-pub loop-i-smaller : goal.loop-i-smaller
-loop-i-smaller c = search searching_words
-
 pub loop-i-preserved : goal.loop-i-preserved
 loop-i-preserved c = search searching_words
 
