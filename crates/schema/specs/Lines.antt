@@ -1,5 +1,5 @@
 -- The lines of children, as the code goes by them.
-use Rattle.std.specs.Prelude.{◌≡◌, List, Bool, true, cond, ℕ, zero, suc, ◌<◌, leb, ltb, Option, Some, None}
+use Rattle.std.specs.Prelude.{◌≡◌, List, Bool, true, cond, ℕ, zero, suc, ◌<◌, leb, Option, Some, None}
 use Prim.Native.String.{String}
 use Rattle.lists.specs.Lists.{count_up}
 use Rattle.grammar.specs.Document.{Element}
@@ -8,14 +8,15 @@ use Rattle.schema.specs.Schema.{ChildRow, kind_chosen, kind_of, or_else, row_pla
 use Rattle.schema.specs.Words.{number_in}
 use Rattle.schema.specs.Table.{word_at, entry_word, choice_cell, cases_of, order_at, lines_of_kind}
 
--- a kind by number; 2^32 and above are none
-unfoldable pub kind_or_none : ℕ → Option ℕ
-kind_or_none k = cond (ltb k 4294967296) (Some k) None
+-- a kind, or none; a kind is such as a table can name
+pub record KindRead (r o : Option ℕ) : Type 0 where
+  pub same : r ≡ o
+  pub small : {k : ℕ} → r ≡ Some k → k < 4294967296
 
--- the number of a kind, or of none, at a line; where it is one, the line is one of the lines before `to`
-pub record KindFor (c line to : ℕ) (o : Option ℕ) : Type 0 where
-  pub is_kind : kind_or_none c ≡ o
-  pub inside : c < 4294967296 → line < to
+-- the kind at a line, or none; where it is one, the line is one of the lines before `to`
+pub record KindFor (r : Option ℕ) (line to : ℕ) (o : Option ℕ) : Type 0 where
+  pub read : KindRead r o
+  pub inside : {k : ℕ} → r ≡ Some k → line < to
 
 -- a kind, or else another: none, or one by its number and 1
 unfoldable pub else_by : (other : ℕ) → Option ℕ → Option ℕ

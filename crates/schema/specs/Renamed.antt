@@ -1,5 +1,4 @@
 -- Rows over other names of kinds: each kind by the name that it has there.
-use mathlib.Core.List.{List, ◌∷◌}
 use Rattle.lists.specs.Lists.{each}
 use Rattle.schema.specs.Schema.{Case, ◌⇒◌, Which, always, chosen, chosen_else, ChildRow, child, Row, branch, leaf}
 

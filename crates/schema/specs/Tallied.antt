@@ -1,10 +1,10 @@
 -- How often lines are met, as the code counts.
-use Rattle.std.specs.Prelude.{◌≡◌, List, Bool, true, ◌||◌, cond, ℕ, ◌+◌, ◌-◌, ◌<◌, ◌≤◌, eqb, leb, get_or, length}
+use Rattle.std.specs.Prelude.{◌≡◌, List, Bool, true, ◌||◌, cond, ℕ, ◌+◌, ◌-◌, ◌<◌, ◌≤◌, eqb, leb, get_or, length, Option, Some, None}
 use Rattle.lists.specs.Lists.{all, count_up}
 use Rattle.grammar.specs.Document.{Element}
 use Rattle.grammar.specs.Look.{Word, is, name_of}
 use Rattle.schema.specs.Schema.{row_place, below}
-use Rattle.schema.specs.Lines.{kind_or_none, kind_next, line_name}
+use Rattle.schema.specs.Lines.{kind_next, line_name}
 use Rattle.schema.specs.Table.{line_cell, lines_of_kind, watched_word}
 use Rattle.schema.specs.declared.Tally.{Tally}
 
@@ -39,14 +39,19 @@ module _ (t l : List ℕ) where
     pub seen_is : b.seen ≡ (a.seen || watched_name name)
     pub met_is : b.met ≡ a.met
 
-  -- and its place and kind noted
-  pub record Counts (name : Word) (from line to kind : ℕ) (a b : Tally) : Type 0 where
+  -- and its place noted
+  pub record Counts (name : Word) (from line to : ℕ) (a b : Tally) : Type 0 where
     pub more : OneMore name from to a b
     pub place_is : b.place ≡ line - from
-    pub kind_is : b.kind ≡ kind
 
-  -- the kind of a child, or that it has none; where it has one, it is counted
-  pub record Meets (kind from to : ℕ) (e : Element) (a b : Tally) : Type 0 where
-    pub kind_is : kind_or_none b.kind ≡ kind_next t l kind a.place e
-    pub more : b.kind < 4294967296 → OneMore (name_of e) from to a b
-    pub place_is : b.kind < 4294967296 → b.place ≡ row_place (lines_of_kind t l kind) e
+  -- a child of a kind is counted
+  pub record Joins (kind from to : ℕ) (e : Element) (a : Tally) (k : ℕ) (b : Tally) : Type 0 where
+    pub kind_is : kind_next t l kind a.place e ≡ Some k
+    pub small : k < 4294967296
+    pub more : OneMore (name_of e) from to a b
+    pub place_is : b.place ≡ row_place (lines_of_kind t l kind) e
+
+  -- the kind of a child, and the tally with it; or it has none
+  pub record Meets (kind from to : ℕ) (e : Element) (a : Tally) (r : Option (ℕ × Tally)) : Type 0 where
+    pub joins : {k : ℕ} {b : Tally} → r ≡ Some (k, b) → Joins kind from to e a k b
+    pub none : r ≡ None → kind_next t l kind a.place e ≡ None

@@ -2,13 +2,12 @@
 // a table says. Definitions and theorems, and the types that the walk passes on; no functions.
 #![tactic(auto)]
 
-// How often each line of a kind was met so far; the place of the line met last, and the kind that it gave;
-// whether the watched name was seen, and whether it was met below a child.
+// How often each line of a kind was met so far, and the place of the line met last; whether the watched name was seen, and whether it
+// was met below a child.
 #[derive(Clone, Copy)]
 pub struct Tally {
     pub counts: [u64; 8],
     pub place: usize,
-    pub kind: usize,
     pub seen: bool,
     pub met: bool,
 }

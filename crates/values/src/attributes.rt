@@ -27,21 +27,15 @@ fn seek(text: &[u8], at: usize, i: usize, name: &[u8]) -> Sought
     requires { TagGoesOn text.now at i }
     ensures { AttributePlaced text.now at i name.now result.place result.at }
 {
-    match key_at(text, i) {
-        Some(Key { from, to, end }) => {
-            if equal(&text[from..to], name) {
-                match value_end(text, end) {
-                    Some(j) => {
-                        return Sought {
-                            place: Some(end),
-                            at: j,
-                        };
-                    }
-                    None => {}
-                }
+    if let Some(Key { from, to, end }) = key_at(text, i) {
+        if equal(&text[from..to], name) {
+            if let Some(j) = value_end(text, end) {
+                return Sought {
+                    place: Some(end),
+                    at: j,
+                };
             }
         }
-        None => {}
     }
     Sought {
         place: inside::attributes::attribute(text, at, name),
@@ -49,7 +43,7 @@ fn seek(text: &[u8], at: usize, i: usize, name: &[u8]) -> Sought
     }
 }
 
-// A fault of attributes, and a place in the tag: those before it are of the row.
+// A fault of attributes, and a place in the tag: those before it are of the row. The place stands beside every fault, so this is no Result.
 #[derive(Clone, Copy)]
 pub(crate) struct Walk {
     pub(crate) fault: u8,
@@ -70,28 +64,12 @@ fn attribute_fault(
 {
     let w = table::attribute_cell(table, a, 0);
     let here = seek(text, at, i, table::word(table, letters, w));
-    let place = here.place;
-    match place {
-        Some(v) => {
-            let form = table::attribute_cell(table, a, 1);
-            Walk {
-                fault: value_fault(text, v, table, letters, form),
-                at: here.at,
-            }
-        }
-        None => {
-            if table::attribute_cell(table, a, 2) == 0 {
-                return Walk {
-                    fault: 6,
-                    at: here.at,
-                };
-            }
-            Walk {
-                fault: 0,
-                at: here.at,
-            }
-        }
-    }
+    let fault = match here.place {
+        Some(v) => value_fault(text, v, table, letters, table::attribute_cell(table, a, 1)),
+        None if table::attribute_cell(table, a, 2) == 0 => 6,
+        None => 0,
+    };
+    Walk { fault, at: here.at }
 }
 
 // Where the attributes of the tag at `at` begin.
@@ -120,13 +98,11 @@ pub(crate) fn attributes_fault(
 {
     let to = table::kind_cell(table, kind, 1);
     let mut worst = 0;
-    let mut w = table::kind_cell(table, kind, 0);
     let mut i = attributes_from(text, at);
-    while w < to {
+    for w in table::kind_cell(table, kind, 0)..to {
         let next = attribute_fault(text, at, table, letters, w, i);
         worst = sooner(worst, next.fault);
         i = next.at;
-        w += 1;
     }
     Walk {
         fault: worst,
@@ -142,7 +118,8 @@ fn name_listed(name: &[u8], table: &[u32], letters: &[u8], from: usize, to: usiz
     table::attribute_named(name, table, letters, from, to) < to
 }
 
-// Whether every attribute is listed, and a place in the tag: up to it they were passed.
+// Whether every attribute is listed, and a place in the tag: up to it they were passed. Both answers have a place, so a Result would say it
+// twice.
 #[derive(Clone, Copy)]
 pub(crate) struct Listed {
     pub(crate) right: bool,
@@ -164,33 +141,19 @@ pub(crate) fn listed_from(
 {
     let mut i = at;
     while !tag_ends(text, i) {
-        match key_at(text, i) {
-            Some(
-                Key {
-                    from: f,
-                    to: e,
-                    end,
-                },
-            ) => {
-                if !name_listed(&text[f..e], table, letters, from, to) {
-                    return Listed {
-                        right: false,
-                        at: i,
-                    };
-                }
-                match value_end(text, end) {
-                    Some(j) => {
-                        i = j;
-                    }
-                    None => {
-                        return Listed { right: true, at: i };
-                    }
-                }
-            }
-            None => {
-                return Listed { right: true, at: i };
-            }
+        let Some(key) = key_at(text, i) else {
+            return Listed { right: true, at: i };
+        };
+        if !name_listed(&text[key.from..key.to], table, letters, from, to) {
+            return Listed {
+                right: false,
+                at: i,
+            };
         }
+        let Some(j) = value_end(text, key.end) else {
+            return Listed { right: true, at: i };
+        };
+        i = j;
     }
     Listed { right: true, at: i }
 }

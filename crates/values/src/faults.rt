@@ -1,4 +1,4 @@
-// Faults as numbers.
+// Faults as numbers: those of the conditions, as Checked tells them, of which the smallest is told. So they are numbers, and no enum.
 ghost use Rattle.std.specs.Prelude.{◌≡◌};
 ghost use Rattle.schema.specs.Faults.{sooner as soonerOf};
 

@@ -9,16 +9,15 @@ ghost use Rattle.schema.specs.Asked.{Known};
 use lookup::table;
 
 // The text lists keys of a form: as numbers, or as Base64.
+#[tactic(auto, using(schema::proofs::Laws::Values::keying))]
 fn keys_by(text: &[u8], at: usize, form: usize) -> bool
     ensures { result ≡ keys_by_form form (text_of_lem text.now at) }
 {
-    if form == 3 {
-        return keys::are_keys(text, at);
+    match form {
+        3 => keys::are_keys(text, at),
+        4 => base64_reader::are_coded(text, at),
+        _ => true,
     }
-    if form == 4 {
-        return base64_reader::are_coded(text, at);
-    }
-    true
 }
 
 // The text is numbers of its form.
@@ -29,14 +28,11 @@ fn text_right(text: &[u8], at: usize, table: &[u32], form: usize) -> bool
     if form == 0 {
         return true;
     }
-    let what = table::form_cell(table, form - 1, 0);
-    if what == 1 {
-        return forms::are_sixteen(text, at);
+    match table::form_cell(table, form - 1, 0) {
+        1 => forms::are_sixteen(text, at),
+        2 => forms::are_wholes(text, at, table::form_cell(table, form - 1, 1) as u64),
+        what => keys_by(text, at, what),
     }
-    if what == 2 {
-        return forms::are_wholes(text, at, table::form_cell(table, form - 1, 1) as u64);
-    }
-    keys_by(text, at, what)
 }
 
 // The fault of the numbers in the text of the element at `at`; that other text is blank, the walk sees.
@@ -45,7 +41,8 @@ pub(crate) fn text_fault(text: &[u8], at: usize, table: &[u32], form: usize) -> 
     ensures { result ≡ text_fault table.now form (text_of (the text.now at)) }
 {
     if text_right(text, at, table, form) {
-        return 0;
+        0
+    } else {
+        7
     }
-    7
 }

@@ -12,48 +12,39 @@ fn word_right(text: &[u8], v: usize, table: &[u32], letters: &[u8], form: usize)
     requires { form < 4294967296 }
     ensures { result ≡ is_word (form_at table.now letters.now form) (value_there text.now v) }
 {
-    if table::form_cell(table, form, 0) == 1 {
-        let from = table::form_cell(table, form, 1);
-        let to = table::form_cell(table, form, 2);
-        let front = table::form_cell(table, form, 3);
-        return words::word_place(text, v, table, letters, front, from, to) < to;
+    if table::form_cell(table, form, 0) != 1 {
+        return true;
     }
-    true
+    let from = table::form_cell(table, form, 1);
+    let to = table::form_cell(table, form, 2);
+    let front = table::form_cell(table, form, 3);
+    words::word_place(text, v, table, letters, front, from, to) < to
 }
 
 // The value is a number of a label, of a form.
+#[tactic(auto, using(schema::proofs::Laws::Values::labelling))]
 fn label_by(text: &[u8], v: usize, form: usize) -> bool
     ensures { result ≡ label_by_form form (value_there text.now v) }
 {
-    if form == 7 {
-        return keys::is_key(text, v);
+    match form {
+        7 => keys::is_key(text, v),
+        8 => keys::is_colour(text, v),
+        _ => true,
     }
-    if form == 8 {
-        return keys::is_colour(text, v);
-    }
-    true
 }
 
 // The value is a number or numbers of a form with these limits.
 fn number_by(text: &[u8], v: usize, form: usize, a: usize, b: usize, c: usize) -> bool
     ensures { result ≡ number_by form a b c (value_there text.now v) }
 {
-    if form == 2 {
-        return forms::is_dimension_list(text, v);
+    match form {
+        2 => forms::is_dimension_list(text, v),
+        3 => forms::is_whole(text, v, a as u64, b as u64),
+        4 => forms::is_decimal(text, v),
+        5 => forms::is_exponent(text, v, a as u64),
+        6 => forms::are_lengths(text, v, a as u64, b as u64, c as u64),
+        _ => label_by(text, v, form),
     }
-    if form == 3 {
-        return forms::is_whole(text, v, a as u64, b as u64);
-    }
-    if form == 4 {
-        return forms::is_decimal(text, v);
-    }
-    if form == 5 {
-        return forms::is_exponent(text, v, a as u64);
-    }
-    if form == 6 {
-        return forms::are_lengths(text, v, a as u64, b as u64, c as u64);
-    }
-    label_by(text, v, form)
 }
 
 // The value is a number or numbers of its form; those of labels have no limits.

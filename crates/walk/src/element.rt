@@ -29,8 +29,8 @@ fn finished(table: &[u32], from: usize, to: usize, tally: Tally, worst: u8, behi
     if tally::times_right(table, from, to, tally) {
         return Walked {
             fault: worst,
-            behind: behind,
-            holds: (tally.seen) | (tally.met),
+            behind,
+            holds: tally.seen | tally.met,
         };
     }
     refused()
@@ -49,7 +49,6 @@ pub(crate) fn fault(text: &[u8], at: usize, table: &[u32], letters: &[u8], kind:
     let mut tally = Tally {
         counts: [0; 8],
         place: 0,
-        kind: 0,
         seen: false,
         met: false,
     };
@@ -57,16 +56,18 @@ pub(crate) fn fault(text: &[u8], at: usize, table: &[u32], letters: &[u8], kind:
     loop {
         match next {
             Ahead::Child(k) => {
-                tally = tally::child(text, k, table, letters, kind, from, to, tally);
-                if 4294967296 <= tally.kind {
+                let Some((inner, more)) =
+                    tally::child(text, k, table, letters, kind, from, to, tally)
+                else {
                     return refused();
-                }
-                let walked = fault(text, k, table, letters, tally.kind);
+                };
+                let walked = fault(text, k, table, letters, inner);
                 worst = values::faults::sooner(worst, walked.fault);
                 if worst == 6 {
                     return refused();
                 }
-                tally.met = (tally.met) | (walked.holds);
+                tally = more;
+                tally.met |= walked.holds;
                 next = elements::ahead::ahead_from(text, walked.behind, words);
             }
             Ahead::End(behind) => {

@@ -19,16 +19,11 @@ fn of_document(text: &[u8], table: &[u32], letters: &[u8], kind: usize) -> Check
     ensures { ChecksRoot table.now letters.now kind text.now result }
 {
     match root_of(text) {
-        Some(r) => {
-            let walked = element::fault(text, r, table, letters, kind);
-            return Checked {
-                number: walked.fault,
-                root: r,
-            };
-        }
-        None => {
-            return Checked { number: 3, root: 0 };
-        }
+        Some(root) => Checked {
+            number: element::fault(text, root, table, letters, kind).fault,
+            root,
+        },
+        None => Checked { number: 3, root: 0 },
     }
 }
 

@@ -17,10 +17,7 @@ fn here(name: &[u8], table: &[u32], letters: &[u8], line: usize, i: usize) -> u6
         return 1;
     }
     let w = table::line_cell(table, i, 0);
-    if equal(name, table::word(table, letters, w)) {
-        return 1;
-    }
-    0
+    if equal(name, table::word(table, letters, w)) { 1 } else { 0 }
 }
 
 fn is_watched(name: &[u8], table: &[u32], letters: &[u8]) -> bool
@@ -30,7 +27,7 @@ fn is_watched(name: &[u8], table: &[u32], letters: &[u8]) -> bool
     equal(name, table::word(table, letters, w))
 }
 
-// One more child, of this name and kind, of which `line` is the first with the name.
+// One more child, of this name, of which `line` is the first with the name.
 fn counted(
     name: &[u8],
     table: &[u32],
@@ -38,26 +35,21 @@ fn counted(
     from: usize,
     line: usize,
     to: usize,
-    kind: usize,
     tally: Tally,
 ) -> Tally
     requires { Counting table.now letters.now name.now from line to tally.counts }
-    ensures { Counts table.now letters.now name.now from line to kind tally result }
+    ensures { Counts table.now letters.now name.now from line to tally result }
 {
     let mut more = tally;
-    let mut i = line;
-    while i < to {
-        more.counts[i - from] = more.counts[i - from] + here(name, table, letters, line, i);
-        i += 1;
+    for i in line..to {
+        more.counts[i - from] += here(name, table, letters, line, i);
     }
-    let seen = is_watched(name, table, letters);
     more.place = line - from;
-    more.kind = kind;
-    more.seen = (more.seen) | (seen);
+    more.seen |= is_watched(name, table, letters);
     more
 }
 
-// The child at `at` of a parent of this kind: its kind, or that it has none; where it has one, it is counted.
+// The child at `at` of a parent of this kind: its kind, if it has one, and the tally with it.
 pub(crate) fn child(
     text: &[u8],
     at: usize,
@@ -67,41 +59,28 @@ pub(crate) fn child(
     from: usize,
     to: usize,
     tally: Tally,
-) -> Tally
+) -> Option<(usize, Tally)>
     requires { Tallying table.now text.now at kind from to tally.counts }
     ensures { Meets table.now letters.now kind from to (the text.now at) tally result }
 {
     let name = lines::name(text, at);
     let line = table::line_named(name, table, letters, from, to);
-    let inner = lines::child_kind(text, at, table, letters, kind, from, line, to, tally.place);
-    if inner < 4294967296 {
-        return counted(name, table, letters, from, line, to, inner, tally);
-    }
-    let mut none = tally;
-    none.kind = inner;
-    none
+    let inner = lines::child_kind(text, at, table, letters, kind, from, line, to, tally.place)?;
+    Some((inner, counted(name, table, letters, from, line, to, tally)))
 }
 
 // So many children are as many as may be.
 fn stands_so(times: usize, n: u64, met: bool) -> bool
     ensures { result ≡ stands_by times n met }
 {
-    if times == 0 {
-        return n == 1;
+    match times {
+        0 => n == 1,
+        1 => n <= 1,
+        2 => true,
+        3 => 1 <= n,
+        _ if met => n == 1,
+        _ => n <= 1,
     }
-    if times == 1 {
-        return n <= 1;
-    }
-    if times == 2 {
-        return true;
-    }
-    if times == 3 {
-        return 1 <= n;
-    }
-    if met {
-        return n == 1;
-    }
-    n <= 1
 }
 
 // Each line was met as often as it says.
@@ -109,13 +88,11 @@ pub(crate) fn times_right(table: &[u32], from: usize, to: usize, tally: Tally) -
     requires { Timed from to }
     ensures { result ≡ times_by table.now from to tally.counts tally.met }
 {
-    let mut i = from;
-    while i < to {
+    for i in from..to {
         let times = table::line_cell(table, i, 1);
         if !stands_so(times, tally.counts[i - from], tally.met) {
             return false;
         }
-        i += 1;
     }
     true
 }

@@ -1,5 +1,5 @@
 -- The numbers of a table where a place is capped at the greatest number, which is past every table.
-use Rattle.std.specs.Prelude.{◌≡◌, List, [], ℕ, ◌+◌, ◌-◌, ◌*◌, ◌<◌, ◌≤◌, get_or, length, min, max, take, drop, Option, Some, None}
+use Rattle.std.specs.Prelude.{◌≡◌, List, [], ℕ, ◌+◌, ◌*◌, ◌<◌, ◌≤◌, get_or, length, min, max, Option, Some, None}
 use Rattle.std.proofs.Math.Path.{refl, sym, ap}
 use Rattle.std.proofs.Common.{◌∙◌, rules}
 use native.Mathlib.Omega.{arith}
@@ -7,7 +7,6 @@ use Rattle.std.proofs.Math.Decide.{dec_lt, dec_le}
 use Rattle.std.proofs.Math.Nat.{min-le_left, min-eq_left, min-eq_right, max-eq_left, max-eq_right}
 use Rattle.std.proofs.Math.ListN.{get_or-eq_default}
 use denote.Ref.{Bor}
-use Rattle.std.specs.Prelude.{◌⊎◌}
 use Rattle.std.proofs.Common.{⊎_elim}
 use Rattle.std.specs.Option.{unwrap_or}
 use Rattle.std.specs.List.{PartBy}

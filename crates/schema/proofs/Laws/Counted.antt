@@ -99,7 +99,7 @@ module _ {t l : List ℕ} {kind from to : ℕ} {y : Tally} {es rest : List Eleme
   pub counted_on : in_turn (order_at t kind) y.place (row_place (lines_of_kind t l kind) e) ≡ true → {z : Tally}
       → OneMore t l (name_of e) from to y z → z.place ≡ row_place (lines_of_kind t l kind) e
       → {b : Bool} → b ≡ holding t l e
-      → Counted t l kind from to (record { counts = z.counts; place = z.place; kind = z.kind; seen = z.seen; met = z.met || b }) es
+      → Counted t l kind from to (record { counts = z.counts; place = z.place; seen = z.seen; met = z.met || b }) es
       rest
   unfolding count any here_one named_line watched_name called
   counted_on h {z} m q {b} hb = record {

@@ -28,7 +28,10 @@ use Rattle.nodes.proofs.Laws.Names.{part_is}
 use Rattle.schema.specs.Words.{number_in}
 use Rattle.schema.specs.Table.{word_at, entry_word, line_cell, choice_cell, case_cell, case_at, cases_of, choice_by, line_at, lines_of_kind}
 use Rattle.schema.specs.Table.{order_at, kind_cell, which_at, which_by}
-use Rattle.schema.specs.Lines.{KindFor, kind_or_none, else_by, in_turn, line_place, kind_next}
+use Rattle.schema.specs.Lines.{KindRead, KindFor, else_by, in_turn, line_place, kind_next}
+use Rattle.std.specs.Option.{SomeIff, option_or}
+use Rattle.std.proofs.lemmas.Option.{same_Some}
+use Rattle.lists.proofs.Laws.Booleans.{never_some}
 use Rattle.schema.specs.Asked.{Known, TurnAsked, Lined}
 use Rattle.schema.proofs.Laws.Asked.{known_small}
 use Rattle.schema.proofs.Laws.Searches.{less_suc}
@@ -105,13 +108,14 @@ module _ (f : ℕ → String) (w : Word) where
           rw z (g (omega arith))
 
 -- A CHOSEN KIND
-pub kind_some : (c : ℕ) → c < 4294967296 → kind_or_none c ≡ Some c
-unfolding kind_or_none
-kind_some c h = rw (lt-ltb c 4294967296 h)
+kind_some : {o : Option ℕ} {c : ℕ} → Some c ≡ o → c < 4294967296 → KindRead (Some c) o
+kind_some h u = record { same = h; small = λ e. (let z = same_Some _ _ e in rw z at u) }
 
-pub kind_none : (c : ℕ) → 4294967296 ≤ c → kind_or_none c ≡ None
-unfolding kind_or_none
-kind_none c h = rw (le-ltb c 4294967296 h)
+kind_none : {o : Option ℕ} → None ≡ o → KindRead None o
+kind_none h = record { same = h; small = λ e. never_some e }
+
+reread : {r o p : Option ℕ} → KindRead r o → o ≡ p → KindRead r p
+reread k e = record { same = k.same ∙ e; small = k.small }
 
 pub record Choosing (t l : List ℕ) (x : Word) (from to i : ℕ) : Type 0 where
   pub same_kind : kind_among (count_up (case_at t l) from (to - from)) x ≡ kind_among (count_up (case_at t l) i (to - i)) x
@@ -120,9 +124,9 @@ pub choosing_start : (t l : List ℕ) (x : Word) (from to : ℕ) → Choosing t 
 choosing_start t l x from to = record { same_kind = refl }
 
 module _ {t l : List ℕ} {x : Word} {from to i : ℕ} (go : Choosing t l x from to i) where
-  pub choosing_end : to ≤ i → kind_or_none 4294967296 ≡ kind_among (count_up (case_at t l) from (to - from)) x
+  pub choosing_end : to ≤ i → KindRead None (kind_among (count_up (case_at t l) from (to - from)) x)
   unfolding kind_among
-  choosing_end h = kind_none 4294967296 (omega arith) ∙ sym (go.same_kind ∙ rw (up_done (case_at t l) i to h))
+  choosing_end h = kind_none (sym (go.same_kind ∙ rw (up_done (case_at t l) i to h)))
 
   module _ (h : i < to) {c : ℕ} (ce : c ≡ case_cell t i 0) {w : List ℕ} (e : w ≡ ascii (word_at t l c)) {b : Bool}
       (n : b ≡ same_bytes x w) where
@@ -131,9 +135,9 @@ module _ {t l : List ℕ} {x : Word} {from to i : ℕ} (go : Choosing t l x from
     said = n ∙ rw (e, ce)
 
     pub choosing_hit : b ≡ true → {k : ℕ} → k ≡ case_cell t i 1 → k < 4294967296
-        → kind_or_none k ≡ kind_among (count_up (case_at t l) from (to - from)) x
+        → KindRead (Some k) (kind_among (count_up (case_at t l) from (to - from)) x)
     unfolding kind_among case_at
-    choosing_hit o {k} f u = kind_some k u ∙ sym (go.same_kind ∙ rw (up_one (case_at t l) i to h, sym said ∙ o, f))
+    choosing_hit o {k} f u = kind_some (sym (go.same_kind ∙ rw (up_one (case_at t l) i to h, sym said ∙ o, f))) u
 
     pub choosing_on : b ≡ false → Choosing t l x from to (i + 1)
     unfolding kind_among case_at
@@ -149,41 +153,26 @@ module _ (t l : List ℕ) {text : List ℕ} {at c : ℕ} (p : Known text at c) {
   spelt : x ≡ ascii (word_at t l (choice_cell t c 0))
   spelt = ex ∙ rw ew
 
-  pub chosen_missing : f ≡ None → kind_or_none 4294967296 ≡ by_choice
+  pub chosen_missing : f ≡ None → KindRead None by_choice
   unfolding kind_chosen
-  chosen_missing e = kind_none 4294967296 (omega arith) ∙ rw (found_none p.stands (word_at t l (choice_cell t c 0)) spelt a e)
+  chosen_missing e = kind_none (rw (found_none p.stands (word_at t l (choice_cell t c 0)) spelt a e) refl)
 
   pub chosen_there : {v : ℕ} → f ≡ Some v → {from : ℕ} → from ≡ choice_cell t c 1 → {to : ℕ} → to ≡ choice_cell t c 2
-      → (r : ℕ) → kind_or_none r ≡ kind_among (count_up (case_at t l) from (to - from)) (value_there text v) → kind_or_none r ≡ by_choice
+      → (r : Option ℕ) → KindRead r (kind_among (count_up (case_at t l) from (to - from)) (value_there text v)) → KindRead r by_choice
   unfolding kind_chosen cases_of
-  chosen_there e g h r k = k ∙ rw (found_some p.stands (word_at t l (choice_cell t c 0)) spelt a e, g, h)
+  chosen_there e g h r k = reread k (rw (found_some p.stands (word_at t l (choice_cell t c 0)) spelt a e, g, h) refl)
 
 pub ruleset by_word_lem = (chosen_missing, chosen_there, known_small, rules)
 
 -- OR ELSE ANOTHER
-module _ (t : List ℕ) (c k : ℕ) {o : ℕ} (e : o ≡ choice_cell t c 3) where
-  pub else_none : o ≡ 0 → kind_or_none k ≡ else_by (choice_cell t c 3) (kind_or_none k)
-  unfolding else_by
-  else_none z = rw (← e, z)
-
-  other : (o ≡ 0 → ⊥) → (x : Option ℕ) → else_by o x ≡ or_else (o - 1) x
-  unfolding else_by
-  other n x = go o n
-    where
-      go : (o : ℕ) → (o ≡ 0 → ⊥) → else_by o x ≡ or_else (o - 1) x
-      go zero n = absurd (n refl)
-      go (suc o) n = let z : suc o - 1 ≡ o = omega arith in rw z
-
-  module _ (n : o ≡ 0 → ⊥) where
-    pub else_first : k < 4294967296 → kind_or_none k ≡ else_by (choice_cell t c 3) (kind_or_none k)
-    unfolding or_else
-    else_first h = sym (rw (← e) (other n (kind_or_none k) ∙ rw (kind_some k h)))
-
-    pub else_other : 4294967296 ≤ k → o < 4294967296 → kind_or_none (o - 1) ≡ else_by (choice_cell t c 3) (kind_or_none k)
-    unfolding or_else
-    else_other h u = kind_some (o - 1) (omega arith) ∙ sym (rw (← e) (other n (kind_or_none k) ∙ rw (kind_none k h)))
-
-pub ruleset or_else_lem = (else_none, else_first, else_other, rules)
+other : (k m : Option ℕ) (o : ℕ) → SomeIff m (1 ≤ o) (o - 1) → option_or k m ≡ else_by o k
+unfolding else_by or_else
+other (Some x) m zero h = refl
+other (Some x) m (suc o) h = refl
+other None None zero h = refl
+other None (Some y) zero h = absurd (omega (arith, h.0))
+other None None (suc o) h = absurd (h (omega arith))
+other None (Some y) (suc o) h = ap Some (omega (arith, h.1))
 
 -- THE KIND OF A LINE
 kind_else : (n : ℕ) (a : String) (l : List (Case ℕ)) (e : Element)
@@ -200,23 +189,32 @@ which_chosen t l (suc c) k e h =
     let z : suc c - 1 ≡ c = omega arith in rw z (kind_else (choice_cell t c 3) (word_at t l (choice_cell t c 0)) (cases_of t l c) e)
 
 module _ (t l : List ℕ) {text : List ℕ} {at line : ℕ} (p : Known text at line) {c : ℕ} (ec : c ≡ line_cell t line 2) where
-  pub line_always : c ≡ 0 → {k : ℕ} → k ≡ line_cell t line 3 → k < 4294967296 → kind_or_none k ≡ kind_by (which_at t l line) (the text at)
+  pub line_always : c ≡ 0 → {k : ℕ} → k ≡ line_cell t line 3 → k < 4294967296
+      → KindRead (Some k) (kind_by (which_at t l line) (the text at))
   unfolding which_at which_by kind_by
-  line_always z {k} e h = kind_some k h ∙ rw (← ec, z, e)
+  line_always z {k} e h = kind_some (rw (← ec, z, e) refl) h
 
-  pub line_choice : (c ≡ 0 → ⊥) → c < 4294967296 → Known text at (c - 1)
-  line_choice h u = record { stands = p.stands; known = omega arith }
+  module _ (n : c ≡ 0 → ⊥) where
+    pub line_choice : c < 4294967296 → Known text at (c - 1)
+    line_choice u = record { stands = p.stands; known = omega arith }
 
-  pub line_small : (c ≡ 0 → ⊥) → c < 4294967296 → c - 1 < 4294967304
-  line_small h u = omega arith
+    pub line_chosen : {k : Option ℕ}
+        → KindRead k (kind_chosen (cases_of t l (c - 1)) (value_in (word_at t l (choice_cell t (c - 1) 0)) (attributes_of (the text at))))
+        → {o : ℕ} → o ≡ choice_cell t (c - 1) 3 → o < 4294967296 → (m : Option ℕ) → SomeIff m (1 ≤ o) (o - 1)
+        → {r : Option ℕ} → r ≡ option_or k m → KindRead r (kind_by (which_at t l line) (the text at))
+    unfolding which_at
+    line_chosen {k} q {o} eo u m h {r} e = record {
+      same = e ∙ other k m o h ∙ rw (eo, q.same) (sym (rw (← ec) (which_chosen t l c (line_cell t line 3) (the text at) n)));
+      small = λ z. by k (λ i. q.small) m h (sym e ∙ z);
+    }
+      where
+        by : (k : Option ℕ) → ((i : ℕ) → k ≡ Some i → i < 4294967296) → (m : Option ℕ) → SomeIff m (1 ≤ o) (o - 1) → {i : ℕ}
+            → option_or k m ≡ Some i → i < 4294967296
+        by (Some x) q m h z = q _ z
+        by None q None h z = never_some z
+        by None q (Some y) h z = let e = same_Some _ _ z in omega (arith, h.1, e, u)
 
-  pub line_chosen : (c ≡ 0 → ⊥) → (k : ℕ)
-      → kind_or_none k ≡ kind_chosen (cases_of t l (c - 1)) (value_in (word_at t l (choice_cell t (c - 1) 0)) (attributes_of (the text at)))
-      → (r : ℕ) → kind_or_none r ≡ else_by (choice_cell t (c - 1) 3) (kind_or_none k) → kind_or_none r ≡ kind_by (which_at t l line) (the text at)
-  unfolding which_at
-  line_chosen h k q r u = u ∙ rw q (sym (rw (← ec) (which_chosen t l c (line_cell t line 3) (the text at) h)))
-
-pub ruleset of_line = (line_always, line_choice, line_small, line_chosen, known_small, rules)
+pub ruleset of_line = (line_always, line_choice, line_chosen, known_small, rules)
 
 -- IN TURN
 module _ (t : List ℕ) {kind from line : ℕ} (p : TurnAsked kind from line) {o : ℕ} (e : o ≡ kind_cell t kind 5) where
@@ -292,8 +290,8 @@ module _ {t l text : List ℕ} {at kind from line to : ℕ} (p : Lined t l text 
       let z : to - from ≤ spot = omega (arith, at_line) in
       rw (kind_is, le-ltb spot (to - from) z) (none_either (in_turn (order_at t kind) last (row_place (lines_of_kind t l kind) (the text at))))
 
-  pub child_none : to ≤ line → (last : ℕ) → KindFor 4294967296 line to (kind_next t l kind last (the text at))
-  child_none h last = record { is_kind = kind_none 4294967296 (omega arith) ∙ sym (lined_none h last); inside = λ u. absurd (omega arith) }
+  pub child_none : to ≤ line → (last : ℕ) → KindFor None line to (kind_next t l kind last (the text at))
+  child_none h last = record { read = kind_none (sym (lined_none h last)); inside = λ e. never_some e }
 
   pub lined_behind : from ≤ line
   lined_behind = omega (arith, at_line)
@@ -316,13 +314,16 @@ module _ {t l text : List ℕ} {at kind from line to : ℕ} (p : Lined t l text 
           go true q = rw q
           go false q = rw q
 
-      pub child_late : b ≡ true → KindFor 4294967296 line to (kind_next t l kind last (the text at))
+      pub child_late : b ≡ true → KindFor None line to (kind_next t l kind last (the text at))
       unfolding kind_next
-      child_late k = record { is_kind = kind_none 4294967296 (omega arith) ∙ sym (rw (turn_is, k)); inside = λ u. absurd (omega arith) }
+      child_late k = record { read = kind_none (sym (rw (turn_is, k) refl)); inside = λ e. never_some e }
 
-      pub child_some : b ≡ false → (r : ℕ) → kind_or_none r ≡ kind_by (which_at t l line) (the text at)
+      pub child_some : b ≡ false → (r : Option ℕ) → KindRead r (kind_by (which_at t l line) (the text at))
           → KindFor r line to (kind_next t l kind last (the text at))
       unfolding kind_next
-      child_some k r q = record { is_kind = q ∙ sym (rw (turn_is, k) (kind_is ∙ rw (lt-ltb spot (to - from) inside))); inside = λ _. h }
+      child_some k r q = record {
+        read = reread q (sym (rw (turn_is, k) (kind_is ∙ rw (lt-ltb spot (to - from) inside) refl)));
+        inside = λ _. h;
+      }
 
 pub ruleset of_child = (child_none, child_turning, child_of_line, child_late, child_some, rules)

@@ -1,5 +1,5 @@
 -- How often the lines are met.
-use Rattle.std.specs.Prelude.{◌≡◌, refl, List, Bool, true, false, ◌||◌, cond, not, ℕ, ◌+◌, ◌-◌, ◌<◌, ◌≤◌, eqb, leb, ltb, get_or, set, length, Option}
+use Rattle.std.specs.Prelude.{◌≡◌, refl, List, Bool, true, false, ◌||◌, cond, not, ℕ, ◌+◌, ◌-◌, ◌<◌, ◌≤◌, eqb, leb, ltb, get_or, set, length, Option, Some, None}
 use Rattle.std.proofs.Common.{ap, ◌∙◌, arith, length-set, get_or-set_same, get_or-set_other, rules}
 use Rattle.std.proofs.Math.Path.{sym}
 use borrow.Author.Tests.{eqb-true, eqb-false, ltb-true, ltb-false, ne_eqb, lt-ltb, le-ltb, not-true, not-false}
@@ -11,7 +11,9 @@ use Rattle.grammar.specs.Look.{Word, is, name_of}
 use Rattle.nodes.specs.Places.{Stands, the}
 use Rattle.schema.specs.Table.{word_at, entry_word, line_cell, watched, watched_word}
 use Rattle.schema.specs.Lines.{KindFor, line_name, line_place, kind_next}
-use Rattle.schema.specs.Tallied.{stands_by, line_stands, times_by, here_one, watched_name, Counts, Meets}
+use Rattle.schema.specs.Tallied.{stands_by, line_stands, times_by, here_one, watched_name, Counts, Joins, Meets}
+use Rattle.std.proofs.lemmas.Option.{some_pair_parts}
+use Rattle.lists.proofs.Laws.Booleans.{never_some}
 use Rattle.schema.specs.Asked.{Timed, Here, Lined, Counting, Tallying}
 use Rattle.schema.specs.declared.Tally.{Tally}
 use Rattle.schema.proofs.Laws.Lines.{place_before, place_found, lined_place}
@@ -238,7 +240,6 @@ module _ {t l : List ℕ} {name : Word} {from line to : ℕ} {tally more : Tally
             (record {
               counts = set more.counts (i - from) (get_or more.counts (i - from) 0 + n);
               place = more.place;
-              kind = more.kind;
               seen = more.seen;
               met = more.met;
             }) (i + 1)
@@ -250,10 +251,9 @@ module _ {t l : List ℕ} {name : Word} {from line to : ℕ} {tally more : Tally
           met_same = go.met_same;
         }
 
-    pub raising_end : to ≤ i → (kind : ℕ) {b : Bool} → b ≡ watched_name t l name
-        → Counts t l name from line to kind tally
-        (record { counts = more.counts; place = line - from; kind = kind; seen = more.seen || b; met = more.met })
-    raising_end h kind e = record {
+    pub raising_end : to ≤ i → {b : Bool} → b ≡ watched_name t l name
+        → Counts t l name from line to tally (record { counts = more.counts; place = line - from; seen = more.seen || b; met = more.met })
+    raising_end h e = record {
       more = record {
         size = go.heres.size;
         counted = λ p q. go.heres.raised p ∙ rw (lt-ltb (from + p) i (omega arith));
@@ -262,7 +262,6 @@ module _ {t l : List ℕ} {name : Word} {from line to : ℕ} {tally more : Tally
         met_is = go.met_same;
       };
       place_is = refl;
-      kind_is = refl;
     }
 
 pub ruleset raising = (
@@ -291,22 +290,28 @@ module _ {t text : List ℕ} {at kind from to : ℕ} {counts : List ℕ} (p : Ta
     meeting_lined n =
         record { stands = p.stands; known = p.known; starts = p.starts; ends = p.ends; timed = p.timed; line_is = e ∙ rw n }
 
-    pub meeting_counting : {inner : ℕ} {o : Option ℕ} → KindFor inner line to o → inner < 4294967296 → Counting t l name from line to counts
+    pub meeting_counting : {r o : Option ℕ} → KindFor r line to o → {inner : ℕ} → r ≡ Some inner → Counting t l name from line to counts
     meeting_counting k h = record { timed = p.timed; inside = k.inside h; line_is = e; roomy = p.roomy }
 
 module _ {t text : List ℕ} {at kind from to : ℕ} {tally : Tally} (p : Tallying t text at kind from to tally.counts) (l : List ℕ)
-    {line inner : ℕ} (k : KindFor inner line to (kind_next t l kind tally.place (the text at))) where
-  pub meeting_none : 4294967296 ≤ inner
-      → Meets t l kind from to (the text at) tally
-      (record { counts = tally.counts; place = tally.place; kind = inner; seen = tally.seen; met = tally.met })
-  meeting_none h = record { kind_is = k.is_kind; more = λ u. absurd (omega arith); place_is = λ u. absurd (omega arith) }
+    {line : ℕ} {r : Option ℕ} (k : KindFor r line to (kind_next t l kind tally.place (the text at))) where
+  pub meeting_none : r ≡ None → Meets t l kind from to (the text at) tally None
+  meeting_none h = record { joins = λ e. never_some e; none = λ _. sym k.read.same ∙ h }
 
-  pub meeting_counted : inner < 4294967296 → {name : Word} → name ≡ name_of (the text at) → line ≡ from + line_place t l name from (to - from)
-      → {r : Tally} → Counts t l name from line to inner tally r → Meets t l kind from to (the text at) tally r
-  meeting_counted h n e c = record {
-    kind_is = rw c.kind_is k.is_kind;
-    more = λ _. rw (← n) c.more;
-    place_is = λ _. c.place_is ∙ sym (lined_place (meeting_lined p l e n));
+  pub meeting_counted : {inner : ℕ} → r ≡ Some inner → {name : Word} → name ≡ name_of (the text at)
+      → line ≡ from + line_place t l name from (to - from) → {b : Tally} → Counts t l name from line to tally b
+      → Meets t l kind from to (the text at) tally (Some (inner, b))
+  meeting_counted {inner} h n e {b} c = record {
+    joins = λ q. (let (z, y) = some_pair_parts _ _ _ _ q in rw (z, y) at joined);
+    none = λ q. never_some (sym q);
   }
+    where
+      joined : Joins t l kind from to (the text at) tally inner b
+      joined = record {
+        kind_is = sym k.read.same ∙ h;
+        small = k.read.small h;
+        more = rw (← n) c.more;
+        place_is = c.place_is ∙ sym (lined_place (meeting_lined p l e n));
+      }
 
 pub ruleset meeting = (meeting_stands, meeting_small, meeting_lined, meeting_none, meeting_counting, meeting_counted, rules)

@@ -31,7 +31,7 @@ use Rattle.grammar.specs.Read.{Read}
 use Rattle.grammar.specs.Bytes.{blank}
 use Rattle.schema.specs.Table.{kind_cell, lines_of_kind, lines_from, lines_to, text_at, order_at, watched_word}
 use Rattle.schema.specs.Lines.{in_turn, kind_next}
-use Rattle.schema.specs.Tallied.{times_by, holding, Meets}
+use Rattle.schema.specs.Tallied.{times_by, holding, Joins, Meets}
 use Rattle.schema.specs.Faults.{sooner, fault_of}
 use Rattle.schema.specs.Parts.{own_fault, text_shaped, times_right, order_right, frame_right, kids_fault}
 use Rattle.schema.specs.Asked.{Known, Timed, Tallying}
@@ -41,7 +41,6 @@ use Rattle.schema.specs.declared.Walked.{Walked}
 use Rattle.schema.proofs.Laws.Faults.{IsFault, is_fault, is_six, sooner_fault, sooner_three, sooner_turned, sooner_none, six_first}
 use Rattle.schema.proofs.Laws.Kids.{kids_faulty, kids_none, kids_stranger, kids_one, six_whole, frame_wrong, frame_good}
 use Rattle.schema.proofs.Laws.Attributes.{own_faulty}
-use Rattle.schema.proofs.Laws.Lines.{kind_none, kind_some}
 use Rattle.schema.proofs.Laws.Counted.{times_law, order_start, order_end, Counted, counted_turn, counted_on}
 
 first_deeper : {text : List ℕ} {at : ℕ} → Stands text at → left text (first_child text at) < length text - at
@@ -91,7 +90,7 @@ nothing_yet (suc (suc (suc (suc (suc (suc (suc zero))))))) = refl
 nothing_yet (suc (suc (suc (suc (suc (suc (suc (suc p)))))))) = refl
 
 abbrev pub empty_tally : Tally
-empty_tally = record { counts = 0 ∷ 0 ∷ 0 ∷ 0 ∷ 0 ∷ 0 ∷ 0 ∷ 0 ∷ []; place = 0; kind = 0; seen = false; met = false }
+empty_tally = record { counts = 0 ∷ 0 ∷ 0 ∷ 0 ∷ 0 ∷ 0 ∷ 0 ∷ 0 ∷ []; place = 0; seen = false; met = false }
 
 none_counted : (t l : List ℕ) (kind from to : ℕ) (es rest : List Element) → es ≡ rest → Counted t l kind from to empty_tally es rest
 none_counted t l kind from to es rest e = record {
@@ -268,7 +267,7 @@ module _ {t l text : List ℕ} {at kind from to : ℕ} {words : Bool} {worst : �
       };
     }
 
-    module _ {tally₁ : Tally} (mt : Meets t l kind from to (the text k) tally tally₁) where
+    module _ {r : Option (ℕ × Tally)} (mt : Meets t l kind from to (the text k) tally r) where
       abbrev place : ℕ
       place = row_place (lines_of_kind t l kind) (the text k)
 
@@ -289,36 +288,39 @@ module _ {t l text : List ℕ} {at kind from to : ℕ} {words : Bool} {worst : �
           no_more : (a b : Bool) → (a && (b && false)) ≡ false
           no_more a b = ap (λ c. a && c) (and_false b) ∙ and_false a
 
-      pub walking_none : 4294967296 ≤ tally₁.kind → 6 ≡ fault_of t l kind (the text at)
+      pub walking_none : r ≡ None → 6 ≡ fault_of t l kind (the text at)
       unfolding kind_next
       walking_none h = by (in_turn (order_at t kind) tally.place place) refl
         where
           by : (b : Bool) → in_turn (order_at t kind) tally.place place ≡ b → 6 ≡ fault_of t l kind (the text at)
-          by true e = stranger (sym (rw e at mt.kind_is) ∙ kind_none tally₁.kind h)
+          by true e = stranger (rw e at (mt.none h))
           by false e = late e
 
-      module _ (small : tally₁.kind < 4294967296) where
-        pub walking_inner : Known text k tally₁.kind
-        walking_inner = record { stands = turn.stands; known = omega arith }
+      module _ {inner : ℕ} {tally₁ : Tally} (there : r ≡ Some (inner, tally₁)) where
+        joins : Joins t l kind from to (the text k) tally inner tally₁
+        joins = mt.joins there
 
-        known : (in_turn (order_at t kind) tally.place place ≡ true) × (kind_of (lines_of_kind t l kind) (the text k) ≡ Some tally₁.kind)
+        pub walking_inner : Known text k inner
+        walking_inner = record { stands = turn.stands; known = omega (arith, joins.small) }
+
+        known : (in_turn (order_at t kind) tally.place place ≡ true) × (kind_of (lines_of_kind t l kind) (the text k) ≡ Some inner)
         unfolding kind_next
         known = by (in_turn (order_at t kind) tally.place place) refl
           where
             by : (b : Bool) → in_turn (order_at t kind) tally.place place ≡ b
-                → (in_turn (order_at t kind) tally.place place ≡ true) × (kind_of (lines_of_kind t l kind) (the text k) ≡ Some tally₁.kind)
-            by true e = (e, sym (rw e at mt.kind_is) ∙ kind_some tally₁.kind small)
-            by false e = never_some (sym (rw e at mt.kind_is) ∙ kind_some tally₁.kind small)
+                → (in_turn (order_at t kind) tally.place place ≡ true) × (kind_of (lines_of_kind t l kind) (the text k) ≡ Some inner)
+            by true e = (e, rw e at joins.kind_is)
+            by false e = never_some (rw e at joins.kind_is)
 
         one : kids_fault t l kind (kids text go.kid)
-            ≡ sooner (fault_of t l tally₁.kind (the text k)) (kids_fault t l kind (kids text (next text k)))
-        one = ap (kids_fault t l kind) splits ∙ kids_one t l kind (the text k) (kids text (next text k)) tally₁.kind known.1
+            ≡ sooner (fault_of t l inner (the text k)) (kids_fault t l kind (kids text (next text k)))
+        one = ap (kids_fault t l kind) splits ∙ kids_one t l kind (the text k) (kids text (next text k)) inner known.1
 
-        inner_faulty : IsFault (fault_of t l tally₁.kind (the text k))
+        inner_faulty : IsFault (fault_of t l inner (the text k))
         unfolding fault_of
         inner_faulty = is_fault _ _
 
-        module _ {w : Walked} (wk : Walks t l text k tally₁.kind w) {worst₁ : ℕ} (wf : worst₁ ≡ sooner worst w.fault) where
+        module _ {w : Walked} (wk : Walks t l text k inner w) {worst₁ : ℕ} (wf : worst₁ ≡ sooner worst w.fault) where
           faults₁ : sooner (own_fault t l kind (the text at)) (kids_fault t l kind (elements (contents_of (the text at))))
               ≡ sooner worst₁ (kids_fault t l kind (kids text (next text k)))
           faults₁ =
@@ -349,7 +351,6 @@ module _ {t l text : List ℕ} {at kind from to : ℕ} {words : Bool} {worst : �
                 (record {
                   counts = tally₁.counts;
                   place = tally₁.place;
-                  kind = tally₁.kind;
                   seen = tally₁.seen;
                   met = tally₁.met || w.holds;
                 }) next₁
@@ -370,8 +371,8 @@ module _ {t l text : List ℕ} {at kind from to : ℕ} {words : Bool} {worst : �
                   deeper = let f = falls_on in omega (arith, go.deeper);
                   faulty = rw (wf, wk.fault_is) (sooner_fault go.faulty inner_faulty);
                   faults = faults₁;
-                  counted = counted_on counted known.0 (mt.more small) (mt.place_is small) (wk.holds_is not_six);
-                  room = λ p. let y = (mt.more small).room p in let z = go.room p in let f = falls_on in omega arith;
+                  counted = counted_on counted known.0 joins.more joins.place_is (wk.holds_is not_six);
+                  room = λ p. let y = joins.more.room p in let z = go.room p in let f = falls_on in omega arith;
                 })
 
 pub ruleset walking = (

@@ -7,9 +7,6 @@ returns-then-to-line c = search of_child
 pub out_of_turn-requires : goal.out_of_turn-requires
 out_of_turn-requires c = search of_child
 
-pub returns-then-out_of_turn : goal.returns-then-out_of_turn
-returns-then-out_of_turn c = search of_child
-
 pub line_kind-requires : goal.line_kind-requires
 line_kind-requires c = search of_child
 

@@ -1,11 +1,5 @@
-use Rattle.schema.proofs.Laws.Lines.{by_word_lem}
+use Rattle.schema.proofs.Laws.Lines.{by_word_lem, chosen_there}
 use Rattle.lookup.proofs.lines.chosen.Goals as goal
-
-pub returns-in-Some : goal.returns-in-Some
-returns-in-Some c = search by_word_lem
-
-pub returns-in-None : goal.returns-in-None
-returns-in-None c = search by_word_lem
 
 pub choice_cell-w-requires : goal.choice_cell-w-requires
 choice_cell-w-requires c = search by_word_lem
@@ -28,5 +22,9 @@ choice_cell-to-requires c = search by_word_lem
 pub kind_in-requires : goal.kind_in-requires
 kind_in-requires c = search by_word_lem
 
-pub enum_told-1 : goal.enum_told-1
-enum_told-1 c = search by_word_lem
+pub returns-in_err-v : goal.returns-in_err-v
+returns-in_err-v c = search by_word_lem
+
+pub returns : goal.returns
+returns c = chosen_there _ _ c.requires c.choice_cell-w.ensures.0 c.word.ensures c.attribute.ensures
+    c.in_ok-v.was c.choice_cell-from.ensures.0 c.choice_cell-to.ensures.0 _ c.kind_in.ensures

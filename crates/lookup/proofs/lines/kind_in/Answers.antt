@@ -25,8 +25,5 @@ value_is-requires c = search choosing_kind
 pub case_cell-requires : goal.case_cell-requires
 case_cell-requires c = search choosing_kind
 
-pub overflow_add-i : goal.overflow_add-i
-overflow_add-i c = search choosing_kind
-
 pub loop-i-smaller : goal.loop-i-smaller
 loop-i-smaller c = search choosing_kind

@@ -13,14 +13,8 @@ line_cell-requires c = search of_line
 pub overflow_sub-choice : goal.overflow_sub-choice
 overflow_sub-choice c = search of_line
 
-pub chosen-kind-requires : goal.chosen-kind-requires
-chosen-kind-requires c = search of_line
-
 pub overflow_sub-choice-2 : goal.overflow_sub-choice-2
 overflow_sub-choice-2 c = search of_line
-
-pub or_else-requires : goal.or_else-requires
-or_else-requires c = search of_line
 
 pub returns : goal.returns
 returns c = search of_line

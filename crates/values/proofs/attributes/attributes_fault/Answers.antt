@@ -25,8 +25,5 @@ attribute_fault-next-requires c = search walking
 pub sooner-worst-requires : goal.sooner-worst-requires
 sooner-worst-requires c = search walking
 
-pub overflow_add-w : goal.overflow_add-w
-overflow_add-w c = search walking
-
 pub loop-w-smaller : goal.loop-w-smaller
 loop-w-smaller c = search walking

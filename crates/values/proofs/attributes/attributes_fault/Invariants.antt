@@ -1,9 +1,5 @@
 use Rattle.values.proofs.Laws.InTurn.{Walking}
-use Prim.Native.Nat.{◌-◌}
 use Rattle.values.proofs.attributes.attributes_fault.Given as goal
 
 abbrev pub invariant-loop-w : goal.invariant-loop-w
 invariant-loop-w l = Walking l.table l.letters l.text l.at l.kind l.to l.worst l.w l.i
-
-abbrev pub decreases-loop-w : goal.decreases-loop-w
-decreases-loop-w l = l.to - l.w

@@ -15,23 +15,17 @@ slice_bounds-name_listed-end c = search listing
 pub returns-then-not-name_listed : goal.returns-then-not-name_listed
 returns-then-not-name_listed c = search listing
 
-pub loop-f-smaller : goal.loop-f-smaller
-loop-f-smaller c = search listing
+pub loop-key-smaller : goal.loop-key-smaller
+loop-key-smaller c = search listing
 
-pub loop-f-preserved : goal.loop-f-preserved
-loop-f-preserved c = search listing
-
-pub returns-in-None-value_end : goal.returns-in-None-value_end
-returns-in-None-value_end c = search listing
-
-pub returns-in-None : goal.returns-in-None
-returns-in-None c = search listing
+pub loop-key-preserved : goal.loop-key-preserved
+loop-key-preserved c = search listing
 
 pub returns : goal.returns
-returns c = listing_end c.loop-f.invariant c.tag_ends.ensures (ap not c.loop-f-test.false)
+returns c = listing_end c.loop-key.invariant c.tag_ends.ensures (ap not c.loop-key-test.false)
 
-pub loop-f-init : goal.loop-f-init
-loop-f-init c = search listing
+pub loop-key-init : goal.loop-key-init
+loop-key-init c = search listing
 
 pub tag_ends-requires : goal.tag_ends-requires
 tag_ends-requires c = search listing
@@ -50,3 +44,9 @@ enum_known-j c = search listing
 
 pub enum_told-1 : goal.enum_told-1
 enum_told-1 c = search listing
+
+pub returns-in_default : goal.returns-in_default
+returns-in_default c = search listing
+
+pub returns-in_default-value_end : goal.returns-in_default-value_end
+returns-in_default-value_end c = search listing

@@ -1,24 +1,6 @@
 use Rattle.schema.proofs.Laws.Values.{forming}
 use Rattle.values.proofs.value.number_by.Goals as goal
 
-pub returns-then-form-eq2 : goal.returns-then-form-eq2
-returns-then-form-eq2 c = search forming
-
-pub returns-then-form-eq3 : goal.returns-then-form-eq3
-returns-then-form-eq3 c = search forming
-
-pub returns-then-form-eq4 : goal.returns-then-form-eq4
-returns-then-form-eq4 c = search forming
-
-pub returns-then-form-eq5 : goal.returns-then-form-eq5
-returns-then-form-eq5 c = search forming
-
-pub returns-then-form-eq6 : goal.returns-then-form-eq6
-returns-then-form-eq6 c = search forming
-
-pub returns : goal.returns
-returns c = search forming
-
 pub is_dimension_list-requires : goal.is_dimension_list-requires
 is_dimension_list-requires c = search forming
 
@@ -36,3 +18,21 @@ are_lengths-requires c = search forming
 
 pub label_by-requires : goal.label_by-requires
 label_by-requires c = search forming
+
+pub returns-in-2 : goal.returns-in-2
+returns-in-2 c = search forming
+
+pub returns-in-3 : goal.returns-in-3
+returns-in-3 c = search forming
+
+pub returns-in-4 : goal.returns-in-4
+returns-in-4 c = search forming
+
+pub returns-in-5 : goal.returns-in-5
+returns-in-5 c = search forming
+
+pub returns-in-6 : goal.returns-in-6
+returns-in-6 c = search forming
+
+pub returns-in_default : goal.returns-in_default
+returns-in_default c = search forming
