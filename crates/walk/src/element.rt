@@ -56,9 +56,9 @@ pub(crate) fn fault(text: &[u8], at: usize, table: &[u32], letters: &[u8], kind:
     loop {
         match next {
             Ahead::Child(k) => {
-                let Some((inner, more)) =
-                    tally::child(text, k, table, letters, kind, from, to, tally)
-                else {
+                let Some((inner, more)) = tally::child(
+                    text, k, table, letters, kind, from, to, tally,
+                ) else {
                     return refused();
                 };
                 let walked = fault(text, k, table, letters, inner);

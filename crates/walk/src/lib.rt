@@ -14,6 +14,7 @@ mod element;
 
 pub use schema::Checked;
 
+#[tactic(auto, using(schema::proofs::Laws::Checked::rooted))]
 fn of_document(text: &[u8], table: &[u32], letters: &[u8], kind: usize) -> Checked
     requires { DocumentKnown text.now kind }
     ensures { ChecksRoot table.now letters.now kind text.now result }

@@ -9,6 +9,7 @@ use lookup::{lines, table};
 use schema::Tally;
 
 // 1 where the name, which is that of `line`, is that of line i.
+#[tactic(auto, using(schema::proofs::Laws::Times::hereabout))]
 fn here(name: &[u8], table: &[u32], letters: &[u8], line: usize, i: usize) -> u64
     requires { Here table.now letters.now name.now line i }
     ensures { result ≡ here_one table.now letters.now i name.now }
@@ -17,7 +18,11 @@ fn here(name: &[u8], table: &[u32], letters: &[u8], line: usize, i: usize) -> u6
         return 1;
     }
     let w = table::line_cell(table, i, 0);
-    if equal(name, table::word(table, letters, w)) { 1 } else { 0 }
+    if equal(name, table::word(table, letters, w)) {
+        1
+    } else {
+        0
+    }
 }
 
 fn is_watched(name: &[u8], table: &[u32], letters: &[u8]) -> bool
@@ -28,6 +33,7 @@ fn is_watched(name: &[u8], table: &[u32], letters: &[u8]) -> bool
 }
 
 // One more child, of this name, of which `line` is the first with the name.
+#[tactic(auto, using(schema::proofs::Laws::Times::raising))]
 fn counted(
     name: &[u8],
     table: &[u32],
@@ -70,6 +76,7 @@ pub(crate) fn child(
 }
 
 // So many children are as many as may be.
+#[tactic(auto, using(schema::proofs::Laws::Times::standing))]
 fn stands_so(times: usize, n: u64, met: bool) -> bool
     ensures { result ≡ stands_by times n met }
 {
@@ -84,6 +91,7 @@ fn stands_so(times: usize, n: u64, met: bool) -> bool
 }
 
 // Each line was met as often as it says.
+#[tactic(auto, using(schema::proofs::Laws::Times::timing))]
 pub(crate) fn times_right(table: &[u32], from: usize, to: usize, tally: Tally) -> bool
     requires { Timed from to }
     ensures { result ≡ times_by table.now from to tally.counts tally.met }

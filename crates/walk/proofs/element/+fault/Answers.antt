@@ -5,11 +5,11 @@ use Rattle.walk.proofs.element.+fault.Goals as goal
 pub loop-next-init : goal.loop-next-init
 loop-next-init t c = search walking
 
-pub child-tally-requires : goal.child-tally-requires
-child-tally-requires t c = search (walking_tallying, rules)
+pub child-requires : goal.child-requires
+child-requires t c = search (walking_tallying, rules)
 
-pub returns-then-tally-ge4294967296 : goal.returns-then-tally-ge4294967296
-returns-then-tally-ge4294967296 t c = search walking
+pub returns-in_default : goal.returns-in_default
+returns-in_default t c = search walking
 
 pub fault-walked-requires : goal.fault-walked-requires
 fault-walked-requires t c =
