@@ -101,8 +101,8 @@ pub fn any_group(text: &[u8], at: usize, values: &LetterValues) -> Group
     )
 }
 
-// The 24 bits of four plain letters at `at`, those that stand in the text as they are; 16777216 where there are none. A number, and no
-// Option: it is asked of every four letters of an array, and tests of a number are what LLVM joins.
+// The 24 bits of four plain letters at `at`, those that stand in the text as they are; 16777216 where there are none: the
+// number that `bits_of` of specs/Groups has for none, and so no Option.
 #[tactic(auto, using(crate::proofs::Laws::Quick::quickly))]
 pub fn quick_bits(text: &[u8], at: usize, values: &LetterValues) -> u64
     ensures { QuickGroup text.now at result }
