@@ -15,7 +15,6 @@ use Rattle.nodes.specs.Scan.{Quoted, quoting, finishes, finish, tag_from}
 use Rattle.nodes.specs.ScanSteps.{tag_told}
 use Rattle.nodes.proofs.Laws.Scan.{Tagging, tag_start, tag_none, tag_stops, tag_goes, tag_jumps, quote_from}
 use Rattle.nodes.specs.declared.scan.Tag.{Tag}
-use Rattle.nodes.specs.declared.scan.Tag.TheVariants as tag_is
 use Rattle.elements.specs.Tags.{turns, Turning, Nearby}
 
 -- THE BYTES AT WHICH A TAG TURNS

@@ -25,11 +25,8 @@ use Rattle.nodes.proofs.Laws.Skipping.{tag_here, no_text, no_text_comment, no_te
 use Rattle.nodes.proofs.Laws.Skipping.{tag_filled}
 use Rattle.nodes.proofs.Laws.Skipping.{skip_element}
 use Rattle.nodes.specs.Children.{kid_then, kid_by, kid_within, kid_at, first_by, first_child, next}
-use Rattle.lists.proofs.Laws.Booleans.{clash}
-use Rattle.grammar.specs.Read.{Reader}
-use Rattle.grammar.proofs.Laws.Read.{ok_got}
-use Rattle.steps.specs.Step.{stepped, Went}
-use Rattle.steps.proofs.Laws.Step.{fell, Tails, went}
+use Rattle.steps.specs.Step.{stepped}
+use Rattle.steps.proofs.Laws.Step.{fell, went}
 use Rattle.nodes.proofs.Laws.Scanned.{skip_less, less_tails}
 use Rattle.nodes.specs.ScanSteps.{tag_told}
 use Rattle.steps.specs.Prologue.{preamble_at}

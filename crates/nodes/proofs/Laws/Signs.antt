@@ -1,5 +1,5 @@
 -- Signs: what stands where contents go on with a tag, at a position of the text: one law for each way through the code.
-use Rattle.std.specs.Prelude.{◌≡◌, refl, List, ℕ, ◌-◌, ◌≤◌, ◌<◌, Bool, true, false, length, drop, Option, Some, None}
+use Rattle.std.specs.Prelude.{◌≡◌, refl, List, ℕ, ◌-◌, ◌≤◌, Bool, true, false, length, drop, Option, Some, None}
 use Rattle.std.proofs.Common.{ap, ◌∙◌, arith, rules}
 use Rattle.std.proofs.Math.Path.{sym}
 use Rattle.lists.proofs.Laws.Booleans.{clash}
@@ -13,7 +13,6 @@ use Rattle.steps.specs.declared.pieces.Front.{Front}
 use Rattle.steps.specs.declared.pieces.Front.TheVariants as front_is
 use Rattle.nodes.specs.declared.scan.Tag.{Tag}
 use Rattle.nodes.specs.declared.scan.Tag.TheVariants as tag_is
-use Rattle.nodes.specs.declared.scan.Sign.{Sign}
 use Rattle.nodes.specs.declared.scan.Sign.TheVariants as sign-is
 use Rattle.nodes.proofs.Laws.Scan.{looks_close, looks_comment, looks_data, looks_start, looks_text}
 use Rattle.nodes.proofs.Laws.Skip.{place}

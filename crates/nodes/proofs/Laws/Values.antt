@@ -1,5 +1,5 @@
 -- Decoded values, at a position of the text: one law for each way through the code.
-use Rattle.std.specs.Prelude.{◌≡◌, List, [], ◌∷◌, ℕ, ◌+◌, ◌-◌, ◌≤◌, ◌<◌, Bool, true, false, ◌&&◌, eqb, drop, get_or, Option, Some, None, unwrap_or}
+use Rattle.std.specs.Prelude.{◌≡◌, List, [], ◌∷◌, ℕ, ◌+◌, ◌-◌, ◌≤◌, ◌<◌, Bool, true, false, eqb, drop, get_or, Option, Some, None, unwrap_or}
 use Rattle.std.proofs.Math.Path.{refl, ap, sym}
 use Rattle.std.proofs.Common.{◌∙◌, arith, rules, length-drop}
 use Rattle.std.proofs.lemmas.Option.{some_pair_parts}
@@ -15,9 +15,7 @@ use Rattle.steps.proofs.Laws.Step.{at_byte, at_end}
 use Rattle.steps.proofs.Laws.Feeds.{fed, feed_got, return_read}
 use Rattle.steps.specs.Leaves.{referred, first_byte}
 use Rattle.nodes.specs.Places.{pick}
-use Rattle.nodes.specs.Values.{Next, a_byte, or_else_lem, bare_byte, next_byte, as_char, decoded_at, value_there, tells}
-use Rattle.nodes.proofs.Laws.NextBytes.{Decodes}
-use Rattle.nodes.proofs.Laws.NextBytes.{decoded_byte, decoded_end}
+use Rattle.nodes.specs.Values.{Next, a_byte, or_else_lem, bare_byte, next_byte, as_char, decoded_at, value_there}
 use Rattle.nodes.specs.Attributes.{place}
 use Rattle.nodes.specs.Found.{value_at_name}
 use Rattle.nodes.proofs.Laws.Found.{value_found, value_missing}

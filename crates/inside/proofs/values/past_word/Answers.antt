@@ -1,4 +1,4 @@
-use Rattle.nodes.proofs.Laws.Fronts.{fronting, front_ends, front_other, front_more, front_behind}
+use Rattle.nodes.proofs.Laws.Fronts.{fronting, front_ends, front_other, front_more}
 use Rattle.inside.proofs.values.past_word.Goals as goal
 
 pub loop-want-init : goal.loop-want-init
