@@ -51,7 +51,7 @@ pub fn equals_end(text: &[u8], at: usize) -> Option<usize>
     Some(blanks_end(text, i + 1))
 }
 
-// The bytes of the word. By a loop, that LLVM unrolls for each word: `strip_prefix` is a call, and was slower by a tenth.
+// The bytes of the word. By a loop: `strip_prefix` was slower on texts with many comments and references.
 pub fn mark_end(text: &[u8], at: usize, word: &[u8]) -> Option<usize>
     ensures { result ≡ stepped (length text.now) (mark word.now (drop at text.now)) }
 {

@@ -1,4 +1,4 @@
-// The classes of bytes. Those that go over each byte are made of `&` and `|`: `matches!` branches, and was slower by a third.
+// The classes of bytes. Those that go over each byte are made of `&` and `|`: `matches!` branches, and was slower.
 ghost use Rattle.std.specs.Prelude.{◌≡◌};
 ghost use Rattle.grammar.specs.Bytes.{between, blank, name_start, name_byte, quote};
 ghost use Rattle.grammar.specs.Characters.{lead1, lead2, lead3, lead4, continues, noncharacter};

@@ -112,16 +112,18 @@ fn far_plain_end(text: &[u8], at: usize) -> usize
 pub fn plain_end(text: &[u8], at: usize) -> usize
     ensures { Some result ≡ stepped (length text.now) (span plain (drop at text.now)) }
 {
-    let near = at.saturating_add(16);
-    for i in at..near {
-        let Some(b) = text.get(i) else {
+    let mut i = at;
+    // `for i in at..at.saturating_add(16)` with `get` was slower
+    for _ in 0..16 {
+        if text.len() <= i {
             return text.len();
-        };
-        if !is_plain(*b) {
+        }
+        if !is_plain(text[i]) {
             return i;
         }
+        i += 1;
     }
-    far_plain_end(text, near)
+    far_plain_end(text, i)
 }
 
 // What stands at `at`, where no piece does.
