@@ -10,7 +10,7 @@ use number_lists::quick_number;
 use number_values::signed;
 use numbers::Source;
 
-// The key that stands next in a list, and the place behind it.
+// The key that stands next in a list, and the place behind it. Three cases by name: of two Options one `None` would be the end.
 #[derive(Clone, Copy)]
 pub enum ListedKey {
     Key(i32, usize),

@@ -16,7 +16,7 @@ pub struct Decimal {
     pub power: i64,
 }
 
-// The number that stands next in a list, and the place behind it.
+// The number that stands next in a list, and the place behind it. Three cases by name: of two Options one `None` would be the end.
 #[derive(Clone, Copy)]
 pub enum Next {
     Number(u64, usize),
@@ -46,7 +46,7 @@ pub struct Lead {
     pub next: usize,
 }
 
-// A number among commas: with the place behind its comma, or the last.
+// A number among commas: with the place behind its comma, or the last. Named cases are plainer than `Option<(u64, Option<usize>)>`.
 #[derive(Clone, Copy)]
 pub enum Part {
     Comma(u64, usize),
