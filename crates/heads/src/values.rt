@@ -1,4 +1,4 @@
-// Values of attributes.
+// Values of attributes. By tests and places, and not by `get` and `match`: attributes take longer with those.
 ghost use Rattle.std.specs.Prelude.{◌&&◌, not, eqb, ◌≡◌, length, drop};
 ghost use Rattle.grammar.specs.Bytes.{between, special};
 ghost use Rattle.grammar.specs.Parser.{value_character_at, value_at};
@@ -13,17 +13,26 @@ use letters::classes::{is_blank, is_quote};
 fn odd_in_value_end(text: &[u8], at: usize, q: u8) -> Option<usize>
     ensures { result ≡ stepped (length text.now) (value_character_at q (drop at text.now)) }
 {
-    match *text.get(at)? {
-        b'&' => reference_end(text, at),
-        b'\r' => Some(feed_end(text, at + 1)),
-        b if is_blank(b) => Some(at + 1),
-        b if b == b'<' || b == q => None,
-        _ => wide_character_end(text, at),
+    if text.len() <= at {
+        return None;
     }
+    let b = text[at];
+    if b == b'&' {
+        return reference_end(text, at);
+    }
+    if b == b'\r' {
+        return Some(feed_end(text, at + 1));
+    }
+    if is_blank(b) {
+        return Some(at + 1);
+    }
+    if (b == b'<') | (b == q) {
+        return None;
+    }
+    wide_character_end(text, at)
 }
 
-// Most characters in a value between two `q`. By `&` and `|`, for speed (letters/classes.rt).
-#[tactic(auto, unfolding(grammar::specs::Bytes::special))]
+// Most characters in a value between two `q`.
 fn is_plain_in(b: u8, q: u8) -> bool
     ensures { result ≡ (between 32 127 b && (not (special b) && not (eqb b q))) }
 {
@@ -34,7 +43,10 @@ fn is_plain_in(b: u8, q: u8) -> bool
 pub fn value_character_end(text: &[u8], at: usize, q: u8) -> Option<usize>
     ensures { result ≡ stepped (length text.now) (value_character_at q (drop at text.now)) }
 {
-    if is_plain_in(*text.get(at)?, q) {
+    if text.len() <= at {
+        return None;
+    }
+    if is_plain_in(text[at], q) {
         return Some(at + 1);
     }
     odd_in_value_end(text, at, q)
@@ -49,7 +61,14 @@ fn value_rest_end(text: &[u8], at: usize, q: u8) -> Option<usize>
         if text[i] == q {
             return Some(i + 1);
         }
-        i = value_character_end(text, i, q)?;
+        match value_character_end(text, i, q) {
+            Some(j) => {
+                i = j;
+            }
+            None => {
+                return None;
+            }
+        }
     }
     None
 }
@@ -58,7 +77,10 @@ fn value_rest_end(text: &[u8], at: usize, q: u8) -> Option<usize>
 pub fn value_end(text: &[u8], at: usize) -> Option<usize>
     ensures { result ≡ stepped (length text.now) (value_at (drop at text.now)) }
 {
-    let q = *text.get(at)?;
+    if text.len() <= at {
+        return None;
+    }
+    let q = text[at];
     if !is_quote(q) {
         return None;
     }

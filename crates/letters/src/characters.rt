@@ -1,4 +1,4 @@
-// Characters, and references to them.
+// Characters, and references to them. By tests and places, and not by `get` and `match`: texts in UTF-8 take a sixth longer with those.
 ghost use Rattle.std.specs.Prelude.{◌≡◌, length, drop};
 ghost use Rattle.grammar.specs.Parser.{two, three, four, rest_by, reference_at};
 ghost use Rattle.steps.specs.Step.{stepped};
@@ -16,7 +16,10 @@ fn second_of_two(text: &[u8], at: usize, a: u8) -> Option<usize>
     if !is_lead2(a) {
         return None;
     }
-    if !is_continuing(*text.get(at)?) {
+    if text.len() <= at {
+        return None;
+    }
+    if !is_continuing(text[at]) {
         return None;
     }
     Some(at + 1)
@@ -26,12 +29,21 @@ fn second_of_two(text: &[u8], at: usize, a: u8) -> Option<usize>
 fn rest_of_three(text: &[u8], at: usize, a: u8) -> Option<usize>
     ensures { result ≡ stepped (length text.now) (rest_by three a (drop at text.now)) }
 {
-    let b = *text.get(at)?;
+    if text.len() <= at {
+        return None;
+    }
+    let b = text[at];
     if !is_lead3(a, b) {
         return None;
     }
-    let c = *text.get(at + 1)?;
-    if !is_continuing(c) || is_noncharacter(a, b, c) {
+    if text.len() <= at + 1 {
+        return None;
+    }
+    let c = text[at + 1];
+    if !is_continuing(c) {
+        return None;
+    }
+    if is_noncharacter(a, b, c) {
         return None;
     }
     Some(at + 2)
@@ -41,13 +53,22 @@ fn rest_of_three(text: &[u8], at: usize, a: u8) -> Option<usize>
 fn rest_of_four(text: &[u8], at: usize, a: u8) -> Option<usize>
     ensures { result ≡ stepped (length text.now) (rest_by four a (drop at text.now)) }
 {
-    if !is_lead4(a, *text.get(at)?) {
+    if text.len() <= at {
         return None;
     }
-    if !is_continuing(*text.get(at + 1)?) {
+    if !is_lead4(a, text[at]) {
         return None;
     }
-    if !is_continuing(*text.get(at + 2)?) {
+    if text.len() <= at + 1 {
+        return None;
+    }
+    if !is_continuing(text[at + 1]) {
+        return None;
+    }
+    if text.len() <= at + 2 {
+        return None;
+    }
+    if !is_continuing(text[at + 2]) {
         return None;
     }
     Some(at + 3)
@@ -57,21 +78,33 @@ fn rest_of_four(text: &[u8], at: usize, a: u8) -> Option<usize>
 pub fn wide_character_end(text: &[u8], at: usize) -> Option<usize>
     ensures { result ≡ stepped (length text.now) (character_at (drop at text.now)) }
 {
-    let a = *text.get(at)?;
-    match a {
-        ..=127 if is_lead1(a) => Some(at + 1),
-        ..=127 => None,
-        ..=223 => second_of_two(text, at + 1, a),
-        ..=239 => rest_of_three(text, at + 1, a),
-        _ => rest_of_four(text, at + 1, a),
+    if text.len() <= at {
+        return None;
     }
+    let a = text[at];
+    if a <= 127 {
+        if is_lead1(a) {
+            return Some(at + 1);
+        }
+        return None;
+    }
+    if a <= 223 {
+        return second_of_two(text, at + 1, a);
+    }
+    if a <= 239 {
+        return rest_of_three(text, at + 1, a);
+    }
+    rest_of_four(text, at + 1, a)
 }
 
 // The same, quick where the character is plain.
 pub fn character_end(text: &[u8], at: usize) -> Option<usize>
     ensures { result ≡ stepped (length text.now) (character_at (drop at text.now)) }
 {
-    if is_plain(*text.get(at)?) {
+    if text.len() <= at {
+        return None;
+    }
+    if is_plain(text[at]) {
         return Some(at + 1);
     }
     wide_character_end(text, at)
@@ -106,6 +139,8 @@ pub fn reference_at(text: &[u8], at: usize) -> Option<(u8, usize)>
 pub fn reference_end(text: &[u8], at: usize) -> Option<usize>
     ensures { result ≡ stepped (length text.now) (reference_at (drop at text.now)) }
 {
-    let (_, end) = reference_at(text, at)?;
-    Some(end)
+    match reference_at(text, at) {
+        Some((_, j)) => Some(j),
+        None => None,
+    }
 }

@@ -11,8 +11,8 @@ loop-i-smaller c = search (value_less, rules)
 pub loop-i-preserved : goal.loop-i-preserved
 loop-i-preserved c = search (value_more, rules)
 
-pub returns-in_err-i : goal.returns-in_err-i
-returns-in_err-i c = rw c.from_residual.ensures (search (value_stuck, rules))
+pub returns-in-None : goal.returns-in-None
+returns-in-None c = search (value_stuck, rules)
 
 pub returns : goal.returns
 returns c = search (value_open, rules)

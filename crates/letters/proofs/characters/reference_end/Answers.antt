@@ -1,8 +1,9 @@
+use borrow.Author.Rules.{rules}
 use Rattle.steps.proofs.Laws.References.{behind, missing}
 use Rattle.letters.proofs.characters.reference_end.Goals as goal
 
-pub returns-in_err-end : goal.returns-in_err-end
-returns-in_err-end c = rw c.from_residual.ensures (missing _ _ c.reference_at.ensures c.in_err-end.was)
+pub returns-in-Some : goal.returns-in-Some
+returns-in-Some c = search (behind, rules)
 
-pub returns : goal.returns
-returns c = behind _ _ c.reference_at.ensures c.in_ok-end.was
+pub returns-in-None : goal.returns-in-None
+returns-in-None c = search (missing, rules)

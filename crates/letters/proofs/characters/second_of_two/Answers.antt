@@ -5,8 +5,8 @@ use Rattle.letters.proofs.characters.second_of_two.Goals as goal
 pub returns-then-not-is_lead2 : goal.returns-then-not-is_lead2
 returns-then-not-is_lead2 c = search (two_other, rules)
 
-pub returns-in_err-get : goal.returns-in_err-get
-returns-in_err-get c = rw c.from_residual.ensures (search (two_none, rules))
+pub returns-then-text-at : goal.returns-then-text-at
+returns-then-text-at c = search (two_none, rules)
 
 pub returns-then-not-is_continuing : goal.returns-then-not-is_continuing
 returns-then-not-is_continuing c = search (two_bad, rules)
