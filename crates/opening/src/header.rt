@@ -26,15 +26,13 @@ fn lengths_wrong(lengths: &[u64]) -> bool
     if 3 < lengths.len() {
         return true;
     }
-    let mut i = 0;
-    while i < lengths.len() {
+    for i in 0..lengths.len() {
         if lengths[i] == 0 {
             return true;
         }
         if MOST_RECORDS < lengths[i] {
             return true;
         }
-        i += 1;
     }
     false
 }

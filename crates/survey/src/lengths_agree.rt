@@ -32,12 +32,10 @@ fn length_differs(text: &[u8], note: MapNote, lengths: &[u64]) -> bool
     requires { Noted text.now note }
     ensures { result ≡ differs note.length lengths.now (dimensions_of (the text.now note.at)) }
 {
-    let mut d = 0;
-    while d < 10 {
+    for d in 0..10 {
         if dimension_differs(text, note, d, lengths) {
             return true;
         }
-        d += 1;
     }
     false
 }
@@ -46,13 +44,11 @@ pub(crate) fn length_wrong(text: &[u8], maps: Maps, lengths: &[u64]) -> bool
     requires { Ready text.now maps }
     ensures { result ≡ length_wrong lengths.now (maps_at text.now maps) }
 {
-    let mut i = 0;
-    while i < maps.count {
+    for i in 0..maps.count {
         let note = nth(maps, i);
         if length_differs(text, note, lengths) {
             return true;
         }
-        i += 1;
     }
     false
 }

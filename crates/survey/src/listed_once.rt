@@ -21,12 +21,10 @@ fn listed(text: &[u8], maps: Maps, d: usize) -> u64
     ensures { result ≡ min 2 (count (eqb d) (listed_dimensions (maps_at text.now maps))) }
 {
     let mut n = 0;
-    let mut i = 0;
-    while i < maps.count {
+    for i in 0..maps.count {
         let note = nth(maps, i);
         let lists = note.lists;
         n = capped(n + lists.has[d]);
-        i += 1;
     }
     n
 }
@@ -45,12 +43,10 @@ pub(crate) fn dimensions_wrong(text: &[u8], matrix: usize, maps: Maps, lengths: 
         return true;
     }
     let n = lengths.len();
-    let mut d = 0;
-    while d < 10 {
+    for d in 0..10 {
         if listed(text, maps, d) != times_wanted(n, d) {
             return true;
         }
-        d += 1;
     }
     false
 }

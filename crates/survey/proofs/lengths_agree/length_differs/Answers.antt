@@ -16,8 +16,5 @@ loop-d-init c = search comparing
 pub dimension_differs-requires : goal.dimension_differs-requires
 dimension_differs-requires c = search comparing
 
-pub overflow_add-d : goal.overflow_add-d
-overflow_add-d c = search comparing
-
 pub loop-d-smaller : goal.loop-d-smaller
 loop-d-smaller c = search comparing

@@ -1,9 +1,5 @@
 use Rattle.maps.proofs.Laws.LengthsAgree.{Comparing}
-use Prim.Native.Nat.{◌-◌}
 use Rattle.survey.proofs.lengths_agree.length_differs.Given as goal
 
 abbrev pub invariant-loop-d : goal.invariant-loop-d
 invariant-loop-d l = Comparing l.text l.note l.lengths l.d
-
-abbrev pub decreases-loop-d : goal.decreases-loop-d
-decreases-loop-d l = 10 - l.d

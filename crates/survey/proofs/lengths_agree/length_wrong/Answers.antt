@@ -19,8 +19,5 @@ returns c = search agreeing
 pub nth-note-requires : goal.nth-note-requires
 nth-note-requires c = search agreeing
 
-pub overflow_add-i : goal.overflow_add-i
-overflow_add-i c = search agreeing
-
 pub loop-i-smaller : goal.loop-i-smaller
 loop-i-smaller c = search agreeing

@@ -20,9 +20,6 @@ listed-requires c = search listed_once
 pub times_wanted-requires : goal.times_wanted-requires
 times_wanted-requires c = search listed_once
 
-pub overflow_add-d : goal.overflow_add-d
-overflow_add-d c = search listed_once
-
 pub loop-d-smaller : goal.loop-d-smaller
 loop-d-smaller c = search listed_once
 
