@@ -24,8 +24,7 @@ pub fn room_short(text: &[u8], maps: Maps, room: usize, work: usize) -> bool
 {
     let lent = work as u64;
     let mut left = room as u64;
-    let mut i = 0;
-    while i < maps.count {
+    for i in 0..maps.count {
         let note = nth(maps, i);
         let size = reach_of(note);
         if lent < size {
@@ -35,7 +34,6 @@ pub fn room_short(text: &[u8], maps: Maps, room: usize, work: usize) -> bool
             return true;
         }
         left -= size;
-        i += 1;
     }
     false
 }

@@ -55,15 +55,13 @@ fn dimension_at(text: &[u8], maps: Maps, d: usize) -> Dimension
     ensures { result ≡ answers.dimension_at 0 (maps_at text.now maps) d }
 {
     let mut start = 0;
-    let mut i = 0;
-    while i < maps.count {
+    for i in 0..maps.count {
         let note = nth(maps, i);
         let lists = note.lists;
         if lists.has[d] != 0 {
             return described(text, note, Place(start));
         }
         start += reach_of(note) as usize;
-        i += 1;
     }
     unused()
 }

@@ -78,11 +78,9 @@ pub fn judged(text: &[u8], maps: Maps, work: &mut [u64]) -> Judged
         apart: true,
         each: [none; 3],
     };
-    let mut i = 0;
-    while i < maps.count {
+    for i in 0..maps.count {
         let note = nth(maps, i);
         all = with_ruling(all, i, map_rule(text, note, work));
-        i += 1;
     }
     all
 }

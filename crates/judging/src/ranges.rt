@@ -13,10 +13,8 @@ fn sum(models: Models) -> u64
     ensures { result ≡ sum_of (ranges_of models) }
 {
     let mut n: u64 = 0;
-    let mut i: usize = 0;
-    while i < models.count {
+    for i in 0..models.count {
         n += models.length[i];
-        i += 1;
     }
     n
 }
@@ -26,14 +24,12 @@ fn begins_at(models: Models, index: Index) -> usize
     requires { Sized models }
     ensures { begins_at index.0 (ranges_of models) ≡ range_if models result }
 {
-    let mut i: usize = 0;
-    while i < models.count {
+    for i in 0..models.count {
         if models.offset[i] == index.0 {
             return i;
         }
-        i += 1;
     }
-    i
+    models.count
 }
 
 // Every index below the sum lies in exactly one range: from 0, each range goes on where the last one ended, up to the sum.

@@ -17,8 +17,7 @@ fn all_lists(text: &[u8], models: Models, sizes: Sizes, grid: Grid, work: &mut [
 {
     let mut out = false;
     let mut apart = true;
-    let mut i: usize = 0;
-    while i < models.count {
+    for i in 0..models.count {
         let first = surface_start(grid, Index(models.offset[i]));
         let v = marked_list(
             text,
@@ -38,7 +37,6 @@ fn all_lists(text: &[u8], models: Models, sizes: Sizes, grid: Grid, work: &mut [
         }
         out = out | (v.number == 12);
         apart = apart & v.apart;
-        i += 1;
     }
     Verdict {
         number: verdict_by(true, out),
@@ -51,9 +49,10 @@ fn words_for(length: u64, room: usize) -> usize
     ensures { result ≤ room }
 {
     if length < room as u64 {
-        return length as usize;
+        length as usize
+    } else {
+        room
     }
-    room
 }
 
 // The marks that may be met are cleared first; that it is so is of no matter but for speed.

@@ -48,15 +48,13 @@ fn halvings(n: u64, most: u64) -> u64
     ensures { result ≤ most }
 {
     let mut left = n;
-    let mut count = 0;
-    while count < most {
+    for count in 0..most {
         if left < 2 {
             return count;
         }
-        left = left / 2;
-        count += 1;
+        left /= 2;
     }
-    count
+    most
 }
 
 // The bits of the numbers below the size, 16 at most.

@@ -22,8 +22,5 @@ nth-note-requires c = search housing
 pub reach_of-size-requires : goal.reach_of-size-requires
 reach_of-size-requires c = search housing
 
-pub overflow_add-i : goal.overflow_add-i
-overflow_add-i c = search housing
-
 pub loop-i-smaller : goal.loop-i-smaller
 loop-i-smaller c = search housing

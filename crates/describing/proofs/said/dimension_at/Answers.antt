@@ -31,9 +31,6 @@ bounds-lists-d c = search picking
 pub reach_of-requires : goal.reach_of-requires
 reach_of-requires c = search picking
 
-pub overflow_add-i : goal.overflow_add-i
-overflow_add-i c = search picking
-
 pub loop-i-smaller : goal.loop-i-smaller
 loop-i-smaller c = search picking
 

@@ -1,9 +1,5 @@
 use Rattle.describing.proofs.Laws.Said.{Picking}
-use Prim.Native.Nat.{◌-◌}
 use Rattle.describing.proofs.said.dimension_at.Given as goal
 
 abbrev pub invariant-loop-i : goal.invariant-loop-i
 invariant-loop-i l = Picking l.text l.maps l.d l.start l.i
-
-abbrev pub decreases-loop-i : goal.decreases-loop-i
-decreases-loop-i l = l.maps.count - l.i

@@ -16,9 +16,6 @@ map_rule-requires c = search judging
 pub with_ruling-all-requires : goal.with_ruling-all-requires
 with_ruling-all-requires c = search judging
 
-pub overflow_add-i : goal.overflow_add-i
-overflow_add-i c = search judging
-
 pub loop-i-smaller : goal.loop-i-smaller
 loop-i-smaller c = search judging
 

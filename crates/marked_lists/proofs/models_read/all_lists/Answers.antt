@@ -40,9 +40,6 @@ shape_of-work-then-v-eq11 c = search overModels
 pub returns-then-v-eq11 : goal.returns-then-v-eq11
 returns-then-v-eq11 c = search overModels
 
-pub overflow_add-i : goal.overflow_add-i
-overflow_add-i c = search overModels
-
 pub loop-i-smaller : goal.loop-i-smaller
 loop-i-smaller c = search overModels
 
