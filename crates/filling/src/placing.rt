@@ -12,8 +12,7 @@ pub(crate) fn fill_models(text: &[u8], models: Models, out: &mut [u64], start: P
     ensures { ModelsPlaced text.now models out.old start.0 result out.new }
 {
     let mut n: usize = 0;
-    let mut i: usize = 0;
-    while i < models.count {
+    for i in 0..models.count {
         let offset = models.offset[i] as usize;
         fill_model(
             text,
@@ -23,7 +22,6 @@ pub(crate) fn fill_models(text: &[u8], models: Models, out: &mut [u64], start: P
             Place(start.0 + offset),
         );
         n += models.length[i] as usize;
-        i += 1;
     }
     n
 }

@@ -31,11 +31,9 @@ pub fn fill_all(text: &[u8], maps: Maps, judged: Judged, records: &mut [u64])
     ensures { records.new ≡ filled_with (stretches (maps_at text.now maps)) records.old }
 {
     let mut next = Place(0);
-    let mut i = 0;
-    while i < maps.count {
+    for i in 0..maps.count {
         let note = nth(maps, i);
         let models = models_held(judged, i);
         next = fill_one(text, note, models, records, next);
-        i += 1;
     }
 }

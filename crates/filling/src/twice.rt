@@ -19,12 +19,8 @@ fn to_keys(work: &mut [u64], n: usize)
     requires { n ≤ length work.old }
     ensures { work.new ≡ wrote 0 (map key_of (take n work.old)) work.old }
 {
-    let mut i: usize = 0;
-    while i < n {
-        let record = work[i];
-        let spot = key(record);
-        work[i] = spot;
-        i += 1;
+    for i in 0..n {
+        work[i] = key(work[i]);
     }
 }
 
@@ -55,14 +51,12 @@ pub fn any_twice(text: &[u8], maps: Maps, judged: Judged, work: &mut [u64]) -> b
     requires { AllFine text.now maps judged (length work.old) }
     ensures { ToldAll text.now maps work.old result work.new }
 {
-    let mut i = 0;
-    while i < maps.count {
+    for i in 0..maps.count {
         let note = nth(maps, i);
         let models = models_held(judged, i);
         if map_twice(text, note, models, work) {
             return true;
         }
-        i += 1;
     }
     false
 }

@@ -49,9 +49,6 @@ offset_bounds-models-i-in-loop-i-3 c = search placing
 pub bounds-models-i-in-loop-i-3 : goal.bounds-models-i-in-loop-i-3
 bounds-models-i-in-loop-i-3 c = search placing
 
-pub overflow_add-i : goal.overflow_add-i
-overflow_add-i c = search placing
-
 pub loop-i-smaller : goal.loop-i-smaller
 loop-i-smaller c = search placing
 

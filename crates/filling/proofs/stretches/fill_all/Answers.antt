@@ -13,9 +13,6 @@ models_held-models-requires c = search filling
 pub fill_one-next-requires : goal.fill_one-next-requires
 fill_one-next-requires c = search (fill_one)
 
-pub overflow_add-i : goal.overflow_add-i
-overflow_add-i c = search filling
-
 pub loop-i-smaller : goal.loop-i-smaller
 loop-i-smaller c = search filling
 

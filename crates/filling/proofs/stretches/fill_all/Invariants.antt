@@ -1,5 +1,4 @@
 use Rattle.table.proofs.Laws.Stretches.{Fill}
-use Prim.Native.Nat.{◌-◌}
 use Rattle.maps.specs.Ready.{maps_at}
 use Rattle.models.proofs.Laws.Judged.{OverHeld}
 use Rattle.filling.proofs.stretches.fill_all.Given as goal
@@ -7,6 +6,3 @@ use Rattle.filling.proofs.stretches.fill_all.Given as goal
 abbrev pub invariant-loop-i : goal.invariant-loop-i
 invariant-loop-i l =
     OverHeld l.text l.maps l.judged (Fill (maps_at l.text l.maps) l.initial.records l.next.0 l.records) l.i
-
-abbrev pub decreases-loop-i : goal.decreases-loop-i
-decreases-loop-i l = l.maps.count - l.i

@@ -19,9 +19,6 @@ shape_of-work-then-map_twice c = search looking
 pub returns-then-map_twice : goal.returns-then-map_twice
 returns-then-map_twice c = search looking
 
-pub overflow_add-i : goal.overflow_add-i
-overflow_add-i c = search looking
-
 pub loop-i-smaller : goal.loop-i-smaller
 loop-i-smaller c = search looking
 

@@ -1,11 +1,7 @@
 use Rattle.table.proofs.Laws.Twice.{Look}
-use Prim.Native.Nat.{◌-◌}
 use Rattle.maps.specs.Ready.{maps_at}
 use Rattle.models.proofs.Laws.Judged.{OverHeld}
 use Rattle.filling.proofs.twice.any_twice.Given as goal
 
 abbrev pub invariant-loop-i : goal.invariant-loop-i
 invariant-loop-i l = OverHeld l.text l.maps l.judged (Look (maps_at l.text l.maps) l.initial.work l.work) l.i
-
-abbrev pub decreases-loop-i : goal.decreases-loop-i
-decreases-loop-i l = l.maps.count - l.i
