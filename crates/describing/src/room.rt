@@ -10,11 +10,7 @@ use maps::survey::{MapNote, Maps, nth};
 pub(crate) fn reach_of(note: MapNote) -> u64
     ensures { result ≡ reach_in note }
 {
-    let kind = note.kind;
-    if is_brain(kind) {
-        return note.length;
-    }
-    0
+    if is_brain(note.kind) { note.length } else { 0 }
 }
 
 // All maps are ready.
@@ -27,10 +23,7 @@ pub fn room_short(text: &[u8], maps: Maps, room: usize, work: usize) -> bool
     for i in 0..maps.count {
         let note = nth(maps, i);
         let size = reach_of(note);
-        if lent < size {
-            return true;
-        }
-        if left < size {
+        if lent < size || left < size {
             return true;
         }
         left -= size;

@@ -20,22 +20,18 @@ fn series_in(text: &[u8], note: MapNote) -> Series
     requires { Noted text.now note }
     ensures { result ≡ series_in text.now note }
 {
-    let kind = note.kind;
-    if is_series(kind) {
-        return series_at(text, note.at);
+    if is_series(note.kind) {
+        series_at(text, note.at)
+    } else {
+        no_series()
     }
-    no_series()
 }
 
 // Where its stretch begins; zero where it has none.
 fn start_in(note: MapNote, start: Place) -> Place
     ensures { result.0 ≡ start_in note start.0 }
 {
-    let kind = note.kind;
-    if is_brain(kind) {
-        return start;
-    }
-    Place(0)
+    if is_brain(note.kind) { start } else { Place(0) }
 }
 
 // What the answer says of the map whose stretch, if it has one, begins at `start`.
@@ -43,10 +39,12 @@ fn described(text: &[u8], note: MapNote, start: Place) -> Dimension
     requires { Noted text.now note }
     ensures { result ≡ answers.described start.0 (map_of (the text.now note.at)) }
 {
-    let kind = note.kind;
-    let series = series_in(text, note);
-    let begins = start_in(note, start);
-    dimension_by(kind, note.length, begins, series)
+    dimension_by(
+        note.kind,
+        note.length,
+        start_in(note, start),
+        series_in(text, note),
+    )
 }
 
 // What the answer says of dimension d.
@@ -57,8 +55,7 @@ fn dimension_at(text: &[u8], maps: Maps, d: usize) -> Dimension
     let mut start = 0;
     for i in 0..maps.count {
         let note = nth(maps, i);
-        let lists = note.lists;
-        if lists.has[d] != 0 {
+        if note.lists.has[d] != 0 {
             return described(text, note, Place(start));
         }
         start += reach_of(note) as usize;

@@ -54,14 +54,10 @@ pub(crate) fn series_at(text: &[u8], at: usize) -> Series
     requires { SeriesAt text.now at }
     ensures { result ≡ series_said (the text.now at) }
 {
-    let start = decimal_seen(text, at, b"SeriesStart");
-    let step = decimal_seen(text, at, b"SeriesStep");
-    let exponent = exponent_seen(text, at, b"SeriesExponent");
-    let unit = unit_number(text, at);
     Series {
-        start: start,
-        step: step,
-        exponent: exponent,
-        unit: unit,
+        start: decimal_seen(text, at, b"SeriesStart"),
+        step: decimal_seen(text, at, b"SeriesStep"),
+        exponent: exponent_seen(text, at, b"SeriesExponent"),
+        unit: unit_number(text, at),
     }
 }

@@ -7,8 +7,8 @@ loop-i-init c = search picking
 pub described-requires : goal.described-requires
 described-requires c = search picking_note
 
-pub returns-then-lists-d-ne0 : goal.returns-then-lists-d-ne0
-returns-then-lists-d-ne0 c = search picking
+pub returns-then-note-d-ne0 : goal.returns-then-note-d-ne0
+returns-then-note-d-ne0 c = search picking
 
 pub overflow_add-start : goal.overflow_add-start
 overflow_add-start c = search picking
@@ -21,12 +21,6 @@ returns c = search picking
 
 pub nth-note-requires : goal.nth-note-requires
 nth-note-requires c = search picking
-
-pub offset_bounds-lists-d : goal.offset_bounds-lists-d
-offset_bounds-lists-d c = search picking
-
-pub bounds-lists-d : goal.bounds-lists-d
-bounds-lists-d c = search picking
 
 pub reach_of-requires : goal.reach_of-requires
 reach_of-requires c = search picking

@@ -7,8 +7,8 @@ series_at-requires c = search series_told
 pub returns-then-is_series : goal.returns-then-is_series
 returns-then-is_series c = search series_told
 
-pub returns : goal.returns
-returns c = search series_told
+pub returns-else-is_series : goal.returns-else-is_series
+returns-else-is_series c = search series_told
 
 pub is_series-requires : goal.is_series-requires
 is_series-requires c = search series_told
