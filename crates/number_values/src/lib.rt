@@ -10,7 +10,7 @@ pub mod in_value;
 // The decimal that a value writes, and the row of sixteen.
 mod decimals;
 
-ghost use Rattle.std.specs.Prelude.{◌≡◌, ℕ, ◌+◌, ◌*◌, ◌-◌, ◌^◌, ◌<◌, ◌≤◌, Bool, cond, length};
+ghost use Rattle.std.specs.Prelude.{◌≡◌, ℕ, ◌+◌, ◌*◌, ◌-◌, ◌^◌, ◌<◌, ◌≤◌, Bool, cond, length, min};
 ghost use Rattle.nodes.specs.Values.{value_there};
 ghost use Rattle.numbers.specs.Numbers.{with_sign};
 ghost use Rattle.numbers.specs.Stream.{stream};
@@ -134,8 +134,14 @@ pub fn exponent_value(text: &[u8], at: usize, most: u64) -> Option<i64>
     signed_value(text, at, 2, most, most)
 }
 
-// The number that the value at `at` writes: at most so many digits, up to `plus`, or behind a `-` up to `minus`.
+// The number that the value at `at` writes: at most so many digits, and never more than 15, up to `plus`, or behind a `-` up to `minus`.
 pub fn signed_value(text: &[u8], at: usize, most: u64, plus: u64, minus: u64) -> Option<i64>
+    ensures { result ≡ signed_in (min most 15) plus minus (value_there text.now at) }
+{
+    short_value(text, at, most.min(15), plus, minus)
+}
+
+fn short_value(text: &[u8], at: usize, most: u64, plus: u64, minus: u64) -> Option<i64>
     requires { most ≤ 15 }
     ensures { result ≡ signed_in most plus minus (value_there text.now at) }
 {

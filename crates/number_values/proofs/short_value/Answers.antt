@@ -3,7 +3,7 @@ use mir.Syntax.{w64}
 use mir.Val.{SFits}
 use mir.ValLaws.{to_z-of_z}
 use Rattle.numbers.proofs.Laws.Alone.{alone_small, signed_past, signed_end, minus_none, minus_some, plus_none, plus_some}
-use Rattle.number_values.proofs.signed_value.Goals as goal
+use Rattle.number_values.proofs.short_value.Goals as goal
 
 pub returns-in_err-get : goal.returns-in_err-get
 returns-in_err-get c =
