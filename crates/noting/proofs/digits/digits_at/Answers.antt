@@ -27,4 +27,3 @@ decoded-requires c = search reading
 
 pub one_more-dims-requires : goal.one_more-dims-requires
 one_more-dims-requires c = search reading
-
