@@ -3,6 +3,7 @@ pub mod Depth
 pub mod Skip
 pub mod Signs
 pub mod Children
+pub mod Going
 pub mod ReadSteps
 pub mod Ahead
 pub mod Names

@@ -24,6 +24,7 @@ use Rattle.nodes.proofs.Laws.ScanEnds.{to_tag_free, text_free}
 use Rattle.nodes.proofs.Laws.Skipping.{tag_here, no_text, no_text_comment, no_text_data, no_text_element, tag_read, tag_bare}
 use Rattle.nodes.proofs.Laws.Skipping.{tag_filled}
 use Rattle.nodes.proofs.Laws.Skipping.{skip_element}
+use Rattle.lists.proofs.Laws.Booleans.{clash}
 use Rattle.nodes.specs.Children.{kid_then, kid_by, kid_within, kid_at, first_by, first_child, next}
 use Rattle.steps.specs.Step.{stepped}
 use Rattle.steps.proofs.Laws.Step.{fell, went}
@@ -313,6 +314,19 @@ rooted text k = k ∙ go (preamble_at text)
     go fail = refl
     go (got u r) = refl
 
-pub ruleset rooting = (rooted, rules)
+module _ (text : List ℕ) {x : Option ℕ} (k : x ≡ stepped (length text) (preamble_at text)) where
+  pub root_none : x ≡ None → None ≡ root text
+  unfolding root root_by
+  root_none z = rw (fell (length text) (preamble_at text) (sym z ∙ k))
+
+  pub root_there : {j : ℕ} → x ≡ Some j → Some j ≡ root text
+  unfolding root root_by stepped
+  root_there {j} z = go (preamble_at text) (sym k ∙ z)
+    where
+      go : (m : Read (Unit {0})) → stepped (length text) m ≡ Some j → Some j ≡ root_by (length text) m
+      go fail e = clash (cc)
+      go (got u r) e = let q : length text - length r ≡ j = cc in cc
+
+pub ruleset rooting = (rooted, root_none, root_there, rules)
 
 pub ruleset siblings = (first_none, first_bare, first_open, next_none, next_on, rules)

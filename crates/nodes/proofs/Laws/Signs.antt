@@ -1,11 +1,12 @@
 -- Signs: what stands where contents go on with a tag, at a position of the text: one law for each way through the code.
-use Rattle.std.specs.Prelude.{◌≡◌, refl, List, ℕ, ◌-◌, ◌≤◌, Bool, true, false, length, drop, Option, Some, None}
+use Rattle.std.specs.Prelude.{◌≡◌, refl, List, ℕ, ◌-◌, ◌≤◌, ◌<◌, Bool, true, false, length, drop, Option, Some, None}
 use Rattle.std.proofs.Common.{ap, ◌∙◌, arith, rules}
 use Rattle.std.proofs.Math.Path.{sym}
 use Rattle.lists.proofs.Laws.Booleans.{clash}
 use Rattle.grammar.specs.Read.{Read, fail, got}
 use Rattle.grammar.specs.Parser.{comment_at, data_at_lem, Look, at_close, at_comment, at_data, at_element, at_text, look}
 use Rattle.steps.specs.Step.{stepped}
+use Rattle.steps.proofs.Laws.Step.{at_end}
 use Rattle.nodes.specs.Scan.{tag_at}
 use Rattle.nodes.specs.ScanSteps.{tag_told, flat_of, mark_of, sign_by, sign, sign_told}
 use Rattle.steps.specs.Pieces.{front}
@@ -48,6 +49,13 @@ unfolding tag_told sign_told mark_of
 mark_no n fail e = refl
 mark_no n (got true r) e = clash (cc)
 mark_no n (got false r) e = clash (cc)
+
+module _ (text : List ℕ) (at : ℕ) where
+  pub close_past : length text < at → sign-is.Close (length text) ≡ sign-is.Close (length text - length (drop at text))
+  close_past h = let l : length text ≤ at = omega arith in let z : length text - 0 ≡ length text = omega arith in rw (at_end text at l, z)
+
+  pub close_here : at ≤ length text → sign-is.Close at ≡ sign-is.Close (length text - length (drop at text))
+  close_here h = rw (place text at h)
 
 module _ (text : List ℕ) (at : ℕ) {f : Front} (e : f ≡ front (look (drop at text))) where
   pub sign_close : f ≡ front_is.Close → at ≤ length text → Some (sign-is.Close at) ≡ sign_told (length text) (sign (drop at text))
@@ -95,6 +103,8 @@ module _ (text : List ℕ) (at : ℕ) {f : Front} (e : f ≡ front (look (drop a
     sign_none z = mark_no (length text) (tag_at (drop at text)) (sym k ∙ z) ∙ ap (sign_told (length text)) start_look
 
 pub ruleset signing = (
+  close_past,
+  close_here,
   sign_close,
   sign_text,
   sign_comment,

@@ -1,5 +1,5 @@
 -- Decoded values, at a position of the text: one law for each way through the code.
-use Rattle.std.specs.Prelude.{◌≡◌, List, [], ◌∷◌, ℕ, ◌+◌, ◌-◌, ◌≤◌, ◌<◌, Bool, true, false, eqb, drop, get_or, Option, Some, None, unwrap_or}
+use Rattle.std.specs.Prelude.{◌≡◌, List, [], ◌∷◌, ℕ, ◌+◌, ◌-◌, ◌≤◌, ◌<◌, Bool, true, false, ◌&&◌, eqb, drop, get_or, Option, Some, None, unwrap_or}
 use Rattle.std.proofs.Math.Path.{refl, ap, sym}
 use Rattle.std.proofs.Common.{◌∙◌, arith, rules, length-drop}
 use Rattle.std.proofs.lemmas.Option.{some_pair_parts}
@@ -15,7 +15,8 @@ use Rattle.steps.proofs.Laws.Step.{at_byte, at_end}
 use Rattle.steps.proofs.Laws.Feeds.{fed, feed_got, return_read}
 use Rattle.steps.specs.Leaves.{referred, first_byte}
 use Rattle.nodes.specs.Places.{pick}
-use Rattle.nodes.specs.Values.{Next, a_byte, or_else_lem, bare_byte, next_byte, as_char, decoded_at, value_there}
+use Rattle.nodes.specs.Values.{Next, a_byte, or_else_lem, bare_byte, next_byte, as_char, decoded_at, value_there, tells}
+use Rattle.nodes.proofs.Laws.NextBytes.{Decodes, decoded_byte, decoded_end}
 use Rattle.nodes.specs.Attributes.{place}
 use Rattle.nodes.specs.Found.{value_at_name}
 use Rattle.nodes.proofs.Laws.Found.{value_found, value_missing}
@@ -104,12 +105,54 @@ module _ (text : List ℕ) (at q : ℕ) (h : at < length text) (nq : get_or text
 
 pub ruleset decoding = (decode_past, decode_quote, decode_reference, decode_ampersand, decode_return, decode_blank, decode_plain, rules)
 
--- THE VALUE OF A NAME
+-- DECODED BYTES UP TO A QUOTE, AND A WORD
 same_empty : (w : List ℕ) → same_bytes [] w ≡ eqb (length w) 0
 unfolding same_bytes
 same_empty [] = refl
 same_empty (a ∷ w) = sym (ne_eqb (length (a ∷ w)) 0 (λ e. omega arith))
 
+pub record Wording (text : List ℕ) (at q : ℕ) (word : List ℕ) (k i : ℕ) : Type 0 where
+  inside : k ≤ length word
+  same_word : same_bytes (tells q (drop at text)) word ≡ same_bytes (tells q (drop i text)) (drop k word)
+
+pub word_start : (text : List ℕ) (at q : ℕ) (word : List ℕ) → Wording text at q word 0 at
+word_start text at q word = record { inside = omega arith; same_word = refl }
+
+module _ (text : List ℕ) (at q : ℕ) (word : List ℕ) (k i : ℕ) (go : Wording text at q word k i) {c : Option (ℕ × ℕ)}
+    (ec : c ≡ decoded_at text i q) where
+  pub word_yes : c ≡ None → length word ≤ k → true ≡ same_bytes (tells q (drop at text)) word
+  unfolding same_bytes
+  word_yes e h = sym (go.same_word ∙ rw (decoded_end text q i ec e, at_end word k h))
+
+  pub word_short : c ≡ None → k < length word → false ≡ same_bytes (tells q (drop at text)) word
+  unfolding same_bytes
+  word_short e h = sym (go.same_word ∙ rw (decoded_end text q i ec e, at_byte word k h))
+
+  module _ {b j : ℕ} (is : c ≡ Some (b, j)) where
+    says : Decodes text q i b j
+    says = decoded_byte text q i ec is
+
+    pub word_less : length text - j < length text - i
+    word_less = omega (arith, says.inside, says.ahead)
+
+    pub word_long : length word ≤ k → false ≡ same_bytes (tells q (drop at text)) word
+    unfolding same_bytes
+    word_long h = sym (go.same_word ∙ rw (says.splits, at_end word k h))
+
+    both : k < length word
+        → same_bytes (tells q (drop at text)) word ≡ (eqb b (get_or word k 0) && same_bytes (tells q (drop j text)) (drop (k + 1) word))
+    unfolding same_bytes
+    both h = go.same_word ∙ rw (says.splits, at_byte word k h)
+
+    pub word_other : k < length word → (b ≡ get_or word k 0 → ⊥) → false ≡ same_bytes (tells q (drop at text)) word
+    word_other h f = sym (both h ∙ rw (ne_eqb _ _ f))
+
+    pub word_more : k < length word → b ≡ get_or word k 0 → Wording text at q word (k + 1) j
+    word_more h e = record { inside = omega arith; same_word = both h ∙ rw (eq-eqb _ _ e) }
+
+pub ruleset wording = (word_start, word_yes, word_short, word_less, word_long, word_other, word_more, rules)
+
+-- THE VALUE OF A NAME
 module _ (text : List ℕ) (at : ℕ) (name word : List ℕ) {f : Option ℕ} (e : f ≡ place text at name) where
   pub has_none : f ≡ None → eqb (length word) 0 ≡ same_bytes (value_at_name text at name) word
   has_none z = sym (rw (value_missing text at name e z) (same_empty word))
