@@ -1,5 +1,5 @@
 -- The lines of children, as the code goes by them.
-use Rattle.std.specs.Prelude.{◌≡◌, List, Bool, true, cond, ℕ, zero, suc, ◌<◌, leb, Option, Some, None}
+use Rattle.std.specs.Prelude.{◌≡◌, List, Bool, true, cond, ℕ, zero, suc, ◌<◌, leb, ltb, Option, Some, None}
 use Prim.Native.String.{String}
 use Rattle.lists.specs.Lists.{count_up}
 use Rattle.grammar.specs.Document.{Element}
@@ -7,6 +7,10 @@ use Rattle.grammar.specs.Look.{Word, attributes_of, value_in}
 use Rattle.schema.specs.Schema.{ChildRow, kind_chosen, kind_of, or_else, row_place, in_order_of}
 use Rattle.schema.specs.Words.{number_in}
 use Rattle.schema.specs.Table.{word_at, entry_word, choice_cell, cases_of, order_at, lines_of_kind}
+
+-- a kind by number; 2^32 and above are none
+unfoldable pub kind_or_none : ℕ → Option ℕ
+kind_or_none k = cond (ltb k 4294967296) (Some k) None
 
 -- a kind, or none; a kind is such as a table can name
 pub record KindRead (r o : Option ℕ) : Type 0 where

@@ -28,7 +28,7 @@ use Rattle.nodes.proofs.Laws.Names.{part_is}
 use Rattle.schema.specs.Words.{number_in}
 use Rattle.schema.specs.Table.{word_at, entry_word, line_cell, choice_cell, case_cell, case_at, cases_of, choice_by, line_at, lines_of_kind}
 use Rattle.schema.specs.Table.{order_at, kind_cell, which_at, which_by}
-use Rattle.schema.specs.Lines.{KindRead, KindFor, else_by, in_turn, line_place, kind_next}
+use Rattle.schema.specs.Lines.{KindRead, KindFor, kind_or_none, else_by, in_turn, line_place, kind_next}
 use Rattle.std.specs.Option.{SomeIff, option_or}
 use Rattle.std.proofs.lemmas.Option.{same_Some}
 use Rattle.lists.proofs.Laws.Booleans.{never_some}
@@ -108,11 +108,23 @@ module _ (f : ℕ → String) (w : Word) where
           rw z (g (omega arith))
 
 -- A CHOSEN KIND
-kind_some : {o : Option ℕ} {c : ℕ} → Some c ≡ o → c < 4294967296 → KindRead (Some c) o
-kind_some h u = record { same = h; small = λ e. (let z = same_Some _ _ e in rw z at u) }
+pub kind_some : (c : ℕ) → c < 4294967296 → kind_or_none c ≡ Some c
+unfolding kind_or_none
+kind_some c h = rw (lt-ltb c 4294967296 h)
 
-kind_none : {o : Option ℕ} → None ≡ o → KindRead None o
-kind_none h = record { same = h; small = λ e. never_some e }
+pub kind_none : (c : ℕ) → 4294967296 ≤ c → kind_or_none c ≡ None
+unfolding kind_or_none
+kind_none c h = rw (le-ltb c 4294967296 h)
+
+-- the kind at a line, by its number
+pub is_kind : (c : ℕ) {line to : ℕ} {r o : Option ℕ} → r ≡ kind_or_none c → KindFor r line to o → kind_or_none c ≡ o
+is_kind c e k = sym e ∙ k.read.same
+
+read_some : {o : Option ℕ} {c : ℕ} → Some c ≡ o → c < 4294967296 → KindRead (Some c) o
+read_some h u = record { same = h; small = λ e. (let z = same_Some _ _ e in rw z at u) }
+
+read_none : {o : Option ℕ} → None ≡ o → KindRead None o
+read_none h = record { same = h; small = λ e. never_some e }
 
 reread : {r o p : Option ℕ} → KindRead r o → o ≡ p → KindRead r p
 reread k e = record { same = k.same ∙ e; small = k.small }
@@ -126,7 +138,7 @@ choosing_start t l x from to = record { same_kind = refl }
 module _ {t l : List ℕ} {x : Word} {from to i : ℕ} (go : Choosing t l x from to i) where
   pub choosing_end : to ≤ i → KindRead None (kind_among (count_up (case_at t l) from (to - from)) x)
   unfolding kind_among
-  choosing_end h = kind_none (sym (go.same_kind ∙ rw (up_done (case_at t l) i to h)))
+  choosing_end h = read_none (sym (go.same_kind ∙ rw (up_done (case_at t l) i to h)))
 
   module _ (h : i < to) {c : ℕ} (ce : c ≡ case_cell t i 0) {w : List ℕ} (e : w ≡ ascii (word_at t l c)) {b : Bool}
       (n : b ≡ same_bytes x w) where
@@ -137,7 +149,7 @@ module _ {t l : List ℕ} {x : Word} {from to i : ℕ} (go : Choosing t l x from
     pub choosing_hit : b ≡ true → {k : ℕ} → k ≡ case_cell t i 1 → k < 4294967296
         → KindRead (Some k) (kind_among (count_up (case_at t l) from (to - from)) x)
     unfolding kind_among case_at
-    choosing_hit o {k} f u = kind_some (sym (go.same_kind ∙ rw (up_one (case_at t l) i to h, sym said ∙ o, f))) u
+    choosing_hit o {k} f u = read_some (sym (go.same_kind ∙ rw (up_one (case_at t l) i to h, sym said ∙ o, f))) u
 
     pub choosing_on : b ≡ false → Choosing t l x from to (i + 1)
     unfolding kind_among case_at
@@ -155,7 +167,7 @@ module _ (t l : List ℕ) {text : List ℕ} {at c : ℕ} (p : Known text at c) {
 
   pub chosen_missing : f ≡ None → KindRead None by_choice
   unfolding kind_chosen
-  chosen_missing e = kind_none (rw (found_none p.stands (word_at t l (choice_cell t c 0)) spelt a e) refl)
+  chosen_missing e = read_none (rw (found_none p.stands (word_at t l (choice_cell t c 0)) spelt a e) refl)
 
   pub chosen_there : {v : ℕ} → f ≡ Some v → {from : ℕ} → from ≡ choice_cell t c 1 → {to : ℕ} → to ≡ choice_cell t c 2
       → (r : Option ℕ) → KindRead r (kind_among (count_up (case_at t l) from (to - from)) (value_there text v)) → KindRead r by_choice
@@ -173,6 +185,30 @@ other None None zero h = refl
 other None (Some y) zero h = absurd (omega (arith, h.0))
 other None None (suc o) h = absurd (h (omega arith))
 other None (Some y) (suc o) h = ap Some (omega (arith, h.1))
+
+module _ (t : List ℕ) (c k : ℕ) {o : ℕ} (e : o ≡ choice_cell t c 3) where
+  pub else_none : o ≡ 0 → kind_or_none k ≡ else_by (choice_cell t c 3) (kind_or_none k)
+  unfolding else_by
+  else_none z = rw (← e, z)
+
+  else_is : (o ≡ 0 → ⊥) → (x : Option ℕ) → else_by o x ≡ or_else (o - 1) x
+  unfolding else_by
+  else_is n x = go o n
+    where
+      go : (o : ℕ) → (o ≡ 0 → ⊥) → else_by o x ≡ or_else (o - 1) x
+      go zero n = absurd (n refl)
+      go (suc o) n = let z : suc o - 1 ≡ o = omega arith in rw z
+
+  module _ (n : o ≡ 0 → ⊥) where
+    pub else_first : k < 4294967296 → kind_or_none k ≡ else_by (choice_cell t c 3) (kind_or_none k)
+    unfolding or_else
+    else_first h = sym (rw (← e) (else_is n (kind_or_none k) ∙ rw (kind_some k h)))
+
+    pub else_other : 4294967296 ≤ k → o < 4294967296 → kind_or_none (o - 1) ≡ else_by (choice_cell t c 3) (kind_or_none k)
+    unfolding or_else
+    else_other h u = kind_some (o - 1) (omega arith) ∙ sym (rw (← e) (else_is n (kind_or_none k) ∙ rw (kind_none k h)))
+
+pub ruleset or_else_lem = (else_none, else_first, else_other, rules)
 
 -- THE KIND OF A LINE
 kind_else : (n : ℕ) (a : String) (l : List (Case ℕ)) (e : Element)
@@ -192,11 +228,14 @@ module _ (t l : List ℕ) {text : List ℕ} {at line : ℕ} (p : Known text at l
   pub line_always : c ≡ 0 → {k : ℕ} → k ≡ line_cell t line 3 → k < 4294967296
       → KindRead (Some k) (kind_by (which_at t l line) (the text at))
   unfolding which_at which_by kind_by
-  line_always z {k} e h = kind_some (rw (← ec, z, e) refl) h
+  line_always z {k} e h = read_some (rw (← ec, z, e) refl) h
 
   module _ (n : c ≡ 0 → ⊥) where
     pub line_choice : c < 4294967296 → Known text at (c - 1)
     line_choice u = record { stands = p.stands; known = omega arith }
+
+    pub line_small : c < 4294967296 → c - 1 < 4294967304
+    line_small u = omega arith
 
     pub line_chosen : {k : Option ℕ}
         → KindRead k (kind_chosen (cases_of t l (c - 1)) (value_in (word_at t l (choice_cell t (c - 1) 0)) (attributes_of (the text at))))
@@ -214,7 +253,7 @@ module _ (t l : List ℕ) {text : List ℕ} {at line : ℕ} (p : Known text at l
         by None q None h z = never_some z
         by None q (Some y) h z = let e = same_Some _ _ z in omega (arith, h.1, e, u)
 
-pub ruleset of_line = (line_always, line_choice, line_chosen, known_small, rules)
+pub ruleset of_line = (line_always, line_choice, line_small, line_chosen, known_small, rules)
 
 -- IN TURN
 module _ (t : List ℕ) {kind from line : ℕ} (p : TurnAsked kind from line) {o : ℕ} (e : o ≡ kind_cell t kind 5) where
@@ -291,7 +330,7 @@ module _ {t l text : List ℕ} {at kind from line to : ℕ} (p : Lined t l text 
       rw (kind_is, le-ltb spot (to - from) z) (none_either (in_turn (order_at t kind) last (row_place (lines_of_kind t l kind) (the text at))))
 
   pub child_none : to ≤ line → (last : ℕ) → KindFor None line to (kind_next t l kind last (the text at))
-  child_none h last = record { read = kind_none (sym (lined_none h last)); inside = λ e. never_some e }
+  child_none h last = record { read = read_none (sym (lined_none h last)); inside = λ e. never_some e }
 
   pub lined_behind : from ≤ line
   lined_behind = omega (arith, at_line)
@@ -316,7 +355,7 @@ module _ {t l text : List ℕ} {at kind from line to : ℕ} (p : Lined t l text 
 
       pub child_late : b ≡ true → KindFor None line to (kind_next t l kind last (the text at))
       unfolding kind_next
-      child_late k = record { read = kind_none (sym (rw (turn_is, k) refl)); inside = λ e. never_some e }
+      child_late k = record { read = read_none (sym (rw (turn_is, k) refl)); inside = λ e. never_some e }
 
       pub child_some : b ≡ false → (r : Option ℕ) → KindRead r (kind_by (which_at t l line) (the text at))
           → KindFor r line to (kind_next t l kind last (the text at))
