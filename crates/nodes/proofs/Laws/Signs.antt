@@ -14,6 +14,7 @@ use Rattle.steps.specs.declared.pieces.Front.{Front}
 use Rattle.steps.specs.declared.pieces.Front.TheVariants as front_is
 use Rattle.nodes.specs.declared.scan.Tag.{Tag}
 use Rattle.nodes.specs.declared.scan.Tag.TheVariants as tag_is
+use Rattle.nodes.specs.declared.scan.Sign.{Sign}
 use Rattle.nodes.specs.declared.scan.Sign.TheVariants as sign-is
 use Rattle.nodes.proofs.Laws.Scan.{looks_close, looks_comment, looks_data, looks_start, looks_text}
 use Rattle.nodes.proofs.Laws.Skip.{place}
@@ -58,9 +59,13 @@ module _ (text : List ℕ) (at : ℕ) where
   close_here h = rw (place text at h)
 
 module _ (text : List ℕ) (at : ℕ) {f : Front} (e : f ≡ front (look (drop at text))) where
-  pub sign_close : f ≡ front_is.Close → at ≤ length text → Some (sign-is.Close at) ≡ sign_told (length text) (sign (drop at text))
+  pub sign_close : f ≡ front_is.Close → {r : Sign} → r ≡ sign-is.Close (length text - length (drop at text))
+      → Some r ≡ sign_told (length text) (sign (drop at text))
   unfolding sign_by sign_told
-  sign_close q h = sym (rw (sign_look (drop at text) at_close (looks_close (drop at text) e q), place text at h))
+  sign_close q z = ap Some z ∙ sym (rw (sign_look (drop at text) at_close (looks_close (drop at text) e q)))
+
+  pub sign_close_here : f ≡ front_is.Close → at ≤ length text → Some (sign-is.Close at) ≡ sign_told (length text) (sign (drop at text))
+  sign_close_here q h = sign_close q (close_here text at h)
 
   pub sign_text : f ≡ front_is.Text → None ≡ sign_told (length text) (sign (drop at text))
   unfolding sign_by sign_told
@@ -106,6 +111,7 @@ pub ruleset signing = (
   close_past,
   close_here,
   sign_close,
+  sign_close_here,
   sign_text,
   sign_comment,
   sign_broken,
