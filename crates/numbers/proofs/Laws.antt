@@ -10,6 +10,7 @@ pub mod Ahead
 pub mod Raised
 pub mod Powered
 pub mod Decimal
+pub mod Exponent
 pub mod Alone
 pub mod Keys
 pub mod Forms

@@ -55,8 +55,71 @@ within plus n = rw (le-leb 0 n (omega arith)) refl
 within minus zero = refl
 within minus (suc n) = rw (le-leb 0 (suc n) (omega arith), leb-suc-suc n 2147483647) (and-true (leb n 2147483647))
 
+as_numeral : (s : Sign) (w : Word) → key_from s w ≡ cond (numeral 10 0 (key_limit s) w) (Some (with_sign s (value w))) None
+unfolding key_from numeral
+as_numeral s w = rw (within s (value w)) refl
+
+module _ {source : Source} {text : List ℕ} {at : ℕ} (s : Sign) {r : Part} (p : Parted source text 10 0 (key_limit s) at r) where
+  pub key_is : {n : ℕ} {v : ℤ} → r ≡ Last n → v ≡ with_sign s n → Some v ≡ key_from s (stream source text at)
+  key_is e q = let k = whole_last (says_last p e) in sym (as_numeral s (stream source text at) ∙ rw (k.0, k.1, q) refl)
+
+  pub key_comma : {n j : ℕ} → r ≡ Comma n j → None ≡ key_from s (stream source text at)
+  key_comma e = sym (as_numeral s (stream source text at) ∙ rw (whole_comma (says_comma p e)) refl)
+
+  pub key_no : r ≡ No → None ≡ key_from s (stream source text at)
+  key_no e = sym (as_numeral s (stream source text at) ∙ rw (whole_no (says_no p e)) refl)
+
+  pub key_small : {n : ℕ} → r ≡ Last n → n < 10 ^ 15
+  key_small e = let h = says_last p e in omega (arith, numeral_below 10 0 (key_limit s) h.word h.right, h.valued)
+
+  pub key_size : {n : ℕ} → r ≡ Last n → n ≤ key_limit s
+  unfolding numeral
+  key_size {n} e =
+      let h = says_last p e in
+      let k = and_right (leb 0 (value h.word)) _ (and_right (digits 1 10 h.word) _ h.right) in
+      rw h.valued at (leb-true (value h.word) (key_limit s) k)
+
 pub key_fits : (s : Sign) (n : ℕ) → n ≤ key_limit s → SFits w32 (with_sign s n)
 unfolding with_sign key_limit
 key_fits plus n h = record { sfits = omega arith }
 key_fits minus zero h = record { sfits = omega arith }
 key_fits minus (suc n) h = record { sfits = omega arith }
+
+pub ruleset key_digits = (key_small, key_size, key_is, key_comma, key_no, rules)
+
+-- THE SIGN
+after_minus : (u : Word) → key_in (45 ∷ u) ≡ key_from (sign_if true) u
+unfolding key_in key key_value key_from unsigned sign_if
+after_minus u = refl
+
+no_sign : (b : ℕ) (u : Word) → eqb b 45 ≡ false → key_in (b ∷ u) ≡ key_from (sign_if false) (b ∷ u)
+unfolding key_in key key_value key_from unsigned sign_if
+no_sign b u h = rw h refl
+
+none : key_in [] ≡ None
+unfolding key_in key unsigned digits all
+none = refl
+
+module _ (text : List ℕ) (at : ℕ) where
+  pub key_past : length text ≤ at → None ≡ key_in (value_there text at)
+  key_past h = sym (ap key_in (past text at h) ∙ none)
+
+  module _ {c : Option (ℕ × ℕ)} (ec : c ≡ char_at (Value (get_or text at 0)) text (at + 1)) where
+    pub key_end : c ≡ None → None ≡ key_in (value_there text at)
+    key_end e = sym (ap key_in (there text at ∙ char_end (Value (get_or text at 0)) text (at + 1) ec e) ∙ none)
+
+    module _ {b j : ℕ} (e : c ≡ Some (b, j)) where
+      reads : value_there text at ≡ b ∷ stream (Value (get_or text at 0)) text j
+      reads = there text at ∙ (char_byte (Value (get_or text at 0)) text (at + 1) ec e).splits
+
+      pub key_minus : b ≡ 45 → {r : Option ℤ} → r ≡ key_from (sign_if true) (stream (Value (get_or text at 0)) text j)
+          → r ≡ key_in (value_there text at)
+      key_minus h q = q ∙ sym (ap key_in (rw h at reads) ∙ after_minus (stream (Value (get_or text at 0)) text j))
+
+      pub key_plain : (b ≡ 45 → ⊥) → {r : Option ℤ} → r ≡ key_from (sign_if false) (stream (Value (get_or text at 0)) text (at + 1))
+          → r ≡ key_in (value_there text at)
+      key_plain h q =
+          let m = (char_byte (Value (get_or text at 0)) text (at + 1) ec e).splits in
+          q ∙ ap (key_from (sign_if false)) m ∙ sym (ap key_in reads ∙ no_sign b (stream (Value (get_or text at 0)) text j) (ne_eqb b 45 h))
+
+pub ruleset key_signs = (key_past, key_end, key_minus, key_plain, rules)

@@ -112,6 +112,12 @@ module _ {source : Source} {text : List ℕ} {most before at n k i : ℕ} (go : 
       unfolding digits_by
       other d = sym (turn ∙ rw (q, d) refl)
 
+      pub running_low : b < 48 → record { value = n; count = k; next = i } ≡ digits_at source text most before 0 at
+      running_low h = other (digit_low b h)
+
+      pub running_high : 57 < b → record { value = n; count = k; next = i } ≡ digits_at source text most before 0 at
+      running_high h = other (digit_high b h)
+
       pub running_not : {t : Bool} → t ≡ is_ascii_digit b → t ≡ false
           → record { value = n; count = k; next = i } ≡ digits_at source text most before 0 at
       unfolding digit
