@@ -42,6 +42,75 @@ module _ (w : Word) where
   unfolding three_in
   three_told a b c = some_of (volume_dimensions a b c w) _
 
+-- an answer, told from the other
+module _ {A : Type 0} {yes no : A} (apart : yes ≡ no → ⊥) {r : A} where
+  told_yes : (b : Bool) → r ≡ cond b yes no → r ≡ no → false ≡ b
+  told_yes true e f = absurd (apart (sym e ∙ f))
+  told_yes false e f = refl
+
+  told_no : (b : Bool) {x : A} → (x ≡ no → ⊥) → r ≡ cond b yes no → r ≡ x → true ≡ b
+  told_no true d e f = refl
+  told_no false d e f = absurd (d (sym f ∙ e))
+
+no_value : {A : Type 0} {x : A} → Some x ≡ None → ⊥
+no_value e = let z : ◌≡◌ {A = ℕ} 0 1 = cc in omega arith
+
+module _ (w : Word) {r : Option ℕ} where
+  pub whole_yes : (lo hi : ℕ) → r ≡ whole_in lo hi w → {n : ℕ} → r ≡ Some n → true ≡ whole lo hi w
+  unfolding whole_in
+  whole_yes lo hi e f = told_no no_value (whole lo hi w) no_value e f
+
+  pub whole_no : (lo hi : ℕ) → r ≡ whole_in lo hi w → r ≡ None → false ≡ whole lo hi w
+  unfolding whole_in
+  whole_no lo hi e f = told_yes no_value (whole lo hi w) e f
+
+  pub listed_yes : r ≡ listed_in w → {n : ℕ} → r ≡ Some n → true ≡ dimension_list w
+  unfolding listed_in
+  listed_yes e f = told_no no_value (dimension_list w) no_value e f
+
+  pub listed_no : r ≡ listed_in w → r ≡ None → false ≡ dimension_list w
+  unfolding listed_in
+  listed_no e f = told_yes no_value (dimension_list w) e f
+
+module _ (w : Word) where
+  pub exponent_yes : {r : Option ℤ} (most : ℕ) → r ≡ exponent_in most w → {n : ℤ} → r ≡ Some n → true ≡ exponent most w
+  unfolding exponent_in
+  exponent_yes most e f = told_no no_value (exponent most w) no_value e f
+
+  pub exponent_none : {r : Option ℤ} (most : ℕ) → r ≡ exponent_in most w → r ≡ None → false ≡ exponent most w
+  unfolding exponent_in
+  exponent_none most e f = told_yes no_value (exponent most w) e f
+
+  pub decimal_yes : {r : Option Decimal} → r ≡ decimal_in w → {n : Decimal} → r ≡ Some n → true ≡ decimal w
+  unfolding decimal_in
+  decimal_yes e f = told_no no_value (decimal w) no_value e f
+
+  pub decimal_none : {r : Option Decimal} → r ≡ decimal_in w → r ≡ None → false ≡ decimal w
+  unfolding decimal_in
+  decimal_none e f = told_yes no_value (decimal w) e f
+
+  pub three_yes : {r : Option Lengths} (a b c : ℕ) → r ≡ three_in a b c w → {n : Lengths} → r ≡ Some n → true ≡ volume_dimensions a b c w
+  unfolding three_in
+  three_yes a b c e f = told_no no_value (volume_dimensions a b c w) no_value e f
+
+  pub three_none : {r : Option Lengths} (a b c : ℕ) → r ≡ three_in a b c w → r ≡ None → false ≡ volume_dimensions a b c w
+  unfolding three_in
+  three_none a b c e f = told_yes no_value (volume_dimensions a b c w) e f
+
+pub ruleset telling = (
+  whole_yes,
+  whole_no,
+  listed_yes,
+  listed_no,
+  exponent_yes,
+  exponent_none,
+  decimal_yes,
+  decimal_none,
+  three_yes,
+  three_none,
+  rules,
+)
+
 -- A LIST OF WHOLE NUMBERS
 pub record Listing (text : List ℕ) (at most i : ℕ) : Type 0 where
   pub same_list : wholes most (says_at text at) ≡ wholes most (says_at text i)

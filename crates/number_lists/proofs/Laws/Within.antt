@@ -129,6 +129,15 @@ module _ {text : List ℕ} {at i : ℕ} (go : Blanks text at i) where
 
 pub ruleset passing_blanks = (blanks_start, blanks_on, blanks_end, rules)
 
+pub past_start : {text : List ℕ} {at : ℕ} → at ≤ length text → Past text at at
+past_start h = record { inside = h; same = refl }
+
+pub past_on : {text : List ℕ} {at i : ℕ} → Past text at i → i < length text → {t : Bool} → t ≡ blank (get_or text i 0) → not t ≡ false
+    → Past text at (i + 1)
+past_on {text} {at} {i} go h {t} e n = record { inside = omega arith; same = go.same ∙ byte_passed text i h (sym e ∙ not-false t n) }
+
+pub ruleset passing_within = (past_start, past_on, rules)
+
 pub none_past : (text : List ℕ) (at : ℕ) → length text ≤ at → false ≡ blank (get_or text at 0)
 unfolding blank
 none_past text at h = rw (get_or-eq_default text 0 h) refl
