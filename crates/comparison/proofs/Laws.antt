@@ -1,4 +1,5 @@
 pub mod Matched
+pub mod Counting
 pub mod Sums
 pub mod Tagged
 pub mod Accepted
