@@ -1,1 +1,2 @@
 pub mod Side
+pub mod Beside
