@@ -6,3 +6,6 @@ pub mod Change
 pub mod TwoSheets
 pub mod Part
 pub mod Lines
+pub mod Order
+pub mod Laid
+pub mod Tested
