@@ -7,3 +7,4 @@ pub mod Counts
 pub mod Held
 pub mod Part
 pub mod Pairs
+pub mod Placed
