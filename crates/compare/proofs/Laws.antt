@@ -9,3 +9,4 @@ pub mod Lines
 pub mod Order
 pub mod Laid
 pub mod Tested
+pub mod Told
