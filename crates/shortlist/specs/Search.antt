@@ -39,6 +39,10 @@ follows s m = not (ltb m.first.0 s.first) && eqb (m.first.0 - s.first) s.count
 unfoldable pub bad_entry : Search → Model → Bool
 bad_entry s m = no_structure m || (empty m || (not (follows s m) || bit_set s.named (kind_in m)))
 
+-- a bad list stays bad: nothing more is seen of it
+abbrev pub spoilt : Search → Result Search SearchFault
+spoilt s = Err SearchFault.BadList
+
 -- with one entry more: in a list that is not bad, one entry at most holds the index, and one at most is of the kind
 unfoldable pub with_entry : Search → Model → Search
 with_entry s m = record {

@@ -1,21 +1,26 @@
 -- WHAT IS MADE OF THE RECORDS: the order 15, 16, 26, 17, and the list lent as it is filled. Assumes nothing.
-use Rattle.std.specs.Prelude.{◌≡◌, List, [], ◌∷◌, ◌++◌, Bool, cond, ℕ, ◌<◌, ◌≤◌, leb, length, drop, Ok, Err}
+use Rattle.std.specs.Prelude.{◌≡◌, List, [], ◌∷◌, ◌++◌, Bool, cond, ℕ, zero, suc, ◌<◌, ◌≤◌, leb, length, get_or, set, drop, Result, Ok, Err}
 use Rattle.std.proofs.Math.Path.{refl, sym}
-use Rattle.std.proofs.Common.{ap, ◌∙◌, ◌⊎◌, inl, inr, arith, length-take-le}
+use Rattle.std.proofs.Common.{ap, ◌∙◌, ◌⊎◌, inl, inr, arith, length-take-le, drop-cons}
 use Rattle.std.proofs.Math.Bool.{true, false, not}
 use Rattle.std.proofs.Math.Dec.{eqb, ltb}
+use Rattle.std.proofs.lemmas.List.{set_at}
+use Rattle.std.proofs.Math.Seq.{append_snoc}
 use borrow.Author.Tests.{lt-ltb, le-ltb, ne_eqb, le-leb, lt-leb}
-use Rattle.lists.specs.Lists.{all}
+use Rattle.lists.specs.Lists.{all, tabulated, count_up}
 use Rattle.lists.specs.Refusals.{◌when◌, first, NoneApplies, positive}
 use Rattle.lists.proofs.Laws.Booleans.{and_no, and_both}
 use Rattle.lists.proofs.Laws.Refusals.{given_none, row_fails, rows_behind}
+use Rattle.lists.proofs.Laws.Tables.{size_of_table}
 use Rattle.records.specs.Outcome.{ends, applies, passes, gives_first}
 use Rattle.records.specs.Record.{legal_record}
 use Rattle.records.specs.Sheet.{good_count}
 use Rattle.shortlist.specs.Faults.{list_fault_number}
 use Rattle.shortlist.specs.Runs.{runs, comes_back, laid}
 use Rattle.shortlist.specs.Making.{list_refusal, Lists}
-use Rattle.shortlist.specs.Made.{made_models, HoldsRuns, RunsOf, MadeOf}
+use Rattle.shortlist.specs.Asking.{no_model}
+use Rattle.shortlist.specs.Made.{made_models, entries_filled, list_answer, HoldsRuns, RunsOf, MadeOf}
+use Rattle.shortlist.proofs.Laws.Runs.{table_snoc}
 use Rattle.shortlist.specs.declared.answer.Model.{Model}
 use Rattle.shortlist.specs.declared.answer.ListFault.{ListFault}
 use Rattle.shortlist.specs.declared.state.Made.{Made}
@@ -117,6 +122,18 @@ pub ruleset making = (stops_count, stops_refused, stops_short, made_whole)
 
 -- ---- The list lent.
 
+-- filled entry by entry is laid over its start
+pub filled_laid : (n : ℕ) (f : ℕ → Model) (l : List Model) → n ≤ length l → entries_filled n f l ≡ tabulated n f ++ drop n l
+unfolding tabulated count_up
+filled_laid zero f l h = refl
+filled_laid (suc n) f l h =
+    let d = drop-cons l n no_model h in
+    let e = filled_laid n f l (omega arith) ∙ ap (λ r. tabulated n f ++ r) d in
+    ap (λ r. set r n (f n)) e
+    ∙ set_at (tabulated n f) (get_or l n no_model) (drop (suc n) l) (f n) n (size_of_table f n)
+    ∙ sym (append_snoc (tabulated n f) (f n) (drop (suc n) l))
+    ∙ ap (λ r. r ++ drop (suc n) l) (sym (table_snoc f n))
+
 module _ (rs : List ℕ) (before : List Model) where
   pub lists_refused : (e : ListFault) → MadeOf rs (length before) (Err e) → Lists rs before (Err e) before
   lists_refused e o =
@@ -139,3 +156,28 @@ module _ (rs : List ℕ) (before : List Model) where
         counted = c;
         holds = e ∙ ap (λ l. l ++ drop made.count before) h.holding ∙ ap (λ n. runs rs ++ drop n before) c;
       }
+
+-- ---- The answer, by its number.
+
+module _ (n c : ℕ) where
+  pub listed_15 : n ≡ 15 → Err ListFault.BadCount ≡ list_answer n c
+  unfolding list_answer
+  listed_15 h = sym (rw h)
+
+  pub listed_16 : n ≡ 16 → Err ListFault.BadRecord ≡ list_answer n c
+  unfolding list_answer
+  listed_16 h = sym (rw h)
+
+  pub listed_26 : n ≡ 26 → Err ListFault.Parted ≡ list_answer n c
+  unfolding list_answer
+  listed_26 h = sym (rw h)
+
+  pub listed_17 : n ≡ 17 → Err ListFault.TooShort ≡ list_answer n c
+  unfolding list_answer
+  listed_17 h = sym (rw h)
+
+  pub listed_0 : (n ≡ 15 → ⊥) → (n ≡ 16 → ⊥) → (n ≡ 26 → ⊥) → (n ≡ 17 → ⊥) → Ok c ≡ list_answer n c
+  unfolding list_answer
+  listed_0 p q r s = sym (rw (ne_eqb n 15 p, ne_eqb n 16 q, ne_eqb n 26 r, ne_eqb n 17 s))
+
+pub ruleset listing = (listed_15, listed_16, listed_26, listed_17, listed_0)

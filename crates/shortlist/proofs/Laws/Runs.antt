@@ -2,13 +2,14 @@
 use Rattle.std.specs.Prelude.{◌≡◌, refl, Bool, true, false, cond, leb, length, get_or}
 use Rattle.std.proofs.Common.{sym, ◌∙◌, mod-lt, pow_pos, le-leb, leb-true, leb-false, eq-eqb, ne_eqb}
 use Rattle.std.proofs.Math.Path.{ap}
-use mathlib.Core.List.{List, [], ◌∷◌}
+use mathlib.Core.List.{List, [], ◌∷◌, ◌++◌}
 use Prim.Native.Nat.{ℕ, zero, suc, ◌+◌, ◌-◌, ◌%◌, ◌<◌, ◌≤◌}
 use native.Mathlib.Omega.{arith}
 use Rattle.std.proofs.Math.Decide.{dec_lt}
 use Rattle.std.proofs.Math.ListN.{drop}
 use Rattle.std.proofs.Math.Seq.{drop-cons}
 use Rattle.std.proofs.lemmas.Bool.{lt-leb}
+use Rattle.lists.specs.Lists.{tabulated, count_up}
 use Rattle.records.specs.Fields.{bits, parts_of}
 use Rattle.records.specs.Record.{is_voxel, structure_of, structure_in}
 use Rattle.shortlist.specs.Runs.{most_structure, structure_kind, kind_of, kind_in, alone, runs_on, runs_from}
@@ -42,6 +43,20 @@ pub kind_small : (r : ℕ) → kind_of r < 64
 unfolding kind_of
 kind_small r = kind_below (is_voxel r) (structure_of r) (structure_small r)
 
+-- the kind of a record, as code finds it
+pub voxel_kind : (n s : ℕ) (b : Bool) → s ≡ structure_of n → b ≡ is_voxel n → b ≡ true → (32 + s ≡ kind_of n) × (32 + s < 64)
+unfolding kind_of structure_kind
+voxel_kind n s b p q e =
+    let k : 32 + s ≡ kind_of n = ap (λ t. 32 + t) p ∙ sym (ap (λ t. cond t 32 0 + structure_of n) (sym q ∙ e)) in
+    (k, omega (arith, p, structure_small n))
+
+pub surface_kind : (n s : ℕ) (b : Bool) → s ≡ structure_of n → b ≡ is_voxel n → b ≡ false → (s ≡ kind_of n) × (s < 64)
+unfolding kind_of structure_kind
+surface_kind n s b p q e =
+    let z : 0 + structure_of n ≡ structure_of n = omega arith in
+    let k : s ≡ kind_of n = p ∙ sym z ∙ sym (ap (λ t. cond t 32 0 + structure_of n) (sym q ∙ e)) in
+    (k, omega (arith, p, structure_small n))
+
 -- ---- A run by its kind.
 
 abbrev pub piece : (at count kind : ℕ) → Model
@@ -71,6 +86,18 @@ unfolding runs_on runs_from
 on_other at n k r rs h e = rw (piece_kind at n k h, ne_eqb (kind_of r) k e)
 
 -- ---- Lists.
+
+up_snoc : (f : ℕ → Model) (i c : ℕ) → count_up f i (suc c) ≡ count_up f i c ++ (f (i + c) ∷ [])
+unfolding count_up
+up_snoc f i zero = let e : i ≡ i + 0 = omega arith in ap (λ j. f j ∷ []) e
+up_snoc f i (suc c) =
+    let e : suc i + c ≡ i + suc c = omega arith in
+    ap (λ l. f i ∷ l) (up_snoc f (suc i) c) ∙ ap (λ j. f i ∷ (count_up f (suc i) c ++ (f j ∷ []))) e
+
+-- one entry more at the end of a table
+pub table_snoc : (f : ℕ → Model) (c : ℕ) → tabulated (suc c) f ≡ tabulated c f ++ (f c ∷ [])
+unfolding tabulated
+table_snoc f c = let e : 0 + c ≡ c = omega arith in up_snoc f 0 c ∙ ap (λ j. count_up f 0 c ++ (f j ∷ [])) e
 
 -- nothing lies past the end
 pub drop_all : (l : List ℕ) (i : ℕ) → length l ≤ i → drop i l ≡ []

@@ -1,13 +1,13 @@
 -- THE WALK OVER THE RECORDS, run after run: what holds at the beginning of each, and at the end. Assumes nothing.
 use Rattle.std.specs.Prelude.{◌≡◌, refl, List, [], ◌∷◌, ◌++◌, Bool, false, cond, not, ◌&&◌, eqb, length, set, take, drop, replicate}
-use Rattle.std.specs.Prelude.{Ok, Err}
+use Rattle.std.specs.Prelude.{Result, Ok, Err}
 use Rattle.std.proofs.Math.Path.{sym, ap}
 use Rattle.std.specs.List.{list_all}
 use Rattle.std.proofs.Common.{◌∙◌, subst, append_assoc, append-nil, ⊎_elim, add-one, drop-cons, eq-eqb, eqb-true}
 use Rattle.std.proofs.Math.Bool.{true}
 use Prim.Native.Nat.{ℕ, zero, suc, ◌+◌, ◌-◌, ◌<◌, ◌≤◌}
 use native.Mathlib.Omega.{arith}
-use Rattle.std.proofs.Math.ListN.{get_or, length-set}
+use Rattle.std.proofs.Math.ListN.{get_or, length-set, length-map}
 use Rattle.std.proofs.Math.Seq.{take-suc-set}
 use Rattle.std.proofs.lemmas.Bool.{not-true, not-false}
 use Rattle.std.proofs.lemmas.List.{take_rest}
@@ -21,7 +21,7 @@ use Rattle.lists.proofs.Laws.Numbers.{eq?}
 use Rattle.shortlist.specs.Runs.{kind_of, kind_in, alone, longer, runs_on, runs_from, runs, comes_back}
 use Rattle.shortlist.specs.Asking.{no_model}
 use Rattle.shortlist.specs.Faults.{list_fault_number}
-use Rattle.shortlist.specs.Made.{made_models, HoldsRuns, RunEnd, RunsOf}
+use Rattle.shortlist.specs.Made.{made_models, made_number, made_count, MadeSized, HoldsRuns, RunEnd, RunsOf}
 use Rattle.shortlist.proofs.Laws.Named.{again, again_new, again_old, again_done, again_first, flagged, flag_adds, flags_empty}
 use Rattle.shortlist.proofs.Laws.Named.{flags, flags_more, flags_left, flags_none, flags_most}
 use Rattle.shortlist.proofs.Laws.Runs.{kind_small, piece, piece_of, piece_kind, run_through, drop_all}
@@ -38,6 +38,17 @@ pub record Walked (rs : List ℕ) (at : ℕ) (seen : List Bool) (made : Made) : 
   pub counted : flags seen ≡ made.count
   pub seen_64 : length seen ≡ 64
   pub array_64 : length made.models ≡ 64
+
+module _ {rs : List ℕ} {at : ℕ} {seen : List Bool} {made : Made} (w : Walked rs at seen made) where
+  pub sized : MadeSized made
+  sized = record {
+    first_64 = length-map made.models (λ m. m.first.0) ∙ w.array_64;
+    length_64 = length-map made.models (λ m. m.count) ∙ w.array_64;
+    kind_64 = length-map made.models kind_in ∙ w.array_64;
+  }
+
+  pub not_refused : made_number (Ok made) ≡ 0
+  not_refused = refl
 
 -- ---- Where it begins.
 
@@ -57,7 +68,16 @@ walked_first rs = record {
   array_64 = refl;
 }
 
+pub starts : {rs : List ℕ} {made : Made} → made ≡ record { count = 0; models = replicate 64 no_model }
+    → Walked rs 0 (replicate 64 false) made
+starts {rs} e = subst (λ (m : Made). Walked rs 0 (replicate 64 false) m) (sym e) (walked_first rs)
+
 -- ---- Its refusals.
+
+-- of what is refused there are no runs
+pub none : {rs : List ℕ} (answer : Result Made ListFault) → RunsOf rs answer → (made_number answer ≡ 0 → ⊥) → made_count answer ≡ 0
+none (Ok made) o z = absurd (z refl)
+none (Err e) o z = refl
 
 -- one record's legality
 pub legal_cons : (rs : List ℕ) (at : ℕ) → at < length rs
@@ -103,6 +123,25 @@ named_here {rs} {at} {seen} w h e k =
 pub illegal_behind : {rs : List ℕ} {at : ℕ} {seen : List Bool} {made : Made} → Walked rs at seen made
     → all legal_record (drop at rs) ≡ false → RunsOf rs (Err ListFault.BadRecord)
 illegal_behind w k = illegal (w.legal_is ∙ k)
+
+-- whether all are legal, as a loop finds it
+pub legal_no : (rs : List ℕ) (at i : ℕ) (b : Bool) → all legal_record (drop at rs) ≡ all legal_record (drop i rs) → i < length rs
+    → b ≡ legal_record (get_or rs i 0) → not b ≡ true → false ≡ all legal_record (drop at rs)
+legal_no rs at i b e h p q =
+    sym (e ∙ legal_cons rs i h ∙ ap (λ t. t && all legal_record (drop (suc i) rs)) (sym p ∙ not-true b q))
+
+pub legal_on : (rs : List ℕ) (at i : ℕ) (b : Bool) → all legal_record (drop at rs) ≡ all legal_record (drop i rs) → i < length rs
+    → b ≡ legal_record (get_or rs i 0) → not b ≡ false → all legal_record (drop at rs) ≡ all legal_record (drop (i + 1) rs)
+legal_on rs at i b e h p q =
+    e ∙ legal_cons rs i h ∙ ap (λ t. t && all legal_record (drop (suc i) rs)) (sym p ∙ not-false b q)
+    ∙ ap (λ n. all legal_record (drop n rs)) (sym (add-one i))
+
+pub legal_all : (rs : List ℕ) (at i : ℕ) → all legal_record (drop at rs) ≡ all legal_record (drop i rs) → length rs ≤ i
+    → true ≡ all legal_record (drop at rs)
+unfolding all
+legal_all rs at i e h = sym (e ∙ ap (all legal_record) (drop_all rs i h))
+
+pub ruleset legality = (legal_no, legal_on, legal_all)
 
 -- whether all are legal, as code finds it
 pub list_all_is : (rs : List ℕ) → list_all legal_record rs ≡ all legal_record rs
@@ -295,4 +334,4 @@ module _ {rs : List ℕ} {at : ℕ} {seen : List Bool} {made : Made} (w : Walked
       (ap (λ (x : Model). record { count = made.count + 1; models = set made.models made.count x }) same) in
       subst (λ (n : ℕ). Walked rs to (set seen n true) more) (sym q) on
 
-pub ruleset walking = (walked_first, stops_illegal, stops_named, stops_behind, goes_room, goes_on, walked_last)
+pub ruleset walking = (walked_first, starts, stops_illegal, stops_named, stops_behind, goes_room, goes_on, walked_last)
