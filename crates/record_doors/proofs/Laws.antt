@@ -1,4 +1,5 @@
 pub mod Numbers
+pub mod Told
 pub mod Unique
 pub mod Lists
 pub mod Sides

@@ -54,3 +54,25 @@ module _ {list records slice : List ℕ} {x m n : ℕ} {a b : List ℕ} where
         p.numbered ∙ ap sought_number e ∙ sym q.numbered,
         p.flat ∙ ap (λ (k : Result Index SearchFault). laid_over (sought_index k ∷ []) slice) e ∙ sym q.flat,
       )
+
+-- ---- As code tells them.
+
+pub tells_flat : (list : List ℕ) (i : ℕ) (slice after : List ℕ) (a : Result Told SearchFault) (n k s : ℕ) → TellsNumbers list i a
+    → k ≡ cond (told_voxels a) 1 0 → s ≡ told_structure a → n ≡ told_number a → after ≡ laid_over (k ∷ s ∷ []) slice
+    → TellsFlat list i slice n after
+tells_flat list i slice after a n k s h p q r e = record {
+  answer = a;
+  tells = h;
+  numbered = r;
+  flat = e ∙ ap (λ (x : ℕ). laid_over (x ∷ s ∷ []) slice) p ∙ ap (λ (x : ℕ). laid_over (cond (told_voxels a) 1 0 ∷ x ∷ []) slice) q;
+}
+
+pub seeks_flat : (list records : List ℕ) (x : ℕ) (slice after : List ℕ) (a : Result Index SearchFault) (n i : ℕ)
+    → SeeksNumbers list records x a → i ≡ sought_index a → n ≡ sought_number a → after ≡ laid_over (i ∷ []) slice
+    → SeeksFlat list records x slice n after
+seeks_flat list records x slice after a n i h p r e = record {
+  answer = a;
+  seeks = h;
+  numbered = r;
+  flat = e ∙ ap (λ (y : ℕ). laid_over (y ∷ []) slice) p;
+}

@@ -14,9 +14,12 @@ use Rattle.lists.proofs.Laws.Booleans.{and_right, and_both, both_ways}
 use Rattle.lists.proofs.Laws.Quantifiers.{all_below_iff}
 use Rattle.lists.proofs.Laws.Tables.{up_one, up_done, up_all}
 use Rattle.records.specs.Fill.{wrote, wrote_none, wrote_on, length_wrote}
+use Rattle.records.specs.Outcome.{unless, outcome}
+use Rattle.records.specs.declared.outcome.Outcome.{Outcome}
 use Rattle.records.specs.declared.counters.Index.{Index}
 use Rattle.shortlist.specs.Faults.{list_fault_number}
 use Rattle.shortlist.specs.Runs.{runs, kind_of}
+use Rattle.shortlist.specs.Making.{list_refusal, listed_number, listed_count}
 use Rattle.shortlist.specs.Asking.{no_model}
 use Rattle.shortlist.specs.Made.{made_models, MadeOf}
 use Rattle.shortlist.specs.Search.{begun, bad_entry, next_of, at_ok, folded, told_of, Finding}
@@ -144,6 +147,8 @@ module _ (l : List ℕ) where
       good = λ h. seeks_seen (models_in l) rs x t (sym (w.good h ∙ ap (λ u. folded next_of u (models_in l)) b)) answer g;
     }
 
+pub ruleset asking = (tells_fault_numbers, tells_seen_numbers, seeks_fault_numbers, seeks_seen_numbers)
+
 -- ---- Making.
 
 numbers_snoc : (ms : List Model) (m : Model) → numbers_of (ms ++ (m ∷ [])) ≡ numbers_of ms ++ four m
@@ -191,7 +196,12 @@ module _ (l k : List ℕ) (ms : List Model) (i : ℕ) (e : k ≡ written l ms i)
   unfolding written
   written_all u = e ∙ ap (λ s. wrote 0 (numbers_of s) l) (take_all i ms u)
 
-pub ruleset writing = (written_none, written_next, written_all, fits_row, written_long)
+-- the list stays as long
+pub same_long : (l k : List ℕ) (ms : List Model) (i : ℕ) → k ≡ written l ms i → 4 * length ms ≤ length l → i ≤ length ms
+    → length k ≡ length l
+same_long l k ms i e h u = written_long l k ms i e h u
+
+pub ruleset writing = (written_none, written_next, written_all, fits_row, written_long, same_long)
 
 -- what was made and written is what is promised
 module _ (rs before : List ℕ) where
@@ -209,3 +219,12 @@ module _ (rs before : List ℕ) where
   lists_numbers after made o e =
       let h = o.holding made refl in
       record { numbered = o.numbered; counted = runs_counted h; holds = e ∙ ap (λ l. wrote 0 (numbers_of l) before) h.holding }
+
+-- number and value of an answer, as one outcome
+pub answers : {rs before : List ℕ} {answer : Result ℕ ListFault} {after : List ℕ} → ListsNumbers rs before answer after
+    → ◌≡◌ {A = Outcome} (record { number = listed_number answer; value = listed_count answer })
+    (outcome (list_refusal rs (length before / 4)) (length (runs rs)))
+answers {rs} w = λ i. record {
+  number = w.numbered i;
+  value = (w.counted ∙ ap (λ k. unless k (length (runs rs)) 0) w.numbered) i;
+}
