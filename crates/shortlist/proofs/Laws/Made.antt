@@ -1,11 +1,11 @@
 -- WHAT IS MADE OF THE RECORDS: the order 15, 16, 26, 17, and the list lent as it is filled. Assumes nothing.
-use Rattle.std.specs.Prelude.{◌≡◌, List, [], ◌∷◌, ◌++◌, Bool, cond, ℕ, zero, suc, ◌<◌, ◌≤◌, leb, length, get_or, set, drop, Result, Ok, Err}
+use Rattle.std.specs.Prelude.{◌≡◌, List, [], ◌∷◌, ◌++◌, Bool, cond, ℕ, zero, suc, ◌<◌, ◌≤◌, leb, length, get_or, set, take, drop, Result, Ok, Err}
 use Rattle.std.proofs.Math.Path.{refl, sym}
 use Rattle.std.proofs.Common.{ap, ◌∙◌, ◌⊎◌, inl, inr, arith, length-take-le, drop-cons}
 use Rattle.std.proofs.Math.Bool.{true, false, not}
 use Rattle.std.proofs.Math.Dec.{eqb, ltb}
 use Rattle.std.proofs.lemmas.List.{set_at}
-use Rattle.std.proofs.Math.Seq.{append_snoc}
+use Rattle.std.proofs.Math.Seq.{append_snoc, take-suc}
 use borrow.Author.Tests.{lt-ltb, le-ltb, ne_eqb, le-leb, lt-leb}
 use Rattle.lists.specs.Lists.{all, tabulated, count_up}
 use Rattle.lists.specs.Refusals.{◌when◌, first, NoneApplies, positive}
@@ -19,7 +19,7 @@ use Rattle.shortlist.specs.Faults.{list_fault_number}
 use Rattle.shortlist.specs.Runs.{runs, comes_back, laid}
 use Rattle.shortlist.specs.Making.{list_refusal, Lists}
 use Rattle.shortlist.specs.Asking.{no_model}
-use Rattle.shortlist.specs.Made.{made_models, entries_filled, list_answer, HoldsRuns, RunsOf, MadeOf}
+use Rattle.shortlist.specs.Made.{model_at, made_models, entries_filled, list_answer, HoldsRuns, RunsOf, MadeOf}
 use Rattle.shortlist.proofs.Laws.Runs.{table_snoc}
 use Rattle.shortlist.specs.declared.answer.Model.{Model}
 use Rattle.shortlist.specs.declared.answer.ListFault.{ListFault}
@@ -156,6 +156,26 @@ module _ (rs : List ℕ) (before : List Model) where
         counted = c;
         holds = e ∙ ap (λ l. l ++ drop made.count before) h.holding ∙ ap (λ n. runs rs ++ drop n before) c;
       }
+
+-- the runs that an array holds, one by one
+table_is : (l : List Model) (n : ℕ) → n ≤ length l → tabulated n (λ i. get_or l i no_model) ≡ take n l
+unfolding tabulated count_up
+table_is l zero h = refl
+table_is l (suc n) h =
+    table_snoc (λ i. get_or l i no_model) n ∙ ap (λ r. r ++ (get_or l n no_model ∷ [])) (table_is l n (omega arith))
+    ∙ sym (take-suc l n no_model h)
+
+pub runs_table : {rs : List ℕ} {made : Made} → HoldsRuns rs made → tabulated made.count (model_at made) ≡ runs rs
+runs_table {rs} {made} h = table_is made.models made.count (omega (arith, h.few, h.array_64)) ∙ h.holding
+
+-- what was made, filled into the list lent
+pub lists_filled : (rs : List ℕ) (before after : List Model) (made : Made) → MadeOf rs (length before) (Ok made)
+    → after ≡ entries_filled made.count (model_at made) before → Lists rs before (Ok made.count) after
+lists_filled rs before after made o e =
+    let h = o.holding made refl in
+    lists_made rs before after made o
+    (e ∙ filled_laid made.count (model_at made) before (o.fit made refl)
+    ∙ ap (λ l. l ++ drop made.count before) (runs_table h ∙ sym h.holding))
 
 -- ---- The answer, by its number.
 

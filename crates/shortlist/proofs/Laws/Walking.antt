@@ -21,7 +21,7 @@ use Rattle.lists.proofs.Laws.Numbers.{eq?}
 use Rattle.shortlist.specs.Runs.{kind_of, kind_in, alone, longer, runs_on, runs_from, runs, comes_back}
 use Rattle.shortlist.specs.Asking.{no_model}
 use Rattle.shortlist.specs.Faults.{list_fault_number}
-use Rattle.shortlist.specs.Made.{made_models, made_number, made_count, MadeSized, HoldsRuns, RunEnd, RunsOf}
+use Rattle.shortlist.specs.Made.{made_models, made_number, made_count, with_run, MadeSized, HoldsRuns, RunEnd, RunsOf}
 use Rattle.shortlist.proofs.Laws.Named.{again, again_new, again_old, again_done, again_first, flagged, flag_adds, flags_empty}
 use Rattle.shortlist.proofs.Laws.Named.{flags, flags_more, flags_left, flags_none, flags_most}
 use Rattle.shortlist.proofs.Laws.Runs.{kind_small, piece, piece_of, piece_kind, run_through, drop_all}
@@ -75,9 +75,9 @@ starts {rs} e = subst (λ (m : Made). Walked rs 0 (replicate 64 false) m) (sym e
 -- ---- Its refusals.
 
 -- of what is refused there are no runs
-pub none : {rs : List ℕ} (answer : Result Made ListFault) → RunsOf rs answer → (made_number answer ≡ 0 → ⊥) → made_count answer ≡ 0
-none (Ok made) o z = absurd (z refl)
-none (Err e) o z = refl
+pub none : (answer : Result Made ListFault) → (made_number answer ≡ 0 → ⊥) → made_count answer ≡ 0
+none (Ok made) z = absurd (z refl)
+none (Err e) z = refl
 
 -- one record's legality
 pub legal_cons : (rs : List ℕ) (at : ℕ) → at < length rs
@@ -244,7 +244,7 @@ module _ {rs : List ℕ} {at to : ℕ} {seen : List Bool} {made : Made} (w : Wal
 
   -- the run has been added, and its kind is named
   pub walked_on : (more : Made)
-      → more ≡ record { count = made.count + 1; models = set made.models made.count (piece at (to - at) (kind_of (get_or rs at 0))) }
+      → more ≡ with_run made at (to - at) (kind_of (get_or rs at 0))
       → Walked rs to (set seen (kind_of (get_or rs at 0)) true) more
   unfolding k
   walked_on more m = record {
