@@ -107,3 +107,16 @@ def types(files):
 
 
 # ---- 1: enums, flags, numbers
+
+# Functions that answer a number which also says none, found by reading them.
+NONE = {
+    "known_keys/src/search.rt": "place_in sought", "number_lists/src/quick.rt": "quick_number from_zero",
+    "lookup/src/table.rt": "entry_named attribute_named line_named", "lookup/src/lines.rt": "kind_in chosen or_else line_kind child_kind",
+    "lookup/src/words.rt": "rest_place word_place word_number", "base64_reader/src/groups.rt": "bits_of quick_bits",
+    "base64_reader/src/values.rt": "value_of", "judging/src/ranges.rt": "begins_at", "judging/src/structures.rt": "structure_number",
+    "sheets/src/sheet.rt": "said sheet_width", "gifti_arrays/src/array.rt": "data_of", "gifti_reader/src/number.rt": "table_of",
+    "describing/src/series.rt": "unit_number", "input/src/lengths.rt": "digit_at", "maps/src/fields.rt": "attribute_number",
+    "vocabulary/src/lib.rt": "named structure_named unit_named kind_named", "card/src/write.rt": "write_line",
+    "noting/src/sums.rt": "place_behind", "inside/src/ways.rt": "behind_tag", "elements/src/scan.rt": "near_sign near_quote",
+    "front/src/list.rt": "kept",
+}
