@@ -10,7 +10,7 @@ import sys
 
 ROOT = pathlib.Path(__file__).resolve().parent.parent
 FUNCTION = re.compile(r'^ *((?:pub(?:\(\w+\))? )?)(?:const )?(?:extern "C" )?fn (\w+)', re.M)
-OWED = 25
+OWED = 23
 # The crates whose public functions are all doors (docs/EXCEPTIONS.md).
 DOORS = ("reader record_fields repeats compare markup walk input card front file_reader label_reader gifti_reader all_names shortlisting "
          "record_doors record_doors_c dzwonolin dzwonolin_c").split()

@@ -1,5 +1,5 @@
 // Answers as numbers at the start of a lent slice; one that is too short is left as it was.
-ghost use Rattle.std.specs.Prelude.{◌≡◌, [], ◌∷◌, ◌+◌, ◌≤◌, length};
+ghost use Rattle.std.specs.Prelude.{◌≡◌, [], ◌∷◌, ◌+◌, ◌≤◌, length, cond, leb};
 ghost use Rattle.records.specs.Fill.{wrote};
 ghost use Rattle.flat.specs.Flat as flat;
 
@@ -65,15 +65,22 @@ fn dimension_numbers(dimension: Dimension) -> [u64; 16]
     row
 }
 
-// Numbers from a place on.
+// Numbers from a place on, where the slice has room for them; else it stays as it is.
 pub fn put(slice: &mut [u64], at: usize, row: &[u64])
+    ensures { slice.new ≡ cond (leb (at + length row.now) (length slice.old)) (wrote at row.now slice.old) slice.old }
+{
+    if slice.len() < row.len() || slice.len() - row.len() < at {
+        return;
+    }
+    stored(slice, at, row);
+}
+
+fn stored(slice: &mut [u64], at: usize, row: &[u64])
     requires { at + length row.now ≤ length slice.old }
     ensures { slice.new ≡ wrote at row.now slice.old }
 {
-    let mut i = 0;
-    while i < row.len() {
+    for i in 0..row.len() {
         slice[at + i] = row[i];
-        i += 1;
     }
 }
 
@@ -89,10 +96,10 @@ pub fn tell_answer(slice: &mut [u64], answer: Answer)
     let first = dimension_numbers(dimensions[0]);
     let second = dimension_numbers(dimensions[1]);
     let third = dimension_numbers(dimensions[2]);
-    put(slice, 0, &head);
-    put(slice, FIRST, &first);
-    put(slice, SECOND, &second);
-    put(slice, THIRD, &third);
+    stored(slice, 0, &head);
+    stored(slice, FIRST, &first);
+    stored(slice, SECOND, &second);
+    stored(slice, THIRD, &third);
 }
 
 pub fn tell_one(slice: &mut [u64], value: u64)
@@ -119,5 +126,5 @@ pub fn tell_row(slice: &mut [u64], row: &[u64])
     if slice.len() < row.len() {
         return;
     }
-    put(slice, 0, row);
+    stored(slice, 0, row);
 }

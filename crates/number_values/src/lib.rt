@@ -24,7 +24,7 @@ use number_lists::chars::{char_at, digits};
 use numbers::{Lengths, Part, Source};
 
 // The number at `at` up to a comma or the end.
-pub fn part_at(text: &[u8], at: usize, source: Source, most: u64, lo: u64, hi: u64) -> Part
+fn part_at(text: &[u8], at: usize, source: Source, most: u64, lo: u64, hi: u64) -> Part
     requires { most ≤ 15 }
     ensures { Parted source text.now most lo hi at result }
 {

@@ -24,7 +24,7 @@ refused_is a b r {n} {m} e h = sym (zeros n a b (λ z. refused r (sym e ∙ z)))
 
 -- ---- The sums.
 
-counted_sums : (a b : List ℕ) → two_of eqb a ≡ false → two_of eqb b ≡ false → {k both n m : ℕ} → k ≡ same a b → both ≡ count (has_record b) a
+pub counted_sums : (a b : List ℕ) → two_of eqb a ≡ false → two_of eqb b ≡ false → {k both n m : ℕ} → k ≡ same a b → both ≡ count (has_record b) a
     → n ≡ length a → m ≡ length b
     → record { number = 0; same = k; moved = both - k; first = n - both; second = m - both } ≡ compared 0 a b
 unfolding compared

@@ -13,6 +13,7 @@ use Rattle.comparison.proofs.Laws.Sums.{both_is, only_is, both_turned}
 use Rattle.matching.specs.Side.{Beside, Walkable}
 use Rattle.compare.specs.Refused.{sheet_repeat_refusal, SheetFits, Begun}
 use Rattle.compare.proofs.Laws.Covered.{left_out}
+use Rattle.compare.proofs.Laws.Answer.{counted_sums}
 
 -- refused, all is 0
 zeros : (n : ℕ) (a b : List ℕ) → (n ≡ 0 → ⊥) → compared n a b ≡ record { number = n; same = 0; moved = 0; first = 0; second = 0 }
@@ -22,22 +23,6 @@ zeros n a b h = rw (ne_eqb n 0 h) refl
 pub refused_is : (a b : List ℕ) {n m : ℕ} → n ≡ m → (n ≡ 0 → ⊥)
     → record { number = n; same = 0; moved = 0; first = 0; second = 0 } ≡ compared m a b
 refused_is a b {n} {m} e h = sym (zeros n a b h) ∙ ap (λ (k : ℕ). compared k a b) e
-
--- ---- The sums.
-
-counted_sums : (a b : List ℕ) → two_of eqb a ≡ false → two_of eqb b ≡ false → {k both n m : ℕ} → k ≡ same a b → both ≡ count (has_record b) a
-    → n ≡ length a → m ≡ length b
-    → record { number = 0; same = k; moved = both - k; first = n - both; second = m - both } ≡ compared 0 a b
-unfolding compared
-counted_sums a b oa ob {k} {both} {n} {m} ks is ns ms =
-    let e = both_is a b in
-    let f = only_is a b in
-    let g = only_is b a in
-    let c = both_turned a b oa ob in
-    let x : both - k ≡ moved a b = omega arith in
-    let y : n - both ≡ first_only a b = omega arith in
-    let z : m - both ≡ second_only a b = omega arith in
-    λ j. record { number = 0; same = ks j; moved = x j; first = y j; second = z j }
 
 module _ {s t : List ℕ} {room n m : ℕ} (ok : Begun s t room) (ns : n ≡ count_of s) (ms : m ≡ count_of t) where
   abbrev a : List ℕ

@@ -12,19 +12,7 @@ use Rattle.records.specs.declared.outcome.Outcome.{Outcome}
 use Rattle.comparison.specs.Compare.{records_of, well_formed, well_filled, compare_refusal}
 use Rattle.comparison.specs.Accepted.{sheet_refusal}
 use Rattle.compare.specs.Refused.{sheets_refusal, front_refusal, sheet_repeat_refusal, SheetFits, Begun}
-
-kept : (a b : Bool) (l : List Refusal) → (first (15 when a ∷ 16 when b ∷ []) ≡ 0 → ⊥) → first (15 when a ∷ 16 when b ∷ []) ≡ first
-    (15 when a ∷ 16 when b ∷ l)
-unfolding first
-kept true b l h = refl
-kept false true l h = refl
-kept false false l h = absurd (h refl)
-
-past : (a b : Bool) (l : List Refusal) → first (15 when a ∷ 16 when b ∷ []) ≡ 0 → first (15 when a ∷ 16 when b ∷ l) ≡ first l
-unfolding first
-past true b l h = absurd (let z : ◌≡◌ {A = ℕ} 15 0 = h in omega arith)
-past false true l h = absurd (let z : ◌≡◌ {A = ℕ} 16 0 = h in omega arith)
-past false false l h = refl
+use Rattle.compare.proofs.Laws.Rows.{kept, past}
 
 kept_four : (a b c d : Bool) (l : List Refusal) → (first (15 when not a ∷ 16 when not b ∷ 15 when not c ∷ 16 when not d ∷ []) ≡ 0 → ⊥)
     → first (15 when not a ∷ 16 when not b ∷ 15 when not c ∷ 16 when not d ∷ []) ≡ first

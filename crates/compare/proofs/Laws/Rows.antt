@@ -70,14 +70,14 @@ module _ {s before : List ℕ} {o : Outcome} {after : List ℕ} (u : Unpacks s b
 
 -- ---- Both sheets.
 
-kept : (a b : Bool) (l : List Refusal) → (first (15 when a ∷ 16 when b ∷ []) ≡ 0 → ⊥) → first (15 when a ∷ 16 when b ∷ []) ≡ first
+pub kept : (a b : Bool) (l : List Refusal) → (first (15 when a ∷ 16 when b ∷ []) ≡ 0 → ⊥) → first (15 when a ∷ 16 when b ∷ []) ≡ first
     (15 when a ∷ 16 when b ∷ l)
 unfolding first
 kept true b l h = refl
 kept false true l h = refl
 kept false false l h = absurd (h refl)
 
-past : (a b : Bool) (l : List Refusal) → first (15 when a ∷ 16 when b ∷ []) ≡ 0 → first (15 when a ∷ 16 when b ∷ l) ≡ first l
+pub past : (a b : Bool) (l : List Refusal) → first (15 when a ∷ 16 when b ∷ []) ≡ 0 → first (15 when a ∷ 16 when b ∷ l) ≡ first l
 unfolding first
 past true b l h = absurd (let z : ◌≡◌ {A = ℕ} 15 0 = h in omega arith)
 past false true l h = absurd (let z : ◌≡◌ {A = ℕ} 16 0 = h in omega arith)

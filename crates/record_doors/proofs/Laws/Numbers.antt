@@ -192,6 +192,10 @@ module _ (l k : List ℕ) (ms : List Model) (i : ℕ) (e : k ≡ written l ms i)
       (sym (numbers_snoc (take i ms) (get_or ms i no_model))
       ∙ ap numbers_of (sym (take-suc ms i no_model u) ∙ ap (λ n. take n ms) (sym (add-one i))))
 
+  pub written_put : (row j : List ℕ) (m : Model) → i < length ms → m ≡ get_or ms i no_model → row ≡ four m
+      → j ≡ cond (leb (4 * i + length row) (length k)) (wrote (4 * i) row k) k → j ≡ written l ms (i + 1)
+  written_put row j m u q f g = written_next row j m u q f (rw (le-leb (4 * i + length row) (length k) (fits_row row m u f)) at g)
+
   pub written_all : length ms ≤ i → k ≡ wrote 0 (numbers_of ms) l
   unfolding written
   written_all u = e ∙ ap (λ s. wrote 0 (numbers_of s) l) (take_all i ms u)
@@ -201,7 +205,7 @@ pub same_long : (l k : List ℕ) (ms : List Model) (i : ℕ) → k ≡ written l
     → length k ≡ length l
 same_long l k ms i e h u = written_long l k ms i e h u
 
-pub ruleset writing = (written_none, written_next, written_all, fits_row, written_long, same_long)
+pub ruleset writing = (written_none, written_next, written_put, written_all, fits_row, written_long, same_long)
 
 -- what was made and written is what is promised
 module _ (rs before : List ℕ) where

@@ -12,7 +12,7 @@ returns c =
     c.dimension_numbers-first.ensures
     c.dimension_numbers-second.ensures
     c.dimension_numbers-third.ensures
-    c.put.ensures
-    c.put-2.ensures
-    c.put-3.ensures
-    c.put-4.ensures
+    c.stored.ensures
+    c.stored-2.ensures
+    c.stored-3.ensures
+    c.stored-4.ensures

@@ -1,5 +1,5 @@
 use Rattle.flat.proofs.Laws.Flat.{put_steps}
-use Rattle.flat.proofs.slices.put.Goals as goal
+use Rattle.flat.proofs.slices.stored.Goals as goal
 
 pub loop-i-preserved : goal.loop-i-preserved
 loop-i-preserved c = search put_steps
