@@ -1,6 +1,6 @@
 // What stands ahead in the contents of an element: each gap between children is passed over once.
 ghost use Rattle.std.specs.Prelude.{◌≡◌, ◌-◌, length, drop};
-ghost use Rattle.nodes.specs.Ahead.{past_gap, gap_data, ending, ahead_at, first_ahead, ahead_in_tag};
+ghost use Rattle.nodes.specs.Ahead.{past_gap, gap_data, ending, tag_passed, ahead_at, first_ahead, ahead_in_tag};
 ghost use Rattle.nodes.specs.Scan.{past_tag};
 ghost use Rattle.nodes.specs.BlankData.{blank_data_at};
 ghost use Rattle.grammar.specs.Parser.{data_at_lem};
@@ -54,9 +54,10 @@ fn end_at(text: &[u8], at: usize) -> Ahead
     }
 }
 
-// What stands behind comments and blanks, or with `words` behind any characters, in CDATA or not, in the contents that go on at `at`.
-pub fn ahead_from(text: &[u8], at: usize, words: bool) -> Ahead
-    ensures { result ≡ ahead_at words (length text.now) (drop at text.now) }
+// What stands behind comments and blanks, or with `words` behind any characters, in CDATA or not, in the contents that go on at `at`: the end
+// tag is told by where it begins, and not passed over.
+pub(crate) fn tag_ahead(text: &[u8], at: usize, words: bool) -> Ahead
+    ensures { tag_passed text.now result ≡ ahead_at words (length text.now) (drop at text.now) }
 {
     let mut i = at;
     loop {
@@ -71,9 +72,20 @@ pub fn ahead_from(text: &[u8], at: usize, words: bool) -> Ahead
                 Some(j) => i = j,
                 None => return Ahead::Stray,
             },
-            Front::Close => return end_at(text, t),
+            Front::Close => return Ahead::End(t),
             Front::Text => return Ahead::Stray,
         }
+    }
+}
+
+// The same, with the end tag passed over.
+pub fn ahead_from(text: &[u8], at: usize, words: bool) -> Ahead
+    ensures { result ≡ ahead_at words (length text.now) (drop at text.now) }
+{
+    match tag_ahead(text, at, words) {
+        Ahead::Child(t) => Ahead::Child(t),
+        Ahead::End(t) => end_at(text, t),
+        Ahead::Stray => Ahead::Stray,
     }
 }
 

@@ -3,17 +3,18 @@ ghost use Rattle.std.specs.Prelude.{◌≡◌, length, drop};
 ghost use Rattle.nodes.specs.Children.{kid_at, first_child, next};
 ghost use Rattle.nodes.specs.Root.{root};
 
-use super::ahead::ahead_from;
+use super::ahead::tag_ahead;
 use super::scan::{skip, tag_end};
 use markup::prolog::root_start;
 use nodes::ahead::Ahead;
 use nodes::scan::Tag;
 
 // The child behind the comments, the characters and the CDATA at `at`, if there is one.
+#[tactic(auto, using(nodes::proofs::Laws::Children::kid_of_tag))]
 pub fn kid_from(text: &[u8], at: usize) -> Option<usize>
     ensures { result ≡ kid_at (length text.now) (drop at text.now) }
 {
-    match ahead_from(text, at, true) {
+    match tag_ahead(text, at, true) {
         Ahead::Child(k) => Some(k),
         Ahead::End(_) | Ahead::Stray => None,
     }

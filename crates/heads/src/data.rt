@@ -1,5 +1,6 @@
 // CDATA.
 ghost use Rattle.std.specs.Prelude.{◌≡◌, length, drop, Some};
+ghost use Rattle.grammar.specs.Bytes.{ascii, begins};
 ghost use Rattle.grammar.specs.Read.{span};
 ghost use Rattle.grammar.specs.Parser.{data_character_at, data_at_lem};
 ghost use Rattle.steps.specs.Step.{stepped};
@@ -8,6 +9,14 @@ ghost use Rattle.steps.specs.Leaves.{data_plain, data_rest_at};
 use super::characters::character_end;
 use letters::blanks::{feed_end, mark_end, starts};
 use letters::blocks::past_quick;
+
+// `]]>` stands at `at`. The first byte is asked before: few are a bracket.
+#[tactic(auto, using(steps::proofs::Laws::Data::brackets_there))]
+fn brackets_at(text: &[u8], at: usize) -> bool
+    ensures { result ≡ begins (ascii "]]>") (drop at text.now) }
+{
+    at < text.len() && text[at] == b']' && starts(text, at, b"]]>")
+}
 
 // A character, or the end of a line.
 fn data_character_end(text: &[u8], at: usize) -> Option<usize>
@@ -63,7 +72,7 @@ fn data_rest_end(text: &[u8], at: usize) -> Option<usize>
     let mut i = at;
     while i < text.len() {
         let j = data_plain_end(text, i);
-        if starts(text, j, b"]]>") {
+        if brackets_at(text, j) {
             return mark_end(text, j, b"]]>");
         }
         i = data_character_end(text, j)?;

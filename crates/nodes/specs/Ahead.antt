@@ -28,6 +28,12 @@ unfoldable pub ending : ℕ → Read (Unit {0}) → Ahead
 ending n fail = Stray
 ending n (got u r) = End (n - length r)
 
+-- what stands ahead, where an end tag is told by where it begins: it ends there
+unfoldable pub tag_passed : List ℕ → Ahead → Ahead
+tag_passed text (Child k) = Child k
+tag_passed text (End t) = ending (length text) (past_tag (drop t text))
+tag_passed text Stray = Stray
+
 unfoldable pub ahead_then : Read (Unit {0}) → (List ℕ → Ahead) → Ahead
 ahead_then fail more = Stray
 ahead_then (got u r) more = more r

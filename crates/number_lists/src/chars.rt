@@ -20,7 +20,8 @@ fn is_odd(b: u8) -> bool
     matches!(b, b'<' | b'&' | b'\r')
 }
 
-// The next decoded byte of a text: comments and children are passed over.
+// The next decoded byte of a text: comments and children are passed over. Not inlined into `letter`, so that `letter` is small.
+#[inline(never)]
 #[tactic(auto, using(numbers::proofs::Laws::Read::seeking))]
 fn any_letter(text: &[u8], at: usize) -> Option<(u8, usize)>
     ensures { result ≡ letter_at text.now at }

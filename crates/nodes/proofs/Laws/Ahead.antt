@@ -20,7 +20,7 @@ use Rattle.nodes.proofs.Laws.Scanned.{tag_from_less}
 use Rattle.nodes.specs.ScanSteps.{tag_told}
 use Rattle.nodes.specs.Ahead.{after_gap, past_gap, ending, ahead_then, ahead_by, ahead_at, first_ahead_by}
 use Rattle.nodes.proofs.Laws.AheadSteps.{gap_short, ahead_step}
-use Rattle.nodes.specs.Ahead.{first_ahead, ahead_in_tag, gap_data}
+use Rattle.nodes.specs.Ahead.{first_ahead, ahead_in_tag, gap_data, tag_passed}
 use Rattle.nodes.proofs.Laws.AheadSteps.{gap_data_eats}
 use Rattle.nodes.proofs.Laws.AheadElements.{gap_tail}
 use Rattle.nodes.specs.declared.ahead.Ahead.{Ahead}
@@ -108,6 +108,19 @@ module _ (text : List ℕ) (words : Bool) (at i : ℕ) (go : Heading text words 
   unfolding ahead_by
   heading_child q = sym (by_look at_element (looks_start (drop t text) ef q) ∙ ap Child (place text t gap_lies.inside))
 
+  -- where an end tag is told by where it begins
+  pub leading_text : f ≡ front_is.Text → tag_passed text Stray ≡ ahead_at words (length text) (drop at text)
+  unfolding tag_passed
+  leading_text q = heading_text q
+
+  pub leading_close : f ≡ front_is.Close → tag_passed text (End t) ≡ ahead_at words (length text) (drop at text)
+  unfolding tag_passed
+  leading_close q = heading_close q refl
+
+  pub leading_child : f ≡ front_is.Start → tag_passed text (Child t) ≡ ahead_at words (length text) (drop at text)
+  unfolding tag_passed
+  leading_child q = heading_child q
+
   -- what is passed over, a comment or CDATA
   module _ (l : Look) (q : look (drop t text) ≡ l) (p : Reader (Unit {0}))
       (by : ahead_by words l (ahead_at words (length text)) (length text) (drop t text)
@@ -139,6 +152,10 @@ module _ (text : List ℕ) (words : Bool) (at i : ℕ) (go : Heading text words 
     unfolding ahead_by
     heading_stuck z = over_stuck at_comment (looks_comment (drop t text) ef q) comment_at refl comment_eats comment_tails k z
 
+    pub leading_stuck : x ≡ None → tag_passed text Stray ≡ ahead_at words (length text) (drop at text)
+    unfolding tag_passed
+    leading_stuck z = heading_stuck z
+
     pub heading_on : {j : ℕ} → x ≡ Some j → Heading text words at j
     unfolding ahead_by
     heading_on z = over_on at_comment (looks_comment (drop t text) ef q) comment_at refl comment_eats comment_tails k z
@@ -152,6 +169,10 @@ module _ (text : List ℕ) (words : Bool) (at i : ℕ) (go : Heading text words 
     unfolding ahead_by
     marked_stuck z = over_stuck at_data (looks_data (drop t text) ef q) (λ s. gap_data words (data_at_lem s)) refl (gap_data_eats words)
         (gap_data_tails words) k z
+
+    pub leading_marked : x ≡ None → tag_passed text Stray ≡ ahead_at words (length text) (drop at text)
+    unfolding tag_passed
+    leading_marked z = marked_stuck z
 
     pub marked_on : {j : ℕ} → x ≡ Some j → Heading text words at j
     unfolding ahead_by
@@ -176,6 +197,36 @@ pub ruleset heading = (
   marked_less,
   rules,
 )
+
+pub ruleset leading = (
+  heading_start,
+  leading_text,
+  leading_close,
+  leading_child,
+  leading_stuck,
+  heading_on,
+  heading_less,
+  leading_marked,
+  marked_on,
+  marked_less,
+  rules,
+)
+
+-- from where the end tag begins to where it ends
+module _ (text : List ℕ) {x y : Ahead} (k : tag_passed text x ≡ y) where
+  pub passed_child : {t : ℕ} → x ≡ Child t → Child t ≡ y
+  unfolding tag_passed
+  passed_child z = rw z at k
+
+  pub passed_close : {t : ℕ} → x ≡ End t → {r : Ahead} → r ≡ ending (length text) (past_tag (drop t text)) → r ≡ y
+  unfolding tag_passed
+  passed_close z w = w ∙ (rw z at k)
+
+  pub passed_stray : x ≡ Stray → Stray ≡ y
+  unfolding tag_passed
+  passed_stray z = rw z at k
+
+pub ruleset passing = (passed_child, passed_close, passed_stray, rules)
 
 -- from a place in a start tag
 module _ (text : List ℕ) (at : ℕ) (words : Bool) {x : Option Tag} (k : x ≡ tag_told (length text) (tag_from 0 (drop at text))) where

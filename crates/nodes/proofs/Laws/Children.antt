@@ -32,7 +32,7 @@ use Rattle.nodes.proofs.Laws.Scanned.{skip_less, less_tails}
 use Rattle.nodes.specs.ScanSteps.{tag_told}
 use Rattle.steps.specs.Prologue.{preamble_at}
 use Rattle.nodes.specs.Root.{root, root_by}
-use Rattle.nodes.specs.Ahead.{past_gap, gap_data, ending, ahead_then, ahead_by, ahead_within, ahead_at}
+use Rattle.nodes.specs.Ahead.{past_gap, gap_data, ending, tag_passed, ahead_then, ahead_by, ahead_within, ahead_at}
 use Rattle.nodes.specs.declared.ahead.Ahead.{Ahead}
 use Rattle.nodes.specs.declared.ahead.Ahead.TheVariants.{Child, End, Stray}
 use Rattle.nodes.specs.declared.scan.Tag.{Tag}
@@ -283,6 +283,25 @@ module _ (text : List ℕ) (at : ℕ) {a : Ahead} (k : a ≡ ahead_at true (leng
   kid_stray z = sym (kid_ahead (length text) (drop at text) ∙ ap child_of (sym k ∙ z))
 
 pub ruleset kid_of_ahead = (kid_there, kid_ended, kid_stray, rules)
+
+-- the same where an end tag is told by where it begins
+module _ (text : List ℕ) (at : ℕ) {a : Ahead} (k : tag_passed text a ≡ ahead_at true (length text) (drop at text)) where
+  kid_passed : {y : Ahead} → a ≡ y → child_of (tag_passed text y) ≡ kid_at (length text) (drop at text)
+  kid_passed z = ap child_of (rw z at k) ∙ sym (kid_ahead (length text) (drop at text))
+
+  pub kid_begun : {j : ℕ} → a ≡ Child j → Some j ≡ kid_at (length text) (drop at text)
+  unfolding child_of tag_passed
+  kid_begun z = kid_passed z
+
+  pub kid_closed : {j : ℕ} → a ≡ End j → None ≡ kid_at (length text) (drop at text)
+  unfolding child_of tag_passed
+  kid_closed {j} z = close_child (length text) (past_tag (drop j text)) ∙ kid_passed z
+
+  pub kid_lost : a ≡ Stray → None ≡ kid_at (length text) (drop at text)
+  unfolding child_of tag_passed
+  kid_lost z = kid_passed z
+
+pub ruleset kid_of_tag = (kid_begun, kid_closed, kid_lost, rules)
 
 module _ (text : List ℕ) (at : ℕ) {x : Option Tag} (k : x ≡ tag_told (length text) (tag_at (drop at text))) where
   pub first_none : x ≡ None → None ≡ first_child text at

@@ -1,32 +1,11 @@
-use Rattle.nodes.proofs.Laws.Ahead.{heading}
+use Rattle.nodes.proofs.Laws.Ahead.{passing}
 use Rattle.elements.proofs.ahead.ahead_from.Goals as goal
 
-pub loop-j-init : goal.loop-j-init
-loop-j-init c = search heading
+pub returns-in-Child : goal.returns-in-Child
+returns-in-Child c = search passing
 
-pub returns-in-Start : goal.returns-in-Start
-returns-in-Start c = search heading
+pub returns-in-End : goal.returns-in-End
+returns-in-End c = search passing
 
-pub loop-j-smaller-in-Some : goal.loop-j-smaller-in-Some
-loop-j-smaller-in-Some c = search heading
-
-pub loop-j-preserved-in-Some : goal.loop-j-preserved-in-Some
-loop-j-preserved-in-Some c = search heading
-
-pub returns-in-None : goal.returns-in-None
-returns-in-None c = search heading
-
-pub loop-j-smaller : goal.loop-j-smaller
-loop-j-smaller c = search heading
-
-pub loop-j-preserved : goal.loop-j-preserved
-loop-j-preserved c = search heading
-
-pub returns-in-None-gap_data_end : goal.returns-in-None-gap_data_end
-returns-in-None-gap_data_end c = search heading
-
-pub returns-in-Close : goal.returns-in-Close
-returns-in-Close c = search heading
-
-pub returns-in-Text : goal.returns-in-Text
-returns-in-Text c = search heading
+pub returns-in-Stray : goal.returns-in-Stray
+returns-in-Stray c = search passing

@@ -2,8 +2,8 @@ use borrow.Author.Rules.{rules}
 use Rattle.steps.proofs.Laws.Comments.{comment_open, comment_closes, comment_stuck, comment_more, comment_less}
 use Rattle.heads.proofs.comments.comment_rest_end.Goals as goal
 
-pub returns-then-starts : goal.returns-then-starts
-returns-then-starts c = search (comment_closes, rules)
+pub returns-then-dashes_at : goal.returns-then-dashes_at
+returns-then-dashes_at c = search (comment_closes, rules)
 
 pub loop-i-smaller : goal.loop-i-smaller
 loop-i-smaller c = search (comment_less, rules)

@@ -1,7 +1,7 @@
 use Rattle.nodes.proofs.Laws.Ahead.{Heading}
 use Prim.Native.Nat.{◌-◌}
 use lib.ListN.{length}
-use Rattle.elements.proofs.ahead.ahead_from.Given as goal
+use Rattle.elements.proofs.ahead.tag_ahead.Given as goal
 
 abbrev pub invariant-loop-j : goal.invariant-loop-j
 invariant-loop-j l = Heading l.text l.words l.at l.i
