@@ -3,7 +3,7 @@ ghost use Rattle.std.specs.Prelude.{◌≡◌, ◌+◌, ◌*◌, ◌%◌, ◌^�
 ghost use Rattle.array_keys.specs.Ahead.{KeyTold, encoding_if};
 ghost use Rattle.array_keys.specs.Gathered.{kept_bytes, BytesRead, BytesGathered};
 
-use super::fours::{key_of, top_of};
+use super::fours::{four_key, top_of};
 use super::{KeyPlace, NextKey, place};
 use base64_reader::{Group, LetterValues, any_group, quick_bits};
 
@@ -67,7 +67,7 @@ pub(crate) fn coded_next(
     }
     let rest = found.bytes - 4;
     NextKey::Key(
-        key_of(top_of(found.held, rest), little),
+        four_key(top_of(found.held, rest), little),
         place(found.at, found.held, rest),
     )
 }

@@ -35,9 +35,16 @@ fn twos_of(n: u64) -> i32
 }
 
 // The key of four bytes, as one number with the first the greatest.
-pub(crate) fn key_of(n: u64, little: bool) -> i32
+pub(crate) fn four_key(n: u64, little: bool) -> i32
     requires { n < 4294967296 }
     ensures { result ≡ key_by little n }
 {
     twos_of(if little { turned(n) } else { n })
+}
+
+// The same of any number: its last four bytes are asked.
+pub fn key_of(n: u64, little: bool) -> i32
+    ensures { result ≡ key_by little (n % 4294967296) }
+{
+    four_key(n % 4294967296, little)
 }

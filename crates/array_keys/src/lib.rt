@@ -14,6 +14,7 @@ ghost use Rattle.array_keys.specs.declared.Encoding.TheVariants as encodings;
 
 pub use base64_reader::{LetterValues, letter_values};
 use coded::coded_next;
+pub use fours::key_of;
 use keys::ListedKey;
 pub use rows::{KeyRow, fill_from};
 
@@ -68,12 +69,7 @@ fn plain_next(text: &[u8], from: KeyPlace) -> NextKey
 }
 
 // The next key from a place on. The values of letters are lent, so that they are laid out once for all keys.
-pub(crate) fn key_next(
-    text: &[u8],
-    encoding: Encoding,
-    from: KeyPlace,
-    values: &LetterValues,
-) -> NextKey
+pub fn key_next(text: &[u8], encoding: Encoding, from: KeyPlace, values: &LetterValues) -> NextKey
     ensures { KeyTold encoding text.now from result }
 {
     match encoding {

@@ -3,7 +3,7 @@ ghost use Rattle.std.specs.Prelude.{◌≡◌, ◌+◌, ◌≤◌, leb, length};
 ghost use Rattle.array_keys.specs.Ahead.{encoding_if};
 ghost use Rattle.array_keys.specs.Rows.{RowTold, Run, bare_at, FourBits, with_three, ThreeTold};
 
-use super::fours::key_of;
+use super::fours::four_key;
 use super::{Encoding, KeyPlace, NextKey, key_next, place};
 use base64_reader::{LetterValues, quick_bits};
 
@@ -27,9 +27,9 @@ fn write_three(a: u64, b: u64, c: u64, d: u64, little: bool, n: usize, keys: &mu
     requires { (FourBits a b c d) × (n + 3 ≤ length keys.old) }
     ensures { keys.new ≡ with_three little a b c d n keys.old }
 {
-    keys[n] = key_of(a * 256 + b / 65536, little);
-    keys[n + 1] = key_of(b % 65536 * 65536 + c / 256, little);
-    keys[n + 2] = key_of(c % 256 * 16777216 + d, little);
+    keys[n] = four_key(a * 256 + b / 65536, little);
+    keys[n + 1] = four_key(b % 65536 * 65536 + c / 256, little);
+    keys[n + 2] = four_key(c % 256 * 16777216 + d, little);
 }
 
 // The three keys of sixteen plain letters, where such stand at `at`.

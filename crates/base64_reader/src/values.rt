@@ -22,13 +22,15 @@ pub(crate) fn next_letter(text: &[u8], at: usize) -> Option<(u8, usize)>
 }
 
 // The value of each byte as a letter, 64 being `@` and 65 `A`: lent to whoever reads letters, since a table is laid out at each use.
-#[derive(Drop)]
+#[derive(Clone, Copy)]
 pub struct LetterValues {
-    table: [u8; 256],
-    ghost are_values: { table ≡ values_lent },
+    pub table: [u8; 256],
+    pub ghost are_values: { table ≡ values_lent },
 }
 
-pub fn letter_values() -> LetterValues {
+pub fn letter_values() -> LetterValues
+    ensures { result.table ≡ values_lent }
+{
     LetterValues {
         table: *b"@@@@@@@@@@@@@@@@@@@@@@@@@@@@@@@@@@@@@@@@@@@>@@@?456789:;<=@@@A@@@\
       \x00\x01\x02\x03\x04\x05\x06\x07\x08\x09\x0a\x0b\x0c\x0d\x0e\x0f\x10\x11\x12\x13\x14\x15\x16\x17\x18\x19\

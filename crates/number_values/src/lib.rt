@@ -24,7 +24,7 @@ use number_lists::chars::{char_at, digits};
 use numbers::{Lengths, Part, Source};
 
 // The number at `at` up to a comma or the end.
-fn part_at(text: &[u8], at: usize, source: Source, most: u64, lo: u64, hi: u64) -> Part
+fn short_part(text: &[u8], at: usize, source: Source, most: u64, lo: u64, hi: u64) -> Part
     requires { most ≤ 15 }
     ensures { Parted source text.now most lo hi at result }
 {
@@ -39,13 +39,20 @@ fn part_at(text: &[u8], at: usize, source: Source, most: u64, lo: u64, hi: u64) 
     }
 }
 
+// The same, of at most so many digits, and never more than 15.
+pub fn part_at(text: &[u8], at: usize, source: Source, most: u64, lo: u64, hi: u64) -> Part
+    ensures { Parted source text.now (min most 15) lo hi at result }
+{
+    short_part(text, at, source, most.min(15), lo, hi)
+}
+
 // The number at `at` up to the end.
 #[tactic(auto, using(numbers::proofs::Laws::Alone::standing_alone))]
 fn alone(text: &[u8], at: usize, source: Source, most: u64, lo: u64, hi: u64) -> Option<u64>
     requires { most ≤ 15 }
     ensures { result ≡ alone_in most lo hi (stream source text.now at) }
 {
-    match part_at(text, at, source, most, lo, hi) {
+    match short_part(text, at, source, most, lo, hi) {
         Part::Last(n) => Some(n),
         Part::Comma(_, _) => None,
         Part::No => None,
@@ -65,13 +72,13 @@ pub fn three_lengths(text: &[u8], at: usize, width: u64, depth: u64, height: u64
     ensures { result ≡ three_in width depth height (value_there text.now at) }
 {
     let source = Source::Value(*text.get(at)?);
-    let Part::Comma(i, second) = part_at(text, at + 1, source, 7, 1, width) else {
+    let Part::Comma(i, second) = short_part(text, at + 1, source, 7, 1, width) else {
         return None;
     };
-    let Part::Comma(j, third) = part_at(text, second, source, 7, 1, depth) else {
+    let Part::Comma(j, third) = short_part(text, second, source, 7, 1, depth) else {
         return None;
     };
-    let Part::Last(k) = part_at(text, third, source, 7, 1, height) else {
+    let Part::Last(k) = short_part(text, third, source, 7, 1, height) else {
         return None;
     };
     Some(Lengths { i: i, j: j, k: k })
@@ -94,7 +101,7 @@ fn dimension_at(text: &[u8], at: usize, quote: u8) -> Part
             return Part::Comma(u64::from(d - b'0'), at + 2);
         }
     }
-    part_at(text, at, Source::Value(quote), 1, 0, 9)
+    short_part(text, at, Source::Value(quote), 1, 0, 9)
 }
 
 // How many of the dimensions that the value at `at` lists are from `lo` to `hi`.

@@ -9,7 +9,7 @@ use Rattle.std.proofs.Math.Bool.{true, false}
 use Rattle.std.proofs.Math.Dec.{eqb}
 use borrow.Author.Tests.{eqb-true, eqb-false, ltb-true, ltb-false, lt-ltb, le-ltb, lt-leb, eq-eqb, ne_eqb, not-false}
 use Rattle.lists.specs.Lists.{any, those, two_of}
-use Rattle.lists.proofs.Laws.Booleans.{or_left, or_right, or_first, or_true, or_false, or_neither, and_right, and_halves, both_ways}
+use Rattle.lists.proofs.Laws.Booleans.{clash, or_left, or_right, or_first, or_true, or_false, or_neither, and_right, and_halves, both_ways}
 use Rattle.shortlist.specs.Runs.{kind_in, of_one_kind}
 use Rattle.shortlist.specs.Asking.{empty, no_structure, past_end, runs_on_from, bad_list, holds_index, of_kind, the_model, no_model}
 use Rattle.shortlist.specs.Asking.{told_in}
@@ -122,6 +122,16 @@ seen_bad s (m ∷ l) h = by (bad_entry s m) refl (seen_bad (with_entry s m) l)
         → folded next_of s (m ∷ l) ≡ Err SearchFault.BadList
     by true e ih = after_next s m l (Err SearchFault.BadList) (next_bad s m e)
     by false e ih = after_next s m l (Ok (with_entry s m)) (next_good s m e) ∙ ih (sym (good_here s m l e) ∙ h)
+
+-- how many records there are is not changed
+pub asked : (s t : Search) (l : List Model) → folded next_of s l ≡ Ok t → t.most ≡ s.most
+unfolding with_entry
+asked s t [] h = let q : s ≡ t = cc in sym (ap (λ x. x.most) q)
+asked s t (m ∷ l) h = by (bad_entry s m) refl (asked (with_entry s m) t l)
+  where
+    by : (b : Bool) → bad_entry s m ≡ b → (folded next_of (with_entry s m) l ≡ Ok t → t.most ≡ s.most) → t.most ≡ s.most
+    by true e ih = let z = sym (after_next s m l (Err SearchFault.BadList) (next_bad s m e)) ∙ h in clash (cc)
+    by false e ih = ih (sym (after_next s m l (Ok (with_entry s m)) (next_good s m e)) ∙ h)
 
 -- the first that passes
 pub the_cons : (p : Model → Bool) (m : Model) (l : List Model) → the_model p (m ∷ l) ≡ cond (p m) m (the_model p l)

@@ -13,8 +13,8 @@ gathered-found-requires c = search nexting
 pub top_of-requires : goal.top_of-requires
 top_of-requires c = search nexting
 
-pub key_of-requires : goal.key_of-requires
-key_of-requires c = search nexting
+pub four_key-requires : goal.four_key-requires
+four_key-requires c = search nexting
 
 pub place-requires : goal.place-requires
 place-requires c = search nexting

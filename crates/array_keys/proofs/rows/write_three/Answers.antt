@@ -10,8 +10,8 @@ overflow_mul-a c = search threes
 pub overflow_add-a : goal.overflow_add-a
 overflow_add-a c = search threes
 
-pub key_of-requires : goal.key_of-requires
-key_of-requires c = search threes
+pub four_key-requires : goal.four_key-requires
+four_key-requires c = search threes
 
 pub offset_bounds-keys-n : goal.offset_bounds-keys-n
 offset_bounds-keys-n c = search threes
@@ -25,8 +25,8 @@ overflow_mul-b c = search threes
 pub overflow_add-b : goal.overflow_add-b
 overflow_add-b c = search threes
 
-pub key_of-requires-2 : goal.key_of-requires-2
-key_of-requires-2 c = search threes
+pub four_key-requires-2 : goal.four_key-requires-2
+four_key-requires-2 c = search threes
 
 pub overflow_add-keys : goal.overflow_add-keys
 overflow_add-keys c = search threes
@@ -43,8 +43,8 @@ overflow_mul-c c = search threes
 pub overflow_add-c : goal.overflow_add-c
 overflow_add-c c = search threes
 
-pub key_of-requires-3 : goal.key_of-requires-3
-key_of-requires-3 c = search threes
+pub four_key-requires-3 : goal.four_key-requires-3
+four_key-requires-3 c = search threes
 
 pub overflow_add-n : goal.overflow_add-n
 overflow_add-n c = search threes

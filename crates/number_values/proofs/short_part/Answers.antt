@@ -1,5 +1,5 @@
 use Rattle.numbers.proofs.Laws.Parts.{finding}
-use Rattle.number_values.proofs.part_at.Goals as goal
+use Rattle.number_values.proofs.short_part.Goals as goal
 
 pub digits-run-requires : goal.digits-run-requires
 digits-run-requires c = search finding

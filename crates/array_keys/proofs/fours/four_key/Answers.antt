@@ -1,5 +1,5 @@
 use Rattle.array_keys.proofs.Laws.Gathered.{keying}
-use Rattle.array_keys.proofs.fours.key_of.Goals as goal
+use Rattle.array_keys.proofs.fours.four_key.Goals as goal
 
 pub twos_of-requires : goal.twos_of-requires
 twos_of-requires c = search keying
