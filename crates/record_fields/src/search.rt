@@ -6,14 +6,16 @@ use records::{Place, RecordFound};
 pub fn find(records: &[u64], number: u64) -> RecordFound
     ensures { Finds records.now number result }
 {
-    match records.iter().position(|r| *r == number) {
-        Some(i) => RecordFound {
-            number: 0,
-            place: Place(i),
-        },
-        None => RecordFound {
-            number: 19,
-            place: Place(0),
-        },
+    for i in 0..records.len() {
+        if records[i] == number {
+            return RecordFound {
+                number: 0,
+                place: Place(i),
+            };
+        }
+    }
+    RecordFound {
+        number: 19,
+        place: Place(0),
     }
 }

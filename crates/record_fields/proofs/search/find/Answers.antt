@@ -11,8 +11,6 @@ use Rattle.lists.proofs.Laws.Quantifiers.{any_iff}
 use Rattle.records.specs.Outcome.{ends, applies, passes, gives_first}
 use Rattle.records.specs.Find.{AbsentBelow, FirstPlace, find_refusal}
 use native.Mathlib.Omega.{arith}
-use Rattle.std.proofs.Common.{rules, tests}
-use Rattle.std.proofs.lemmas.Iterator.{IsFirst-from_position, YieldsList-from_slice}
 use Rattle.record_fields.proofs.search.find.Goals as goal
 
 -- the paper's number
@@ -30,20 +28,15 @@ module _ (rs : List ℕ) (x : ℕ) where
       some : (i : ℕ) × (i < length rs) × (eqb x (get_or rs i 0) ≡ true) → ⊥
       some (i, u, v) = n i u (sym (eqb-true x (get_or rs i 0) v))
 
-pub returns-in-Some : goal.returns-in-Some
-returns-in-Some c =
+pub returns-then-records-i : goal.returns-then-records-i
+returns-then-records-i c =
     let a = c.args in
-    let x : ℕ = a.number in
-    let first = rw c.in-Some.is at (IsFirst-from_position _ _ c.position.result (λ y. y ≡ x) (λ y. y ≡ x → ⊥) c.position.ensures.ran
-    (YieldsList-from_slice a.records.now cc) (λ y q k. search (rules, tests)) (λ y q k. search (rules, tests))) in
-    let f : FirstPlace a.records.now x c.in-Some.i =
-    record { inside = first.0; stands = first.1 0; absent = λ k h. first.2 k 0 (omega arith) h } in
-    record { numbered = accepted a.records.now x f; found = λ z. f; refused = λ ne. absurd (ne refl) }
+    let f : FirstPlace a.records.now a.number c.loop-i.i =
+    record { inside = omega arith; stands = c.if-records-i.true; absent = c.loop-i.invariant.1 } in
+    record { numbered = accepted a.records.now a.number f; found = λ z. f; refused = λ ne. absurd (ne refl) }
 
-pub returns-in-None : goal.returns-in-None
-returns-in-None c =
+pub returns : goal.returns
+returns c =
     let a = c.args in
-    let x : ℕ = a.number in
-    let none = rw c.in-None.is at (IsFirst-from_position _ _ c.position.result (λ y. y ≡ x) (λ y. y ≡ x → ⊥) c.position.ensures.ran
-    (YieldsList-from_slice a.records.now cc) (λ y q k. search (rules, tests)) (λ y q k. search (rules, tests))) in
-    record { numbered = nowhere a.records.now x (λ k h. none k 0 (omega arith) h); found = λ z. absurd (omega arith); refused = λ ne. refl }
+    let n : AbsentBelow (length a.records.now) a.records.now a.number = λ k h. c.loop-i.invariant.1 k (omega arith) in
+    record { numbered = nowhere a.records.now a.number n; found = λ z. absurd (omega arith); refused = λ ne. refl }
